@@ -12,6 +12,8 @@
     !            marks the letters that leave no word, about the cell that was edited last
     ^F           searches for the first fill in the order of the word list
     ^A           searches for any fill; pressed again, in another order
+    ^B           searches for the fill whose worst word is best, until it is known to be, or a key is pressed
+    + -          raises and lowers the least grade of the words that are used, by 10
     ^Z           undoes the last edit
     ^S           saves the log
     ^Q, ^C       saves the log and quits; quits without saving
@@ -19,6 +21,9 @@
 A capital is an entry. A small letter is the only feasible one of its cell, `!` is a cell without a feasible letter, `-` any other
 empty cell, `#` a block. `>` or `v` marks the cell under the cursor, `.` the other cells of its light, `*` a letter that leaves no
 word. Bars are not drawn.
+
+Below the grid stand the light under the cursor with its words, the letters of the cell, the lights without a word, the least grade,
+and the worst grade of the words in the grid, with its first light.
 
 The log has the commands that make this grid, with a fill as the letters that it entered: `xw edit --dict WORDS <LOG` makes the
 grid again. If the log exists at the start, the board begins with its commands.
@@ -39,6 +44,9 @@ FILLS = {"filled": "filled", "nofill": "there is no fill", "limit": "no fill was
 PROPOSALS = {"done": "every light is entered", "try": "{2}? enter places it", "dead": "no word fits here",
              "noword": "no word here leaves every light a word"}
 MOST_PLACED, MOST_TRIED = 10000, 5000
+# A slice of a search for the best fill takes 0.1 to 0.3 s in a large grid. A search ends after so many slices.
+SLICE, MOST_SLICES = 2000, 100
+STEP, BEST_GRADE = 10, 100
 # The encoding of texts in .puz files. A byte without a character is kept too.
 TEXTS = {"encoding": "cp1252", "errors": "surrogateescape"}
 
@@ -90,15 +98,18 @@ class Board:
         self.grid, self.lights, self.letters = {}, {}, {}
         self.cursor, self.direction = (1, 1), "across"
         self.edited, self.reason = (1, 1), []
-        self.open, self.message, self.seed = True, "", 0
+        self.open, self.message, self.seed, self.least = True, "", 0, 0
+        self.is_stopped = lambda: False  # whether a search is to end after this slice
         self.actions = {"tab": self.turn, "?": self.suggest, "enter": self.accept, "!": self.explain, "^F": self.fill,
-                        "^A": self.autofill, "^Z": self.undo, "^S": self.save, "^Q": self.quit}
+                        "^A": self.autofill, "^B": self.best, "+": self.raise_least, "-": self.lower_least, "^Z": self.undo,
+                        "^S": self.save, "^Q": self.quit}
 
     def begin(self):
-        """Runs the whole log on the grid that the program starts with."""
-        for command in ["size 15 15", *itertools.chain(*self.log)]:
+        """Runs the whole log on the grid and the least grade that the program starts with."""
+        for command in ["size 15 15", "least 0", *itertools.chain(*self.log)]:
             try:
                 self.session.ask(command)
+                self.note_least(command)
             except Refused as refusal:
                 self.message = f"{command}: {refusal}"
         self.session.ask("watch on")
@@ -139,9 +150,14 @@ class Board:
             self.edit("set {} {} {}".format(*self.cursor, key.upper()))
             self.step(1)
 
+    def note_least(self, command):
+        if command.startswith("least "):
+            self.least = int(command.split()[1])
+
     def edit(self, command):
         cells = self.session.ask(command)
         self.log.append([command])
+        self.note_least(command)
         self.edited = self.cursor
         self.look(cells)
 
@@ -191,10 +207,75 @@ class Board:
         answer, = self.session.ask(command)
         self.message = FILLS[answer]
         if answer == "filled":
-            before = self.grid
+            self.log.append(self.entered())
             self.look(self.session.ask("cells"))  # the watch does not tell of a fill
-            self.log.append([f"set {row} {column} {entry}" for (row, column), entry in self.grid.items()
-                             if entry != before[row, column]])
+
+    def entered(self):
+        """The commands that enter the letters that a search entered."""
+        grid = read_grid(self.session.ask("show"))
+        return [f"set {row} {column} {entry}" for (row, column), entry in grid.items() if entry != self.grid[row, column]]
+
+    def best(self):
+        """Searches in slices for the fill whose worst new word is best, until it is proved to be, or the search is stopped.
+
+        After each fill its letters are taken back, and the search goes on with the words that are better than its worst one. Each bound
+        is proved and stays true with fewer words, so the least one holds.
+        """
+        least, letters, bound = self.least, None, BEST_GRADE + 1
+        try:
+            for _ in range(MOST_SLICES):
+                answer, *lines = self.session.ask(f"best {SLICE} {self.seed}")
+                grades = {name: int(grade) for name, grade in map(str.split, lines)}
+                bound = min(bound, grades.get("bound", least))
+                if answer == "filled":
+                    letters, least = self.entered(), grades["least"] + 1
+                    self.take_back(letters)
+                self.message = self.result(letters, least, bound)
+                if bound <= least or self.is_stopped():
+                    break
+                if answer == "filled":
+                    self.session.ask(f"least {least}")
+            if letters and bound <= BEST_GRADE:
+                self.message += self.cause(bound)
+        finally:
+            self.session.ask(f"least {self.least}")
+            self.enter(letters or [])
+
+    def take_back(self, letters):
+        for command in letters:
+            _, row, column, _ = command.split()
+            self.session.ask(f"clear {row} {column}")
+
+    def enter(self, letters):
+        """Enters the letters of a fill, as one edit."""
+        for command in letters:
+            self.session.ask(command)
+        if letters:
+            self.log.append(letters)
+        self.look(self.session.ask("cells"))
+
+    def result(self, letters, least, bound):
+        """What a search for the best fill found and proved."""
+        if letters == []:
+            return PROPOSALS["done"]
+        if letters is None and bound <= least:
+            return FILLS["nofill"]
+        found = FILLS["limit"] if letters is None else f"the worst new word has grade {least - 1}"
+        if bound <= least:
+            return f"{found}, and no fill is better"
+        return found if bound > BEST_GRADE else f"{found}; each fill has a word below {bound}"
+
+    def cause(self, bound):
+        """The first light whose letters fit no word of this grade or better, if there is one."""
+        self.session.ask(f"least {bound}")
+        lights = self.session.ask("unmatched")
+        return f": {lights[0].rsplit(maxsplit=1)[0]} fits none of {bound} or better" if lights else ""
+
+    def raise_least(self):
+        self.edit(f"least {min(self.least + STEP, BEST_GRADE)}")
+
+    def lower_least(self):
+        self.edit(f"least {max(self.least - STEP, 0)}")
 
     def undo(self):
         """Runs the log again without the last edit. The commands that the board began with stay."""
@@ -251,20 +332,40 @@ class Board:
             yield "letters: " + self.session.ask("letters {} {}".format(*self.cursor))[0]
         counts = [line.rsplit(maxsplit=1) for line in self.session.ask("counts")]
         yield "without a word: " + (", ".join(name for name, count in counts if count == "0") or "none")
+        yield f"least grade: {self.least}; worst word: {self.worst()}"
         yield self.message
+
+    def worst(self):
+        """The worst grade of the words in the grid, and the first light that has it; words that are not known have no grade."""
+        graded = [line.rsplit(maxsplit=1) for line in self.session.ask("grades")]
+        known = [(int(grade), name) for name, grade in graded if grade != "-"]
+        return "{}, {}".format(*min(known, key=lambda word: word[0])) if known else "none"
 
 
 def press_in_terminal(board):
     import curses
 
+    def draw(window, lines):
+        height, width = window.getmaxyx()
+        window.erase()
+        for index, line in enumerate(lines[:height]):
+            window.addnstr(index, 0, line, width - 1)
+        window.refresh()
+
+    def is_stopped(window):
+        """Draws what a search found so far. Returns whether a key was pressed since the last slice."""
+        draw(window, [board.message, "any key stops the search"])
+        window.nodelay(True)
+        code = window.getch()
+        window.nodelay(False)
+        return code >= 0
+
     def loop(window):
         curses.raw()
+        board.is_stopped = lambda: is_stopped(window)
         key = ""
         while board.open and key != "^C":
-            height, width = window.getmaxyx()
-            window.erase()
-            for index, line in enumerate(board.screen()[:height]):
-                window.addnstr(index, 0, line, width - 1)
+            draw(window, board.screen())
             code = window.getch()
             if code < 0:
                 raise EOFError

@@ -17,6 +17,8 @@ import tempfile
 
 EXAMPLES = pathlib.Path(__file__).resolve().parent
 WORDS = "table shade stare alone atone elegy enemy"
+# ADOBE has A O E, too, so that ALONE is not needed.
+GRADED = "shade;80 stare;70 alone;60 atone;90 adobe;75 elegy;85 enemy;95"
 LATTICE = "down right # right right # up left left left "
 
 FIRST = """
@@ -29,6 +31,7 @@ FIRST = """
 1 across, feasible 2: SHADE STARE
 letters: S
 without a word: none
+least grade: 0; worst word: none
 """
 
 FILLED = """
@@ -41,6 +44,7 @@ FILLED = """
 1 across, feasible 1: SHADE
 letters: S
 without a word: none
+least grade: 0; worst word: 50, 1 across
 """
 
 DEAD = """
@@ -53,6 +57,7 @@ DEAD = """
 1 across, feasible 0:
 letters: -
 without a word: 1 across, 1 down, 2 down, 3 down, 4 across, 5 across
+least grade: 0; worst word: none
 """
 
 # what the case shows, its keys, its screen
@@ -68,6 +73,7 @@ CASES = [
 1 across, feasible 1: SHADE
 letters: A
 without a word: none
+least grade: 0; worst word: none
 """),
     ("tab turns to the light down", LATTICE + "tab S", """
 .1S  - 2a  - 3e
@@ -79,6 +85,7 @@ v -  #  -  #  -
 1 down, feasible 2: SHADE STARE
 letters: HT
 without a word: none
+least grade: 0; worst word: none
 """),
     ("the last letter is taken back", LATTICE + "S H ^Z left left", FIRST.replace("1s", "1S")),
     ("backspace steps back and empties, space empties and steps on", LATTICE + "S H backspace left space left", FIRST),
@@ -95,6 +102,7 @@ without a word: none
 3 down, feasible 0:
 letters: -
 without a word: 1 across, 1 down, 2 down, 3 down, 4 down, 5 across, 6 across, 7 down, 8 across, 9 across
+least grade: 0; worst word: none
 """),
     ("a block that was opened is closed again by undo", LATTICE + "right right right down # ^Z up left left left", FIRST),
     ("a letter at the image is in the way of a block", LATTICE + "S down down down down right right right #", """
@@ -107,6 +115,7 @@ without a word: 1 across, 1 down, 2 down, 3 down, 4 down, 5 across, 6 across, 7 
 5 across, feasible 2: ELEGY ENEMY
 letters: Y
 without a word: none
+least grade: 0; worst word: none
 a letter stands where a block would
 """),
     ("a block takes no letter, and no light goes through it", LATTICE + "down right A", """
@@ -117,6 +126,7 @@ a letter stands where a block would
  5e  -  e  -  y
 
 without a word: none
+least grade: 0; worst word: none
 a block is here
 """),
     ("the next word is for the first of the lights with the fewest words", LATTICE + "down down down right ?",
@@ -131,6 +141,7 @@ a block is here
 1 across, feasible 1: SHADE
 letters: S
 without a word: none
+least grade: 0; worst word: 50, 1 across
 """),
     ("a light without words is gone to", LATTICE + "X down down ?",
      DEAD.replace(".1X> !", ">1X. !") + "no word fits here\n"),
@@ -140,7 +151,7 @@ without a word: none
     ("a fill takes the words in their order, and none twice", LATTICE + "^F", FILLED + "filled\n"),
     ("after it every light is entered", LATTICE + "^F ?", FILLED + "every light is entered\n"),
     ("a letter of it that is emptied is the only one that is feasible there", LATTICE + "^F right space left left",
-     FILLED.replace(" H", " h")),
+     FILLED.replace(" H", " h").replace("50, 1 across", "50, 1 down")),
     ("another search finds that there is none, too", LATTICE + "X ^A", DEAD + "there is no fill\n"),
     ("and finds the only letter of a cell", LATTICE + "^F right space left left ^A", FILLED + "filled\n"),
     ("a fill is one edit", LATTICE + "^F ^Z", FIRST),
@@ -155,7 +166,73 @@ without a word: none
 1 across, feasible 0:
 letters: -
 without a word: 1 across, 1 down, 2 down, 3 down, 4 down, 5 down, 6 across, 7 across, 8 across, 9 across
+least grade: 0; worst word: none
 """),
+]
+
+# these letters leave one place to each word but ALONE and ADOBE
+FORCED = LATTICE + "S {} down down left T down down left N up up up up left left left "
+
+BEST = """
+>1S. H.2A. D.3E
+  T  #  D  #  L
+ 4A  T  O  N  E
+  R  #  B  #  G
+ 5E  N  E  M  Y
+
+1 across, feasible 1: SHADE
+letters: S
+without a word: none
+least grade: 0; worst word: 70, 1 down
+the worst new word has grade 70, and no fill is better
+"""
+
+# what the case shows, the keys that make its grid, its other keys, its screen; with the list that has grades
+GRADED_CASES = [
+    ("the best fill has ADOBE in place of ALONE; none is better, since STARE is needed", FORCED.format("H"), "^B", BEST),
+    ("the letters S T fit no word that is better than STARE", FORCED.format("T"), "^B", """
+>1S. T.2A. R.3E
+  H  #  D  #  L
+ 4A  T  O  N  E
+  D  #  B  #  G
+ 5E  N  E  M  Y
+
+1 across, feasible 1: STARE
+letters: S
+without a word: none
+least grade: 0; worst word: 70, 1 across
+the worst new word has grade 70, and no fill is better: 1 across fits none of 71 or better
+"""),
+    ("the best fill is one edit", FORCED.format("H"), "^B ^Z ^B", BEST),
+    ("after it no cell is left to fill", FORCED.format("H"), "^B ^B", BEST.replace("\nthe worst new word has grade 70, and no fill is better", "\nevery light is entered")),
+    ("there is no best fill", LATTICE, "X ^B", DEAD + "there is no fill\n"),
+    ("words below the least grade are left out, so TABLE and ALONE are", LATTICE + "S down down left ", "+ + + + + + +", """
+ 1S  - 2a  - 3e
+  -  #  -  #  -
+>4a. -. o. -. e
+  -  #  -  #  -
+ 5e  -  e  -  y
+
+4 across, feasible 2: ATONE ADOBE
+letters: A
+without a word: none
+least grade: 70; worst word: none
+"""),
+    ("the best fill has no word below it, and a fill with better ones only is not looked for", FORCED.format("H"), "+ + + + + + + ^B",
+     BEST.replace("least grade: 0", "least grade: 70")),
+    ("at 90 no word is left for the lights with an S", LATTICE, "+ + + + + + + + +", """
+>1!. !.2!. !.3!
+  !  #  !  #  !
+ 4!  !  !  !  !
+  !  #  !  #  !
+ 5!  !  !  !  !
+
+1 across, feasible 0:
+letters: -
+without a word: 1 across, 1 down, 2 down, 3 down, 4 across, 5 across
+least grade: 90; worst word: none
+"""),
+    ("the least grade is lowered again, and taken back by undo", FORCED.format("H"), "+ + + - ^Z ^Z ^Z ^Z ^B", BEST),
 ]
 
 LOG = """\
@@ -190,10 +267,10 @@ set 5 5 Y
 class Folder:
     """A folder with a word list in which the board runs."""
 
-    def __init__(self, name, program):
+    def __init__(self, name, program, words=WORDS):
         self.path, self.program = pathlib.Path(name), program
         self.words, self.log, self.keys = (self.path / file for file in ("words.txt", "board.log", "keys.txt"))
-        self.words.write_text("\n".join(WORDS.split()))
+        self.words.write_text("\n".join(words.split()))
 
     def call(self, *more):
         words = [sys.executable, EXAMPLES / "board.py", "--xw", self.program, "--dict", self.words, "--log", self.log,
@@ -242,6 +319,9 @@ def screens(program):
     for what, keys, expected in CASES:
         with tempfile.TemporaryDirectory() as name:
             yield agrees(what, Folder(name, program).screen(keys), expected)
+    for what, first, keys, expected in GRADED_CASES:
+        with tempfile.TemporaryDirectory() as name:
+            yield agrees(what, Folder(name, program, GRADED).screen(first + keys), expected)
 
 
 def saved_logs(program):

@@ -145,8 +145,10 @@ uint32_t xw_resume(struct xw *xw, const uint8_t *record, size_t record_length);
  *   XW_MEMORY         there was no memory for the answer, which is empty. The line may have been executed: send `show`
  * If there is no memory for the command itself, it is refused like any other: XW_REFUSED, and "no Memory".
  *
- * Time: an edit of a letter takes some hundredths of a millisecond. A search takes as long as its number of placements allows, and cannot be
- * stopped while it runs: send `autofill` with 1,000 to 3,000 placements, 0.1 to 0.3 s, again and again (docs/embedding.md, "Searches").
+ * Time, in a grid of 15 by 15 with 280,000 words: an edit of a letter takes some hundredths of a millisecond, and a query at most some
+ * milliseconds. But `choices` takes some 0.1 ms for each word that it lists, and `why` up to 0.2 s. A search takes as long as its number of
+ * placements allows, and cannot be stopped while it runs: send `autofill` with 1,000 to 3,000 placements, 0.1 to 0.3 s, again and again
+ * (docs/embedding.md, "Searches").
  */
 uint32_t xw_line(struct xw *xw, const uint8_t *line, size_t line_length);
 
@@ -195,12 +197,14 @@ size_t xw_answer(struct xw *xw, uint8_t *out, size_t out_length);
 /*
  * Closes the session and frees all that it holds. All bytes of the struct that matter are zero again, so it can be opened again. Without an
  * open session it does nothing, so it can be called twice.
+ *
+ * Time: it grows with the word list and the cells, and is some milliseconds for 280,000 words.
  */
 void xw_close(struct xw *xw);
 
 /*
  * Copies the version of the library into `out`, as much of it as there is room for, and returns its whole length. The text is that of
- * `xw --version`, such as "xw 0.2.0 (protocol 1)", without a line feed or a NUL. It needs no session.
+ * `xw --version`, such as "xw 0.2.0 (protocol 1)", without a line feed or a NUL. It needs no session. It takes the time of copying the text.
  *
  * This is the version of the library that is loaded. XW_LIBRARY_VERSION is that of the header.
  */

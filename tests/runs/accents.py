@@ -12,7 +12,8 @@ CLUE = b"clue 1 across na\xEFve"
 TEXTS = TITLE + b"\n" + AUTHOR + b"\n" + CLUE + b"\n"
 
 # A puzzle with these texts.
-LINES = b"size 2 1\nplace 1 across at\n" + TEXTS
+BEGIN = b"size 2 1\nplace 1 across at\n"
+LINES = BEGIN + TEXTS
 MADE = [run("edit --to made.puz", LINES, output=b"ok\n" * 5)]
 
 
@@ -31,9 +32,9 @@ def same(name, other):
     return lambda room, program: compare(name, (room / name).read_bytes(), (room / other).read_bytes())
 
 
-def told(words):
+def told(words, texts=TEXTS):
     """A session that starts in this way has the texts."""
-    return run(f"edit {words}", b"texts\n", output=TEXTS + b"ok\n")
+    return run(f"edit {words}", b"texts\n", output=texts + b"ok\n")
 
 
 def board_keeps(room, program):
@@ -46,6 +47,25 @@ def board_keeps(room, program):
     compare("log", log.read_bytes(), LINES)
 
 
+class Each:
+    """A title and a clue with each byte but NUL and those that are left out."""
+
+    ESCAPES = {0x0A: b"\\n", 0x0D: b"\\r", 0x5C: b"\\\\"}
+
+    def __init__(self, left_out=b""):
+        self.text = bytes([0x78, *(byte for byte in range(1, 256) if byte not in left_out), 0x78])
+        self.spelled = b"".join(self.ESCAPES.get(byte, bytes([byte])) for byte in self.text)
+        self.lines = BEGIN + b"text title " + self.spelled + b"\ntext clue 1 1 across " + self.spelled + b"\n"
+        self.texts = b"title " + self.spelled + b"\nclue 1 across " + self.spelled + b"\n"
+
+    def made(self, words):
+        return run(f"edit {words}", self.lines + b"texts\n", output=b"ok\n" * 4 + self.texts + b"ok\n")
+
+    def told(self, words):
+        return told(words, self.texts)
+
+
+EACH, IN_LINES = Each(), Each(b"\r\n")
 RECORD = b"text title Caf\xE9 \x92\ntext author \x81\x8D\x8F\x90\x9D\ntext copyright \ntext notes \ntext clue 1 1 across na\xEFve\n"
 CASES = {
     "a session answers with the bytes that it was sent": [run("edit", LINES + b"texts\n", output=b"ok\n" * 5 + TEXTS + b"ok\n")],
@@ -71,5 +91,28 @@ CASES = {
         run("edit --to made.puz", b"size 2 1\nplace 1 across at\ntitle Caf\xC3\xA9\nclue 1 across c\n", output=b"ok\n" * 4),
         has("made.puz", b"Caf\xC3\xA9\0"),
     ],
+    "each byte, .puz": [
+        EACH.made("--to made.puz"),
+        has("made.puz", EACH.text + b"\0"),
+        EACH.told("--from made.puz"),
+        run("convert made.puz again.puz"),
+        same("again.puz", "made.puz"),
+    ],
+    # A line of a text file has no line feed.
+    "each byte, text file": [
+        IN_LINES.made("--to made.txt"),
+        has("made.txt", b"\n\t" + IN_LINES.text + b"\n"),
+        IN_LINES.told("--from made.txt"),
+        run("convert made.txt made.puz"),
+        has("made.puz", IN_LINES.text + b"\0"),
+        run("convert made.puz again.txt"),
+        same("again.txt", "made.txt"),
+    ],
+    "each byte, save and resume": [
+        EACH.made("--save made.xw"),
+        has("made.xw", b"text title " + EACH.spelled + b"\n"),
+        EACH.told("--resume made.xw"),
+    ],
+    "each byte, journal": [EACH.made("--journal made.xw"), EACH.told("--journal made.xw")],
     "examples/board.py": [board_keeps],
 }

@@ -83,9 +83,9 @@ def shows_what_failed(room, program):
 
 
 def installs(room, program):
-    ended = call(room, "install", "/usr/local", env={"DESTDIR": str(room / "stage")}, capture_output=True)
+    ended = call(room, "install", "/usr/local", env={"DESTDIR": str(room / "a stage")}, capture_output=True)
     compare("status", ended.returncode, ACCEPTED)
-    stage = room / "stage/usr/local"
+    stage = room / "a stage/usr/local"
     names = ("bin/xw", "share/bash-completion/completions/xw", "share/doc/xw/commands.md", "share/doc/xw/formats.md", "share/man/man1/xw.1")
     compare("files", sorted(str(path.relative_to(stage)) for path in stage.rglob("*") if path.is_file()), sorted(names))
     compare("program", subprocess.run([stage / "bin/xw"], capture_output=True, check=True).stdout, b"built\n")

@@ -59,21 +59,31 @@ def python_runs(name):
     return step
 
 
+# Texts are sent to the Python of a document, and read back: an accent, and each byte that needs no escape. The last answer is copied byte by
+# byte.
+TEXTS_SENT = """
+import sys
+BYTES = bytes(byte for byte in range(0x21, 0x100) if byte != 0x5C)
+for text in ("Caf\u00e9 \u2019", BYTES.decode("cp1252", "surrogateescape")):
+    print((ask("title " + text), ask("texts")) == (("ok", []), ("ok", ["title " + text])))
+print("texts", file=xw.stdin, flush=True)
+sys.stdout.flush()
+sys.stdout.buffer.write(xw.stdout.buffer.readline())
+"""
+
+
 def python_keeps_accents(name):
-    """The Python of a document sends and reads texts in Windows-1252."""
+    """The Python of a document sends and reads texts in Windows-1252, and keeps the bytes that have no character."""
 
     def step(room, program):
         code = "\n".join(line for _, line in block(name, "import subprocess"))
         (room / "words.txt").write_bytes(WORDS)
         (room / "xw").symlink_to(program)
-        title = "title Caf\u00e9 \u2019"
-        # after the answers of the code: one that it reads, and one whose bytes are copied
-        more = f"import sys\nprint(ask({title!r}), ask('texts'))\nprint('texts', file=xw.stdin, flush=True)\n"
-        more += "sys.stdout.flush()\nsys.stdout.buffer.write(xw.stdout.buffer.readline())\n"
-        ended = subprocess.run([sys.executable, "-c", code + "\n" + more], cwd=room, env={"PATH": str(room)}, capture_output=True, timeout=SECONDS)
-        told, sent = ended.stdout.split(b"\n")[1:3]
-        compare(f"{name}: read", told.decode(), str(("ok", [])) + " " + str(("ok", [title])))
-        compare(f"{name}: sent", sent, title.encode("cp1252"))
+        asked = [sys.executable, "-c", code + TEXTS_SENT]
+        ended = subprocess.run(asked, cwd=room, env={"PATH": str(room)}, capture_output=True, timeout=SECONDS)
+        lines = ended.stdout.split(b"\n", 3)
+        compare(f"{name}: read", lines[1:3], [b"True", b"True"])
+        compare(f"{name}: sent", lines[3], b"title " + bytes(byte for byte in range(0x21, 0x100) if byte != 0x5C) + b"\n")
 
     return step
 

@@ -87,6 +87,9 @@ const CASES = {
   'each byte is one character': () => {
     same(toText(Uint8Array.from(range(0, 255))), String.fromCharCode(...range(0, 127)) + HIGH + String.fromCharCode(...range(160, 255)));
     same([...toBytes(toText(Uint8Array.from(range(0, 255))))], range(0, 255));
+    same(toText(Uint8Array.of(0x80, 0x41).buffer), '\u20acA');
+    for (const other of [undefined, 7, ['a']]) for (const call of [toText, toBytes]) throws(() => call(other), TypeError);
+    throws(() => toText('a'), TypeError);
     const long = new Uint8Array(100001).fill(0x92);
     same(toText(long), '\u2019'.repeat(100001));
   },

@@ -24,21 +24,21 @@ use Rattle.xw_answers.specs.Spelling.{command_line}
 abbrev pub known_counts : Dictionary → List ℕ
 known_counts words = map (λ count. length (row words count)) (range_with_len 0 256)
 
--- the grade as an addition of a new word names it: not at all if it is the greatest one, which a new word has anyway
+-- the grade that the addition of a new word names; none for the greatest grade, which a new word gets anyway
 abbrev pub named_grade : ℕ → Option ℕ
 named_grade grade = if grade == best_grade then None else Some grade
 
 abbrev pub add_command : Entry → Command
 add_command entry = Add entry.word (named_grade entry.grade)
 
--- strike the word and add it again with its grade, if it came back with a grade that was chosen then
+-- strike the word and add it again with its grade, if it came back with a new grade
 abbrev pub regrade_commands : Entry → List Command
 regrade_commands entry = if entry.regraded then Strike entry.word ∷ Add entry.word (Some entry.grade) ∷ [] else []
 
 abbrev pub strike_commands : Entry → List Command
 strike_commands entry = if entry.struck then Strike entry.word ∷ [] else []
 
--- for one length: add the words after the first `begun`, then give words their grades again, then strike those that are
+-- for one length: add the words after the first `begun`, then restore the grades of words, then strike those that are
 -- struck
 abbrev pub row_commands : List Entry → ℕ → List Command
 row_commands entries begun = map add_command (drop begun entries) ++ (flat_map regrade_commands entries ++ flat_map strike_commands entries)

@@ -90,7 +90,7 @@ impl AnswerLine {
         Ok(())
     }
 
-    /// Appends bytes. If they do not fit, the buffer and they are written.
+    /// Appends bytes. If they do not fit, writes the buffer and then the bytes.
     fn put<W: Sink>(&mut self, bytes: &[u8], sink: &mut W) -> Result<(), WriteFailed>
         ensures { Gathers W.transcript W.failures sink.old sink.new self.old self.new result bytes.now }
     {

@@ -63,8 +63,8 @@ fn added(is_within: bool, byte: u8) -> Option<u8>
     }
 }
 
-/// Appends the text of a spelling. The spelling must be valid for it to be its text. If the allocation fails, the text
-/// is unchanged.
+/// Appends the text of a spelling. If the spelling is invalid, what is appended is unspecified. If the allocation
+/// fails, the text is unchanged.
 pub fn append(text: &mut Vec<u8>, spelling: &[u8]) -> Result<(), AllocError>
     ensures ok { OnOk result ((piece : List ℕ) → text_spelled spelling.now ≡ Some piece → text.new.items ≡ text.old.items ++ piece) }
     ensures err { OnErr result (text.new.items ≡ text.old.items) }
@@ -80,7 +80,8 @@ pub fn append(text: &mut Vec<u8>, spelling: &[u8]) -> Result<(), AllocError>
     Ok(())
 }
 
-/// Returns the text of a spelling appended to another text. The spelling must be valid for it to be its text.
+/// Returns the text of a spelling appended to another text. If the spelling is invalid, what is appended is
+/// unspecified.
 pub fn behind(alloc: Global, front: &[u8], spelling: &[u8]) -> Result<Vec<u8>, AllocError>
     ensures { IfOk result (λ text. (piece : List ℕ) → text_spelled spelling.now ≡ Some piece → text.items ≡ front.now ++ piece) }
 {

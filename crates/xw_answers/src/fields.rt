@@ -73,13 +73,9 @@ fn write_clue_at<W: Sink>(
     requires { index < length lights.now }
     ensures { Sends W.transcript W.failures sink.old sink.new result (clue_told clues.now (slice_index_or lights.now index no_light)) }
 {
-    match lights.get(index) {
-        Some(light) => {
-            let text = clues.get(light.start, light.name.direction);
-            write_clue(sink, light.name, text)
-        }
-        None => Ok(()),
-    }
+    let light = lights.at(index);
+    let text = clues.get(light.start, light.name.direction);
+    write_clue(sink, light.name, text)
 }
 
 /// Writes the clues of the lights that have one, in light order.

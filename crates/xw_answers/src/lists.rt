@@ -50,10 +50,7 @@ fn write_light_at<W: Sink>(
     ensures { Sends W.transcript W.failures sink.old sink.new result (light_line grid.now (slice_index_or lights.now index no_light)) }
 {
     grid.well_formed();
-    match lights.get(index) {
-        Some(light) => text::write_light(sink, grid, &light),
-        None => Ok(()),
-    }
+    text::write_light(sink, grid, &lights.at(index))
 }
 
 /// Writes the line of a cell if the cell is open and circled.

@@ -78,7 +78,8 @@ fn write_add<W: Sink>(sink: &mut W, word: &[Letter], grade: Option<u8>) -> Resul
     }
 }
 
-/// Returns the grade as an `add` command of a new word names it.
+/// Returns the grade to name in the `add` command of a new word. Returns `None` for the greatest grade, which a new
+/// word gets anyway.
 fn named_grade(grade: u8) -> Option<u8>
     ensures { result ≡ named_grade_of grade }
 {
@@ -105,7 +106,7 @@ fn write_added<W: Sink>(
     Ok(())
 }
 
-/// Writes the commands that give the word at an index its grade again, if it came back with a grade that was chosen then.
+/// Writes the commands that restore the grade of the word at an index, if the word came back with a new grade.
 fn write_regraded_at<W: Sink>(
     sink: &mut W,
     bank: &Bank,
@@ -123,7 +124,7 @@ fn write_regraded_at<W: Sink>(
     write_add(sink, word, Some(bank.grade(count, index)))
 }
 
-/// Writes these commands for each word of a length.
+/// Writes the commands that restore the grades of the words of a length.
 fn write_regraded<W: Sink>(sink: &mut W, bank: &Bank, count: usize) -> Result<(), WriteFailed>
     ensures { Sends W.transcript W.failures sink.old sink.new result (command_lines (flat_map regrade_commands (words_of bank.now.words count))) }
 {

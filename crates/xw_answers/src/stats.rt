@@ -103,23 +103,12 @@ fn count_bars(grid: &Grid, lights: &Lights) -> u64
     count(grid, lights, Tally::Bar(Side::Right)) + count(grid, lights, Tally::Bar(Side::Below))
 }
 
-/// Returns the length of the light at an index.
-fn size_at(lights: &Lights, index: usize) -> u32
-    requires { index < length lights.now }
-    ensures { result ≡ (slice_index_or lights.now index no_light).size }
-{
-    match lights.get(index) {
-        Some(light) => light.size,
-        None => 0,
-    }
-}
-
 fn count_size(lights: &Lights, size: u32) -> u64
     ensures { result ≡ count_of_size lights.now size }
 {
     let mut count = 0;
     for index in 0..lights.len() {
-        if size_at(lights, index) == size {
+        if lights.at(index).size == size {
             count += 1;
         }
     }
@@ -133,7 +122,7 @@ fn total(lights: &Lights) -> u64
 {
     let mut total = 0;
     for index in 0..lights.len() {
-        total += u64::from(size_at(lights, index));
+        total += u64::from(lights.at(index).size);
     }
     total
 }

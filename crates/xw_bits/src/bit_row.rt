@@ -2,7 +2,7 @@
 //!
 //! A chunk is one word: chunk `c` holds the bits from `64 * c` to `64 * c + 63`, the lowest bit
 //! first. A block is eight consecutive chunks, as one SIMD vector.
-ghost use Rattle.std.specs.Prelude.{◌≡◌, ℕ, ◌+◌, ◌-◌, ◌*◌, ◌/◌, ◌%◌, ◌^◌, ◌<◌, ◌≤◌, Bool, false, not, ◌&&◌, [], ◌∷◌, ◌++◌, length, min, slice_index, slice_index_or, slice_set, count_by, OnOk, OnErr, IfSome, IfNone, None, true, if◌then◌else◌, nat_eq};
+ghost use Rattle.std.specs.Prelude.{◌≡◌, ℕ, ◌+◌, ◌-◌, ◌*◌, ◌/◌, ◌%◌, ◌^◌, ◌<◌, ◌≤◌, Bool, false, not, ◌&&◌, [], ◌∷◌, ◌++◌, length, min, slice_index, slice_index_or, slice_set, count_by, replicate, IfOk, OnOk, OnErr, IfSome, IfNone, None, true, if◌then◌else◌, nat_eq};
 ghost use Rattle.std.specs.Simd.Lanes.{zip2};
 ghost use Rattle.xw_bits.specs.Bits.{RowOfBits, has_bit, chunk_bit};
 ghost use Rattle.xw_bits.specs.SetBits.{set_indices};
@@ -67,6 +67,22 @@ impl BitRow {
             reserved: 0,
             counted: Some(0),
         }
+    }
+
+    /// A row of `bits` clear bits, with room for them.
+    pub fn clear_of(alloc: Global, bits: usize) -> Result<BitRow, AllocError>
+        requires { bits < 2 ^ 57 }
+        ensures bits { IfOk result (λ row. row.bits ≡ replicate bits false) }
+        ensures room { IfOk result (λ row. bits ≤ row.room) }
+    {
+        let words = bits.div_ceil(64);
+        Ok(BitRow {
+            words: vec![in alloc; 0; words]?,
+            summary: vec![in alloc; 0; words.div_ceil(64)]?,
+            len: bits,
+            reserved: words,
+            counted: Some(0),
+        })
     }
 
     /// The number of bits, set or clear.

@@ -5,8 +5,8 @@ use Rattle.xw_engine.specs.Status.{code_of}
 use Rattle.xw_engine.specs.declared.status.Status.{Status}
 use Rattle.xw_engine.specs.declared.status.Status.TheVariants.{Accepted, Closed, Open}
 
--- A call on an open session does this to its engine, and returns the code of its status. A call without an open session
--- returns Closed and does nothing.
+-- A call on an open session does this to its engine, and returns the code of its status. A call without an open
+-- session returns Closed and does nothing.
 abbrev pub Calls : (Shown → Status → Shown → Type 0) → Option Shown → ℕ → Option Shown → Type 0
 Calls Does None code after = (code ≡ code_of Closed) × (after ≡ None)
 Calls Does (Some old) code after = (status : Status) × (new : Shown) × (code ≡ code_of status) × (after ≡ Some new) × Does old status new

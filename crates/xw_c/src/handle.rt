@@ -7,8 +7,8 @@ use std::alloc::Global;
 use std::mem::replace;
 use xw_engine::{Engine, Status};
 
-/// An open session or none: `struct xw` of `include/xw.h`. If all bytes are zero, it is none. Callers begin with zero bytes
-/// and never change the fields.
+/// An open session or none: `struct xw` of `include/xw.h`. If all bytes are zero, it is none. Callers begin with zero
+/// bytes and never change the fields.
 #[repr(C)]
 #[derive(Drop)]
 pub struct Handle {

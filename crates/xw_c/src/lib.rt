@@ -26,8 +26,8 @@ fn closed() -> u32
     Status::Closed.code()
 }
 
-/// Opens a session over the words of a list. It starts on the puzzle in the bytes of a file or, if there are no bytes, on
-/// an empty grid. Each call returns the code of a status; `include/xw.h` lists those of each.
+/// Opens a session over the words of a list. It starts on the puzzle in the bytes of a file or, if there are no bytes,
+/// on an empty grid. Each call returns the code of a status; `include/xw.h` lists those of each.
 #[unsafe(no_mangle)]
 pub extern "C" fn xw_open(alloc: Global, handle: &mut Handle, list: &[u8], puzzle: &[u8]) -> u32
     ensures { Opens list.now puzzle.now handle.old.held.engine result handle.new.held.engine }
@@ -109,8 +109,8 @@ pub extern "C" fn xw_record(alloc: Global, handle: &mut Handle) -> u32
     status.code()
 }
 
-/// Copies the answer to the last call, as much of it as there is room for, and returns its length. Without an open session
-/// the answer is empty.
+/// Copies the answer to the last call, as much of it as there is room for, and returns its length. Without an open
+/// session the answer is empty.
 #[unsafe(no_mangle)]
 pub extern "C" fn xw_answer(alloc: Global, handle: &mut Handle, out: &mut [u8]) -> usize
     ensures length { result ≡ length (answer_of handle.old.held.engine) }

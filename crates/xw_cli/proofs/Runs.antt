@@ -11,10 +11,10 @@ use Rattle.xw_lines.specs.declared.outcome.Step.{Step}
 use Rattle.xw_session.specs.Opening.{empty_puzzle, opened_on}
 use Rattle.xw_session.specs.State.{State}
 use Rattle.xw_disk.specs.Disk.{Event}
-use Rattle.xw_cli.specs.declared.arguments.SessionFiles.{SessionFiles}
-use Rattle.xw_cli.specs.declared.failure.Failure.{Failure}
-use Rattle.xw_cli.specs.declared.failure.Failure.TheVariants as failures
-use Rattle.xw_cli.specs.Files.{IfNamed, IsUnread}
+use Rattle.xw_arguments.specs.declared.arguments.SessionFiles.{SessionFiles}
+use Rattle.xw_puzzle_files.specs.declared.failure.Failure.{Failure}
+use Rattle.xw_puzzle_files.specs.declared.failure.Failure.TheVariants as failures
+use Rattle.xw_puzzle_files.specs.Files.{IfNamed, IsUnread}
 use Rattle.xw_cli.specs.Performed.{HasPuzzle, HasWords, IsFound, IsOpened, IsUnopened}
 use Rattle.xw_cli.specs.Streams.{AnswersInput, streams}
 

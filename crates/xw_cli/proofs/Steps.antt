@@ -11,43 +11,19 @@ use Rattle.xw_session.specs.State.{State}
 use Rattle.xw_session.specs.declared.resuming.Stop.{Stop}
 use Rattle.xw_disk.specs.Disk.{Event, end, read, replace}
 use Rattle.xw_disk.specs.declared.disk.DiskFault.{DiskFault}
-use Rattle.xw_cli.specs.declared.arguments.Call.{Call}
-use Rattle.xw_cli.specs.declared.arguments.Call.TheVariants.{Convert}
-use Rattle.xw_cli.specs.declared.arguments.SessionFiles.{SessionFiles}
-use Rattle.xw_cli.specs.declared.failure.Failure.{Failure}
-use Rattle.xw_cli.specs.declared.failure.Failure.TheVariants.{Memory}
-use Rattle.xw_cli.specs.declared.failure.Status.{Status}
-use Rattle.xw_cli.specs.declared.failure.Status.TheVariants.{Accepted}
-use Rattle.xw_cli.specs.Told.{IsFaultOf}
+use Rattle.xw_arguments.specs.declared.arguments.Call.{Call}
+use Rattle.xw_arguments.specs.declared.arguments.Call.TheVariants.{Convert}
+use Rattle.xw_arguments.specs.declared.arguments.SessionFiles.{SessionFiles}
+use Rattle.xw_puzzle_files.specs.declared.failure.Failure.{Failure}
+use Rattle.xw_puzzle_files.specs.declared.failure.Failure.TheVariants.{Memory}
+use Rattle.xw_puzzle_files.specs.declared.failure.Status.{Status}
+use Rattle.xw_puzzle_files.specs.declared.failure.Status.TheVariants.{Accepted}
+use Rattle.xw_puzzle_files.specs.Told.{IsFaultOf}
 use Rattle.xw_cli.specs.Journals.{IsEnded, IsUnended}
-use Rattle.xw_cli.specs.Files.{Asks, IfNamed, AreBytesFor, IsMalformed, IsTextTold, IsUnread, IsUnreadFile, IsUnreplaced, IsUnwritten, IsWritten}
+use Rattle.xw_puzzle_files.specs.Files.{Asks, IfNamed, AreBytesFor, IsMalformed, IsTextTold, IsUnread, IsUnreadFile, IsUnreplaced, IsUnwritten, IsWritten}
 use Rattle.xw_cli.specs.SessionFiles.{IsLoaded, IsNotKept, IsReplayed, IsResumed, IsStopped, IsUnsaved, Replays, file_of}
 use Rattle.xw_cli.specs.Performed.{AreResumed, Closes, Ends, IsConverted, IsNotSaved, IsPerformed, IsSaved, IsSilent, IsUnconverted, IsUnresumed, IsUnsavedAs, MayKeep, Saves}
 use Rattle.xw_cli.specs.Streams.{Streams}
-
--- ---- files
-
-pub found : {T E : Type 0} (result : Result T E) (bytes items : List ℕ) (A : List ℕ → Type 0) (P Q : T → List ℕ → Type 0) → bytes ≡ items
-    → A items → IfOk result (λ r. P r bytes) → IfOk result (λ r. Q r bytes) → IfOk result (λ r. (b : List ℕ) × A b × P r b × Q r b)
-found (Ok r) bytes items A P Q is a p q = (bytes, subst A (sym is) a, p, q)
-found (Err e) bytes items A P Q is a p q = tt
-
-pub bad_puzzle : {T : Type 0} (result : Result T Failure) (name : List ℕ) (explain : Bool) (bytes items : List ℕ) (old new : List Event) → bytes ≡ items → Asks (read name (Ok items)) old new
-    → IfErr result (λ failure. (failure ≡ Memory) ⊎ IsMalformed name explain bytes failure) → IfErr result (λ failure. IsUnread name explain failure old new)
-bad_puzzle (Ok r) name explain bytes items old new is asks why = tt
-bad_puzzle (Err failure) name explain bytes items old new is asks why =
-    inr (record { bytes = bytes; asks = subst (λ (b : List ℕ). Asks (read name (Ok b)) old new) (sym is) asks; told = why })
-
-pub written : {T E : Type 0} (result : Result T E) (name : List ℕ) (puzzle : PuzzleShown) (bytes items : List ℕ) (old new : List Event) → bytes ≡ items → AreBytesFor name puzzle items
-    → OnOk result (Asks (replace name bytes (Ok tt)) old new) → OnOk result (IsWritten name puzzle old new)
-written (Ok r) name puzzle bytes items old new is are asks = record { bytes = bytes; are = subst (λ (b : List ℕ). AreBytesFor name puzzle b) (sym is) are; asks = asks }
-written (Err failure) name puzzle bytes items old new is are asks = tt
-
-pub unwritten : {T : Type 0} (result : Result T Failure) (name : List ℕ) (explain : Bool) (puzzle : PuzzleShown) (bytes items : List ℕ) (old new : List Event) → bytes ≡ items → AreBytesFor name puzzle items
-    → IfErr result (λ failure. IsUnreplaced name bytes failure old new) → IfErr result (λ failure. IsUnwritten name explain puzzle failure old new)
-unwritten (Ok r) name explain puzzle bytes items old new is are why = tt
-unwritten (Err failure) name explain puzzle bytes items old new is are why =
-    inr (record { bytes = bytes; are = subst (λ (b : List ℕ). AreBytesFor name puzzle b) (sym is) are; unreplaced = why })
 
 -- ---- the word list
 

@@ -9,21 +9,23 @@ use Rattle.xw_session.specs.State.{State}
 use Rattle.xw_session.specs.declared.resuming.Stop.{Stop}
 use Rattle.xw_disk.specs.Disk.{Event, open_, begin, end}
 use Rattle.xw_disk.specs.declared.disk.DiskFault.{DiskFault}
-use Rattle.xw_cli.specs.declared.failure.Failure.{Failure}
-use Rattle.xw_cli.specs.declared.failure.Failure.TheVariants as failures
-use Rattle.xw_cli.specs.Files.{Asks, IsLineFault}
+use Rattle.xw_puzzle_files.specs.declared.failure.Failure.{Failure}
+use Rattle.xw_puzzle_files.specs.declared.failure.Failure.TheVariants as failures
+use Rattle.xw_puzzle_files.specs.Files.{Asks, IsLineFault}
 use Rattle.xw_cli.specs.SessionFiles.{IsStopped, file_of}
-use Rattle.xw_cli.specs.Told.{IsFaultOf}
+use Rattle.xw_puzzle_files.specs.Told.{IsFaultOf}
 
--- The bytes with which a journal begins that was opened with these: the first line where there was at most a part of it; the bytes up
--- to the last line that counts; or the first line and the bytes. A file whose last line is cut begins no journal.
+-- What a journal begins with, from the bytes that its file has. If these are at most a part of the first line, it
+-- begins with the first line; if they have the first line, with the bytes up to the last line that counts; if they are
+-- whole lines, with the first line and then the bytes. A file whose last line is cut begins no journal.
 abbrev pub Begins : Form → List ℕ → List ℕ → Type 0
 Begins forms.Begun bytes begun = begun ≡ first_line
 Begins forms.Named bytes begun = (lines_of begun ≡ kept_lines bytes) × (rest : List ℕ) × (bytes ≡ begun ++ rest)
 Begins forms.Whole bytes begun = begun ≡ first_line ++ bytes
 Begins forms.Cut bytes begun = ⊥
 
--- The journal with this name was opened and begun, and the lines of its bytes that count were replayed. This number of them was refused.
+-- The journal with this name was opened and begun, and the lines of its bytes that count were replayed. This number of
+-- them was refused.
 pub record HasReplayed (name : List ℕ) (start : State) (refused : ℕ) (state : State) (old new : List Event) : Type 0 where
   pub bytes : List ℕ
   pub mid : List Event
@@ -40,8 +42,8 @@ pub record IsNotOpened (name : List ℕ) (failure : Failure) (old new : List Eve
   pub told : IsFaultOf fault name failure
   pub asks : Asks (open_ name (Err fault)) old new
 
--- The journal with this name was opened, and its file stays as it is: the replay stopped at a line, the last line is cut, or an
--- allocation failed.
+-- The journal with this name was opened, and its file stays as it is: the replay stopped at a line, the last line is
+-- cut, or an allocation failed.
 pub record IsLeft (name : List ℕ) (failure : Failure) (old new : List Event) : Type 0 where
   pub bytes : List ℕ
   pub asks : Asks (open_ name (Ok bytes)) old new
@@ -81,11 +83,13 @@ pub record IsNotEnded (name : List ℕ) (state : State) (failure : Failure) (old
   pub told : IsFaultOf fault name failure
   pub asks : Asks (end name (file_of state) (Err fault)) old new
 
--- why the journal with this name is not replaced by the record: its name no longer leads to it, an allocation failed, or the disk failed
+-- why the journal with this name is not replaced by the record: its name no longer leads to it, an allocation failed,
+-- or the disk failed
 abbrev pub IsUnended : List ℕ → State → Failure → List Event → List Event → Type 0
 IsUnended name state failure old new =
     (((fault : DiskFault) × IsFaultOf fault name failure) × (new ≡ old)) ⊎ (((failure ≡ failures.Memory) × (new ≡ old)) ⊎ IsNotEnded name state failure old new)
 
--- the journal with this name was replaced by the record of the session if none of its lines was refused, and otherwise stays
+-- the journal with this name was replaced by the record of the session if none of its lines was refused, and otherwise
+-- stays
 abbrev pub IsEnded : List ℕ → ℕ → State → List Event → List Event → Type 0
 IsEnded name refused state old new = ((refused ≡ 0) × Asks (end name (file_of state) (Ok tt)) old new) ⊎ ((0 < refused) × (new ≡ old))

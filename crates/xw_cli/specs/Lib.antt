@@ -1,14 +1,3 @@
-pub mod Apart
-pub mod Shapes
-pub mod Calls
-pub mod Checked
-pub mod Usage
-pub mod Status
-pub mod Told
-pub mod Names
-pub mod Locations
-pub mod Explained
-pub mod Files
 pub mod SessionFiles
 pub mod Journals
 pub mod Streams

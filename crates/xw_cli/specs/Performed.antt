@@ -22,23 +22,23 @@ use Rattle.xw_session.specs.Resuming.{Resumes}
 use Rattle.xw_session.specs.State.{State}
 use Rattle.xw_session.specs.declared.resuming.Stop.{Stop}
 use Rattle.xw_disk.specs.Disk.{Event, read, replace, take_lines}
-use Rattle.xw_cli.specs.declared.arguments.Call.{Call}
-use Rattle.xw_cli.specs.declared.arguments.Call.TheVariants.{Edit, Convert, Check}
-use Rattle.xw_cli.specs.declared.arguments.SessionFiles.{SessionFiles}
-use Rattle.xw_cli.specs.declared.failure.Failure.{Failure}
-use Rattle.xw_cli.specs.declared.failure.Failure.TheVariants as failures
-use Rattle.xw_cli.specs.declared.failure.Status.{Status}
-use Rattle.xw_cli.specs.declared.failure.Status.TheVariants.{Accepted}
-use Rattle.xw_cli.specs.Apart.{AreInUse, IsNotApart}
-use Rattle.xw_cli.specs.Calls.{is_explained}
-use Rattle.xw_cli.specs.Checked.{IsCheckOf}
-use Rattle.xw_cli.specs.Explained.{is_quiet, IsReported}
-use Rattle.xw_cli.specs.Files.{Asks, IfNamed, IsTextTold, IsUnread, IsUnreadFile, IsUnwritten, IsWritten}
+use Rattle.xw_arguments.specs.declared.arguments.Call.{Call}
+use Rattle.xw_arguments.specs.declared.arguments.Call.TheVariants.{Edit, Convert, Check}
+use Rattle.xw_arguments.specs.declared.arguments.SessionFiles.{SessionFiles}
+use Rattle.xw_puzzle_files.specs.declared.failure.Failure.{Failure}
+use Rattle.xw_puzzle_files.specs.declared.failure.Failure.TheVariants as failures
+use Rattle.xw_puzzle_files.specs.declared.failure.Status.{Status}
+use Rattle.xw_puzzle_files.specs.declared.failure.Status.TheVariants.{Accepted}
+use Rattle.xw_puzzle_files.specs.Apart.{AreInUse, IsNotApart}
+use Rattle.xw_arguments.specs.Calls.{is_explained}
+use Rattle.xw_puzzle_files.specs.Checked.{IsCheckOf}
+use Rattle.xw_puzzle_files.specs.Explained.{is_quiet, IsReported}
+use Rattle.xw_puzzle_files.specs.Files.{Asks, IfNamed, IsTextTold, IsUnread, IsUnreadFile, IsUnwritten, IsWritten}
 use Rattle.xw_cli.specs.Journals.{HasReplayed, IsEnded, IsUnended, IsUnreplayed}
 use Rattle.xw_cli.specs.SessionFiles.{Copies, IsLoaded, IsNotKept, IsStopped, IsUnloaded, IsUnsaved, file_of}
-use Rattle.xw_cli.specs.Status.{run_ended}
+use Rattle.xw_puzzle_files.specs.Status.{run_ended}
 use Rattle.xw_cli.specs.Streams.{AnswersInput, Streams}
-use Rattle.xw_cli.specs.Told.{IsCannotWrite, IsReplaced}
+use Rattle.xw_puzzle_files.specs.Told.{IsCannotWrite, IsReplaced}
 
 -- ---- convert
 
@@ -120,7 +120,8 @@ abbrev pub IsUnopened : SessionFiles → Bool → Failure → List Event → Lis
 IsUnopened files explain failure old new =
     HasNoWords files.dict failure old new ⊎ (IsNoPuzzle files explain failure old new ⊎ IsUnbuilt files failure old new)
 
--- The file with this name was read, the lines of its bytes that count were replayed, and this number of them was refused.
+-- The file with this name was read, the lines of its bytes that count were replayed, and this number of them was
+-- refused.
 pub record AreResumed (name : List ℕ) (start : State) (refused : ℕ) (state : State) (old new : List Event) : Type 0 where
   pub text : List ℕ
   pub asks : Asks (read name (Ok text)) old new
@@ -196,15 +197,16 @@ abbrev pub Puts : SessionFiles → Bool → PuzzleShown → Status → Result St
 Puts files explain puzzle status (Ok told) old new = (told ≡ status) × IsPut files.to_file puzzle old new
 Puts files explain puzzle status (Err failure) old new = IsNotPut files explain puzzle failure old new
 
--- What follows when the session is saved or not: the journal is ended, and then the puzzle is written. Nothing follows a failure.
+-- What follows when the session is saved or not: the journal is ended, and then the puzzle is written. Nothing follows
+-- a failure.
 pub record Closes (journal : Option (List ℕ)) (files : SessionFiles) (explain : Bool) (refused : ℕ) (state : State) (status : Status) (result : Result Status Failure) (old new : List Event) : Type 0 where
   pub ended : Result (Unit {0}) Failure
   pub mid : List Event
   pub ends : EndsJournal journal refused state ended old mid
   pub puts : MatchResult ended (λ _. Puts files explain (puzzle_of state) status result mid new) (λ failure. (result ≡ Err failure) × (new ≡ mid))
 
--- How a session ends that answered its input or failed, in this state. It is saved in any case. After a failure to answer, that failure
--- ends the call, and neither the journal nor the puzzle is written; so it is after a failure to save.
+-- How a session ends that answered its input or failed, in this state. It is saved in any case. A failure to answer
+-- then ends the call, as does a failure to save, and neither the journal nor the puzzle is written.
 pub record Ends (journal : Option (List ℕ)) (files : SessionFiles) (explain : Bool) (refused : ℕ) (state : State) (answered result : Result Status Failure) (old new : List Event) : Type 0 where
   pub saved : Result (Unit {0}) Failure
   pub mid : List Event
@@ -236,8 +238,8 @@ IsJournalEnd name before Stopped (Some causes.Memory) answered = answered ≡ Er
 IsJournalEnd name before Stopped other answered = IfErr answered (λ failure. IsCannotWrite name failure ⊎ IsReplaced name failure) × IsErr answered
 IsJournalEnd name before end cause answered = answered ≡ run_ended before end
 
--- A session answers the input from this state, with each change in the journal before its answer is finished. The journal takes these
--- lines, and the session ends.
+-- A session answers the input from this state, with each change in the journal before its answer is finished. The
+-- journal takes these lines, and the session ends.
 pub record IsJournalRun (name : List ℕ) (files : SessionFiles) (explain : Bool) (before : ℕ) (start : JournaledState) (result : Result Status Failure) (old new : Streams) : Type 0 where
   pub left : JournaledState
   pub end : RunEnd
@@ -286,15 +288,15 @@ pub record IsOpenedInVain (files : SessionFiles) (failure : Failure) (old new : 
   pub is_opened : IsOpened files opened old mid
   pub unrun : IsUnrun files.journal_file files failure mid new
 
--- why no session is run: files that must differ are one, one is the journal of another program, or a file to start with has a fault.
--- No file is replaced then.
+-- why no session is run: files that must differ are one, one is the journal of another program, or a file to start
+-- with has a fault. No file is replaced then.
 abbrev pub IsUnedited : SessionFiles → Bool → Failure → List Event → List Event → Type 0
 IsUnedited files explain failure old new =
     ((IsNotApart files failure ⊎ AreInUse files failure) × (new ≡ old)) ⊎ (IsUnopened files explain failure old new ⊎ IsOpenedInVain files failure old new)
 
 -- ---- any call
 
--- what a call does, and how it ends; the messages end so
+-- what a call does, and how it ends; `errors` is the state of the messages at the end
 abbrev pub IsPerformed : {E : Type 0} → (E → List ℕ) → (E → ℕ) → Call → Result Status Failure → Streams → Streams → E → Type 0
 IsPerformed {E} transcript failed (Edit files explain) result old new errors =
     IsEdited files explain result old new ⊎ (IfErr result (λ failure. IsUnedited files explain failure old.asked new.asked) × IsErr result × IsSilent old new)
@@ -304,7 +306,8 @@ IsPerformed {E} transcript failed (Convert from_file to_file explain) (Err failu
 IsPerformed {E} transcript failed (Check files explain) result old new errors =
     IsCheckOf transcript failed (map (λ file. file.now) files.items) explain result old.asked new.asked old.told new.told old.write_failures new.write_failures errors
 
--- The call did this, and ended so. A failure was reported, with its status. `closed` says whether the reader of the output is gone.
+-- The call did this, and ended so. A failure was reported, with its status. `closed` says whether the reader of the
+-- output is gone.
 pub record Performs {E : Type 0} (transcript : E → List ℕ) (failures : E → ℕ) (closed : Bool) (call : Call) (status : Status) (old new : Streams) (errors : E) : Type 0 where
   pub result : Result Status Failure
   pub reported : E

@@ -1,5 +1,7 @@
--- The word list of a session, and the commands that it resumes: what is read, what is told, and which failure ends it.
-use Rattle.std.specs.Prelude.{◌≡◌, ◌⊎◌, ◌-◌, ◌++◌, ℕ, List, None, Result, Ok, Err, codes, decimal, length}
+-- The word list of a session, and the commands that it resumes: what is read, what is reported, and which failure ends
+-- it.
+use Rattle.std.specs.Prelude.{◌≡◌, ◌⊎◌, ◌-◌, ◌++◌, ◌&&◌, ℕ, nat_lt, Bool, true, false, IsTrue, List, None, Result, Ok, Err, codes, count_by, decimal, length}
+use Rattle.xw_text.specs.Lines.{is_line_feed}
 use Rattle.xw_words.specs.Dictionary.{Dictionary}
 use Rattle.xw_words.specs.WordList.{IsTooLong, listed_in, results_of, words_among}
 use Rattle.xw_journal.specs.File.{first_line, kept_lines}
@@ -9,13 +11,13 @@ use Rattle.xw_session.specs.State.{State}
 use Rattle.xw_answers.specs.Text.{name_of}
 use Rattle.xw_session.specs.declared.resuming.Stop.{Stop}
 use Rattle.xw_session.specs.declared.resuming.Stop.TheVariants as stops
-use Rattle.xw_cli.specs.declared.failure.Failure.{Failure}
-use Rattle.xw_cli.specs.declared.failure.Failure.TheVariants as failures
-use Rattle.xw_cli.specs.Explained.{GoesOut}
+use Rattle.xw_puzzle_files.specs.declared.failure.Failure.{Failure}
+use Rattle.xw_puzzle_files.specs.declared.failure.Failure.TheVariants as failures
+use Rattle.xw_puzzle_files.specs.Explained.{GoesOut}
 use Rattle.xw_disk.specs.Disk.{Event, read, copy}
 use Rattle.xw_disk.specs.declared.disk.DiskFault.{DiskFault}
-use Rattle.xw_cli.specs.Files.{Asks, IsFileFault, IsLineFault, IsUnreadFile, IsUnreplaced}
-use Rattle.xw_cli.specs.Told.{IsOldFaultOf}
+use Rattle.xw_puzzle_files.specs.Files.{Asks, IsFileFault, IsLineFault, IsUnreadFile, IsUnreplaced}
+use Rattle.xw_puzzle_files.specs.Told.{IsOldFaultOf}
 
 -- ---- the word list
 
@@ -30,6 +32,27 @@ added_in bytes = length (words_among (results_of bytes))
 -- the report of a word list with these bytes
 abbrev pub loaded_line : List ℕ → List ℕ → List ℕ
 loaded_line name bytes = counts_line name (added_in bytes) (length (results_of bytes) - added_in bytes)
+
+-- whether the bytes of a word list have more than 1,000,000 line feeds
+abbrev pub is_long : List ℕ → Bool
+is_long bytes = nat_lt 1000000 (count_by is_line_feed bytes)
+
+-- the report that a word list is loading
+abbrev pub loading_line : List ℕ → List ℕ
+loading_line name = codes "xw: " ++ name ++ codes ": loading\n"
+
+-- the report is written if it is due, and otherwise nothing is
+abbrev pub TellsLoadingIf : {S : Type 0} → (S → List ℕ) → (S → ℕ) → List ℕ → Bool → S → S → Type 0
+TellsLoadingIf transcript failures name true old new = GoesOut transcript failures old new (loading_line name)
+TellsLoadingIf transcript failures name false old new = new ≡ old
+
+-- on a terminal, it is reported that a word list with these bytes is loading, if the list is long
+abbrev pub IsLoadingTold : {S : Type 0} → (S → List ℕ) → (S → ℕ) → Bool → List ℕ → List ℕ → S → S → Type 0
+IsLoadingTold transcript failures terminal name bytes old new = TellsLoadingIf transcript failures name (terminal && is_long bytes) old new
+
+-- nothing is reported, or, on a terminal, that the word list is loading
+abbrev pub MayTellLoading : {S : Type 0} → (S → List ℕ) → (S → ℕ) → Bool → List ℕ → S → S → Type 0
+MayTellLoading transcript failures terminal name old new = (new ≡ old) ⊎ (IsTrue terminal × GoesOut transcript failures old new (loading_line name))
 
 -- the bytes are a word list with too many words of some length, and the failure says so of this file
 abbrev pub IsOverfull : List ℕ → List ℕ → Failure → Type 0
@@ -53,11 +76,11 @@ IsUnloaded name failure old new = IsUnreadFile name failure old new ⊎ IsBadLis
 
 -- ---- the commands to resume
 
--- the report of lines that do not count, since they were cut
+-- the report of lines that do not count because they were cut
 abbrev pub cut_line : List ℕ → List ℕ
 cut_line name = codes "xw: " ++ name ++ codes ": a cut line was dropped\n"
 
--- the report goes out, or there is nothing to report
+-- the report is written, or there is nothing to report
 abbrev pub MayTellCut : {S : Type 0} → (S → List ℕ) → (S → ℕ) → List ℕ → S → S → Type 0
 MayTellCut transcript failures name old new = GoesOut transcript failures old new (cut_line name) ⊎ (new ≡ old)
 
@@ -73,13 +96,14 @@ IsReplayed name (Ok refused) (Err failure) = ⊥
 IsReplayed name (Err stop) (Ok count) = ⊥
 IsReplayed name (Err stop) (Err failure) = IsStopped name stop failure
 
--- These lines are replayed from the first state, up to the first that is no command: the result, the state that is left and the
--- reports of refused lines are those of the replay.
+-- These lines are replayed from the first state, up to the first that is no command: the result, the state that is
+-- left and the reports of refused lines are those of the replay.
 abbrev pub Replays : {S : Type 0} → (S → List ℕ) → (S → ℕ) → List ℕ → List (List ℕ) → State → State → Result ℕ Failure → S → S → Type 0
 Replays transcript failures name lines start left result old new =
     (ended : Result ℕ Stop) × (told : List ℕ) × Resumes name start lines ended told left × Tells transcript failures old new told × IsReplayed name ended result
 
--- The file with this name was read, and the lines of its bytes that count are replayed, after a report if others were cut.
+-- The file with this name was read, and the lines of its bytes that count are replayed, after a report if others were
+-- cut.
 pub record IsReplay {S : Type 0} (transcript : S → List ℕ) (failures : S → ℕ) (name : List ℕ) (start left : State) (result : Result ℕ Failure) (asked asked' : List Event) (old new : S) : Type 0 where
   pub text : List ℕ
   pub asks : Asks (read name (Ok text)) asked asked'

@@ -9,8 +9,8 @@ use Rattle.xw_lines.specs.declared.outcome.RunEnd.TheVariants.{Done, ReadFailed,
 use Rattle.xw_lines.specs.declared.outcome.Step.{Step}
 use Rattle.xw_disk.specs.Disk.{Event}
 
--- The disk, the input and the output of a call at some moment: what the disk was asked; what was read, whether the input was at its
--- end, and how many reads failed; what was written, and how many writes failed.
+-- The disk, the input and the output of a call at some moment: what the disk was asked; what was read, whether the
+-- input was at its end, and how many reads failed; what was written, and how many writes failed.
 pub record Streams : Type 0 where
   pub asked : List Event
   pub read : List ℕ

@@ -3,11 +3,9 @@ ghost use Rattle.std.specs.Prelude.{◌≡◌, [], ℕ, IfOk, IfErr, OnOk, Ok, c
 ghost use Rattle.xw_journal.specs.File.{form_of as form_of_bytes};
 ghost use Rattle.xw_journal.specs.declared.file.Form.TheVariants as forms;
 ghost use Rattle.xw_disk.specs.Disk.{open_, started};
-ghost use Rattle.xw_cli.specs.Files.{Asks, IsLineFault};
+ghost use Rattle.xw_puzzle_files.specs.Files.{Asks, IsLineFault};
 ghost use Rattle.xw_cli.specs.Journals.{Begins, HasReplayed, IsEnded, IsNotOpened, IsUnended, IsUnreplayed};
 
-use crate::failure::{Failure, failure_of};
-use crate::files::line_fault;
 use crate::session_files::{resume_text, tell_cut};
 use std::alloc::Global;
 use xw_disk::{Disk, Start};
@@ -15,11 +13,13 @@ use xw_feas::feasible::Feasible;
 use xw_feas::searchable::Searchable;
 use xw_journal::file::{FIRST_LINE, Form, form_of, kept, saved};
 use xw_lines::Sink;
+use xw_puzzle_files::failure::{Failure, failure_of};
+use xw_puzzle_files::files::line_fault;
 use xw_session::Session;
 
-/// Opens the journal, makes it if it is missing, replays the lines that count, and cuts it to these. Returns the journal, which begins
-/// with the first line, and the number of refused lines. If a line is no command, or if the last line is cut in a file without the
-/// first line, the file stays as it was.
+/// Opens the journal, or creates it, replays the lines that count, and cuts it to these. Returns the journal, which
+/// then has the first line, and the number of refused lines. If a line is no command, or if the last line is cut in a
+/// file without the first line, the file stays as it was.
 pub fn resume_journal<'a, D: Disk, F: Searchable, E: Sink>(
     alloc: Global,
     disk: &mut D,
@@ -74,7 +74,7 @@ fn start_of<'a, 'b>(file: &'a str, bytes: &'b [u8]) -> Result<Start<'b>, Failure
     }
 }
 
-/// Returns whether bytes are dropped where a journal with them begins.
+/// Returns whether some of these bytes are dropped when a journal begins with them.
 fn is_cut(bytes: &[u8]) -> bool {
     match form_of(bytes) {
         Form::Begun => !bytes.is_empty(),
@@ -90,8 +90,8 @@ fn cut_fault<'a>(file: &'a str, bytes: &[u8]) -> Failure<'a>
     line_fault(file, ended.saturating_add(1), "Cut")
 }
 
-/// Replaces a journal by the record of its session, unless its name no longer leads to it. `refused` is the number of its lines that
-/// were refused: if there are such lines, they are not in the record, and the journal stays as it is.
+/// Replaces a journal by the record of its session, unless its name no longer leads to it. `refused` is the number of
+/// its lines that were refused: if there are any, the record lacks them, and the journal stays as it is.
 pub fn end_journal<'a, D: Disk, F: Feasible>(
     alloc: Global,
     disk: &mut D,

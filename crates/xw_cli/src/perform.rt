@@ -9,34 +9,34 @@ ghost use Rattle.xw_session.specs.Answer.{Answers};
 ghost use Rattle.xw_session.specs.Opening.{empty_puzzle, opened_on, puzzle_of};
 ghost use Rattle.xw_files.specs.Formats.{IsRead};
 ghost use Rattle.xw_disk.specs.Disk.{read, take_lines};
-ghost use Rattle.xw_cli.specs.declared.failure.Failure.TheVariants.{Memory};
-ghost use Rattle.xw_cli.specs.declared.failure.Status.TheVariants.{Accepted};
+ghost use Rattle.xw_puzzle_files.specs.declared.failure.Failure.TheVariants.{Memory};
+ghost use Rattle.xw_puzzle_files.specs.declared.failure.Status.TheVariants.{Accepted};
 ghost use Rattle.xw_grid.specs.Puzzle.{PuzzleShown};
-ghost use Rattle.xw_cli.specs.Files.{IfNamed, IsTextTold, IsUnread, IsUnwritten, IsWritten};
+ghost use Rattle.xw_puzzle_files.specs.Files.{IfNamed, IsTextTold, IsUnread, IsUnwritten, IsWritten};
 ghost use Rattle.xw_cli.specs.Journals.{HasReplayed, IsUnreplayed};
 ghost use Rattle.xw_cli.specs.Performed.{IsJournaled, AreResumed, EndsJournal, Ends, HasNoWords, HasResumed, HasWords, IsConverted, IsEdited, IsFound, IsJournalEnd, IsJournalRun, IsNotPut, IsNotSaved, IsOpened, IsPerformed, IsPut, IsRunWith, IsSaved, IsSession, IsSessionRun, IsSilent, IsUnconverted, IsUnedited, IsUnopened, IsUnresumed, IsUnrun, MayKeep, Performs};
 ghost use Rattle.xw_cli.specs.Streams.{AnswersInput, streams};
 
-use crate::apart::{is_input, keep_apart, keep_free, keep_session_apart};
-use crate::arguments::{Call, SessionFiles};
-use crate::checking::check_files;
-use crate::explaining::report;
-use crate::failure::{Failure, Status, run_status};
-use crate::files;
 use crate::journal::{end_journal, resume_journal};
-use crate::outlet::Outlet;
 use crate::session_files::{keep_old, read_dictionary, resume_file, write_session};
 use std::alloc::Global;
+use xw_arguments::{Call, SessionFiles};
 use xw_disk::Disk;
 use xw_feas::feasible::Feasible;
 use xw_feas::searchable::Searchable;
 use xw_journal::{Cause, JournaledSession};
 use xw_lines::RunEnd;
+use xw_puzzle_files::apart::{is_input, keep_apart, keep_free, keep_session_apart};
+use xw_puzzle_files::checking::check_files;
+use xw_puzzle_files::explaining::report;
+use xw_puzzle_files::failure::{Failure, Status, run_status};
+use xw_puzzle_files::files;
+use xw_puzzle_files::outlet::{Messages, Outlet};
 use xw_session::{Session, Sink, Source, opening};
 use xw_words::Bank;
 
 /// Executes a call, reports a failure if there is one, and returns the exit status.
-pub fn perform<F: Searchable, D: Disk, I: Source, O: Outlet, E: Sink>(
+pub fn perform<F: Searchable, D: Disk, I: Source, O: Outlet, E: Messages>(
     alloc: Global,
     disk: &mut D,
     call: Call<'_>,
@@ -59,7 +59,7 @@ pub fn perform<F: Searchable, D: Disk, I: Source, O: Outlet, E: Sink>(
 }
 
 /// Executes a call.
-fn run<'a, F: Searchable, D: Disk, I: Source, O: Sink, E: Sink>(
+fn run<'a, F: Searchable, D: Disk, I: Source, O: Sink, E: Messages>(
     alloc: Global,
     disk: &mut D,
     call: Call<'a>,
@@ -87,7 +87,7 @@ fn run<'a, F: Searchable, D: Disk, I: Source, O: Sink, E: Sink>(
 }
 
 /// Runs a session: opens its files, answers the input, and writes its files.
-fn edit<'a, F: Searchable, D: Disk, I: Source, O: Sink, E: Sink>(
+fn edit<'a, F: Searchable, D: Disk, I: Source, O: Sink, E: Messages>(
     alloc: Global,
     disk: &mut D,
     named: SessionFiles<'a>,
@@ -198,8 +198,8 @@ fn begin<'a, F: Searchable, D: Disk, E: Sink>(
     Ok((journaled, before))
 }
 
-/// Answers the input while each change is journaled, and writes the files of the session. `before` is the number of lines refused
-/// earlier.
+/// Answers the input while each change is journaled, and writes the files of the session. `before` is the number of
+/// lines refused earlier.
 fn converse_journaled<'a, F: Searchable, D: Disk, I: Source, O: Sink, E: Sink>(
     alloc: Global,
     disk: &mut D,
@@ -246,7 +246,7 @@ fn journal_status<'a>(
 }
 
 /// Opens a session on the given word list and puzzle. The word list is read first.
-fn open<'a, F: Feasible, D: Disk, E: Sink>(
+fn open<'a, F: Feasible, D: Disk, E: Messages>(
     alloc: Global,
     disk: &mut D,
     named: SessionFiles<'a>,
@@ -264,7 +264,7 @@ fn open<'a, F: Feasible, D: Disk, E: Sink>(
 }
 
 /// Loads the word list if one is given, and otherwise returns an empty dictionary.
-fn dictionary<'a, D: Disk, E: Sink>(
+fn dictionary<'a, D: Disk, E: Messages>(
     alloc: Global,
     disk: &mut D,
     named: Option<&'a str>,
@@ -321,8 +321,9 @@ fn resume<'a, F: Searchable, D: Disk, E: Sink>(
     }
 }
 
-/// Ends a session that answered its input or failed: saves it in any case, and then, unless it failed, ends its journal and writes its
-/// puzzle. `refused` is the number of lines of the file to resume or of the journal that were refused.
+/// Ends a session that answered its input or failed: saves it in any case, and then, unless it failed, ends its
+/// journal and writes its puzzle. `refused` is the number of lines of the file to resume or of the journal that were
+/// refused.
 fn end_session<'a, F: Feasible, D: Disk, E: Sink>(
     alloc: Global,
     disk: &mut D,
@@ -336,7 +337,7 @@ fn end_session<'a, F: Feasible, D: Disk, E: Sink>(
 ) -> Result<Status, Failure<'a>>
     ensures { Ends (option_map (λ file. file.now) journal.entry) named.entry explain refused session.now answered.entry result (D.log disk.old) (D.log disk.new) }
 {
-    // Files that have become one are told apart before one of them is replaced.
+    // Two names may lead to one file by now. This is tested before a file is replaced.
     let apart = keep_apart(disk, named);
     let saved = write_saved(alloc, disk, session, named, refused, errors);
     let status = answered?;
@@ -363,8 +364,8 @@ fn end_journal_if<'a, F: Feasible, D: Disk>(
     }
 }
 
-/// Writes the session to a file if one is given. If this is the file that was resumed, and lines of it were refused, the old file is
-/// kept under another name.
+/// Writes the session to a file if one is given. If this is the file that was resumed, and lines of it were refused,
+/// the old file is kept under another name.
 fn write_saved<'a, F: Feasible, D: Disk, E: Sink>(
     alloc: Global,
     disk: &mut D,
@@ -396,7 +397,8 @@ fn is_resumed<'a, D: Disk>(disk: &D, resumed: Option<&str>, file: &str) -> Resul
     }
 }
 
-/// Writes the puzzle of a session that ended to a file if one is given. Files that have become one since the session began are refused.
+/// Writes the puzzle of a session that ended to a file if one is given. Refuses two files that have become one since
+/// the session began.
 fn write_puzzle<'a, F: Feasible, D: Disk>(
     alloc: Global,
     disk: &mut D,

@@ -2,15 +2,14 @@
 ghost use Rattle.std.specs.Prelude.{◌≡◌, ◌⊎◌, ℕ, List, Ok, IfOk, IfErr, OnOk, OnErr, IsOkUnless};
 ghost use Rattle.xw_words.specs.WordList.{listed_in};
 ghost use Rattle.xw_answers.specs.Text.{name_of};
-ghost use Rattle.xw_cli.specs.declared.failure.Failure.TheVariants.{Memory};
-ghost use Rattle.xw_cli.specs.Explained.{GoesOut};
-ghost use Rattle.xw_cli.specs.Files.{Asks, IsFileFault};
+ghost use Rattle.xw_puzzle_files.specs.declared.failure.Failure.TheVariants.{Memory};
+ghost use Rattle.xw_puzzle_files.specs.Explained.{GoesOut};
+ghost use Rattle.xw_puzzle_files.specs.Files.{Asks, IsFileFault};
 ghost use Rattle.xw_disk.specs.Disk.{read, replace};
-ghost use Rattle.xw_cli.specs.SessionFiles.{counts_line, cut_line, file_of, loaded_line, old_line, Copies, IsLoaded, IsNotKept, IsOverfull, IsUnloaded, IsStopped, Replays, IsResumed, IsUnsaved};
+ghost use Rattle.xw_cli.specs.SessionFiles.{counts_line, cut_line, file_of, is_long, loaded_line, loading_line, old_line, Copies, IsLoaded, IsLoadingTold, MayTellLoading, IsNotKept, IsOverfull, IsUnloaded, IsStopped, Replays, IsResumed, IsUnsaved};
 ghost use Rattle.xw_lines.specs.Cut.{lines_of};
 
-use crate::failure::{Failure, old_failure_of};
-use crate::files::{file_fault, line_fault, read_file, write_file};
+use memchr::memchr_iter;
 use std::alloc::Global;
 use xw_answers::refusal::{self, Refusal};
 use xw_disk::Disk;
@@ -18,29 +17,66 @@ use xw_feas::feasible::Feasible;
 use xw_feas::searchable::Searchable;
 use xw_journal::file::{kept, saved};
 use xw_lines::device;
+use xw_puzzle_files::failure::{Failure, old_failure_of};
+use xw_puzzle_files::files::{file_fault, line_fault, read_file, write_file};
+use xw_puzzle_files::outlet::Messages;
 use xw_session::resuming::{self, Stop};
 use xw_session::{Session, Sink};
 use xw_words::{Bank, Loaded, WordFault};
 
-/// Loads a word list into a dictionary, and prints how many lines were added and skipped.
-pub fn read_dictionary<'a, D: Disk, E: Sink>(
+/// A word list with more line feeds than this takes a while to load.
+const LONG: usize = 1_000_000;
+
+/// Loads a word list into a dictionary, and prints how many lines were added and skipped. On a terminal it first
+/// prints that a long list is loading.
+pub fn read_dictionary<'a, D: Disk, E: Messages>(
     alloc: Global,
     disk: &mut D,
     file: &'a str,
     errors: &mut E,
 ) -> Result<Bank, Failure<'a>>
-    // The dictionary is the one that the bytes list that were read, and their lines are counted in a report.
+    // The dictionary is the one that the bytes of the file list, and a report counts their lines.
     ensures ok { IfOk result (λ bank. IsLoaded file.entry.now bank.words (D.log disk.old) (D.log disk.new)) }
-    ensures told { OnOk result ((bytes : List ℕ) × Asks (read file.entry.now (Ok bytes)) (D.log disk.old) (D.log disk.new)
-        × GoesOut E.transcript E.failures errors.old errors.new (loaded_line file.entry.now bytes)) }
+    ensures told { OnOk result ((bytes : List ℕ) × (mid : E) × Asks (read file.entry.now (Ok bytes)) (D.log disk.old) (D.log disk.new)
+        × IsLoadingTold E.transcript E.failures (E.is_terminal errors.old) file.entry.now bytes errors.old mid
+        × GoesOut E.transcript E.failures mid errors.new (loaded_line file.entry.now bytes)) }
     ensures err { IfErr result (λ failure. IsUnloaded file.entry.now failure (D.log disk.old) (D.log disk.new)) }
-    ensures untold { OnErr result (errors.new ≡ errors.old) }
+    ensures untold { OnErr result (MayTellLoading E.transcript E.failures (E.is_terminal errors.old) file.entry.now errors.old errors.new) }
 {
     let bytes = read_file(disk, file)?;
-    dictionary_of(alloc, file, bytes.as_slice(), errors)
+    let list = bytes.as_slice();
+    tell_loading(alloc, file, list, errors)?;
+    dictionary_of(alloc, file, list, errors)
 }
 
-/// Loads the bytes of a word list, as `read_dictionary`.
+/// Returns whether a word list takes a while to load.
+fn is_long(bytes: &[u8]) -> bool
+    ensures { result ≡ is_long bytes.now }
+{
+    memchr_iter(b'\n', bytes).count() > LONG
+}
+
+/// Prints on a terminal that a word list is loading, if it is long. Write errors are ignored.
+fn tell_loading<'a, E: Messages>(
+    alloc: Global,
+    file: &'a str,
+    bytes: &[u8],
+    errors: &mut E,
+) -> Result<(), Failure<'a>>
+    ensures told { OnOk result (IsLoadingTold E.transcript E.failures (E.is_terminal errors.old) file.entry.now bytes.now errors.old errors.new) }
+    ensures memory { IsOkUnless result Memory }
+    ensures untold { OnErr result (errors.new ≡ errors.old) }
+{
+    let is_due = errors.is_terminal() && is_long(bytes);
+    if !is_due {
+        return Ok(());
+    }
+    let text = format!(in alloc; "xw: {file}: loading\n")?;
+    let _ = device::write_all(errors, text.as_bytes());
+    Ok(())
+}
+
+/// Loads the bytes of a word list and prints its counts, as `read_dictionary`.
 fn dictionary_of<'a, E: Sink>(
     alloc: Global,
     file: &'a str,
@@ -89,7 +125,8 @@ fn tell_loaded<'a, E: Sink>(
     Ok(())
 }
 
-/// Replays the commands of a file that count, and returns the number of refused lines. Reports on `errors` if others were cut.
+/// Replays the commands of a file that count, and returns the number of refused lines. Reports on `errors` if others
+/// were cut.
 pub fn resume_file<'a, D: Disk, F: Searchable, E: Sink>(
     alloc: Global,
     disk: &mut D,

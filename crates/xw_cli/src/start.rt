@@ -3,20 +3,21 @@ ghost use Rattle.std.specs.Prelude.{map};
 ghost use Rattle.xw_cli.specs.Called.{AnswersWords};
 ghost use Rattle.xw_cli.specs.Streams.{streams};
 
-use crate::arguments::{Usage, arguments};
-use crate::explaining::explain;
-use crate::failure::Status;
-use crate::outlet::{Outlet, Output, Watched};
 use crate::perform::perform;
 use std::alloc::Global;
 use std::cell::Cell;
 use std::convert::AsStr;
 use std::fs::OpenOptions;
-use std::io::{self, BufWriter, ErrorKind};
+use std::io::{self, BufWriter, ErrorKind, IsTerminal};
 use std::os::fd::{AsRawFd, IntoRawFd};
+use xw_arguments::Usage;
+use xw_arguments::arguments::arguments;
 use xw_disk::{Disk, SystemDisk};
 use xw_feas::searchable::Searchable;
-use xw_session::{FromRead, Sink, Source, ToWrite};
+use xw_puzzle_files::explaining::explain;
+use xw_puzzle_files::failure::Status;
+use xw_puzzle_files::outlet::{Errors, Messages, Outlet, Output, Watched};
+use xw_session::{FromRead, Source, ToWrite};
 
 /// The size of the output buffer in bytes.
 const GATHERED: usize = 65536;
@@ -24,8 +25,8 @@ const GATHERED: usize = 65536;
 /// The number of standard streams. Their descriptors are 0, 1 and 2.
 const STREAMS: i32 = 3;
 
-/// Opens each standard stream that is closed on the null device, for writing. Otherwise the next file that is opened would become
-/// that stream. A read from such a stream fails.
+/// Opens each standard stream that is closed on the null device, for writing. Otherwise the next file that is opened
+/// would become that stream. A read from such a stream fails.
 fn open_closed_streams(rt: &HostRuntime) {
     for _ in 0..STREAMS {
         match OpenOptions::new().write(true).open(rt, "/dev/null") {
@@ -41,7 +42,8 @@ fn open_closed_streams(rt: &HostRuntime) {
 /// Runs the program and returns its exit status.
 pub fn start<F: Searchable>(rt: &HostRuntime) -> Status {
     open_closed_streams(rt);
-    let mut errors = ToWrite::new(rt.stderr());
+    let is_terminal = rt.stderr().is_terminal();
+    let mut errors = Errors::new(ToWrite::new(rt.stderr()), is_terminal);
     match start_gathered::<F, _>(rt, &mut errors) {
         Ok(status) => status,
         Err(_) => {
@@ -52,9 +54,9 @@ pub fn start<F: Searchable>(rt: &HostRuntime) -> Status {
     }
 }
 
-/// Makes the call that the words of a command line describe, or explains why they are none. The first word is the program's name.
-/// Returns the exit status.
-pub fn answer_words<F: Searchable, D: Disk, S: AsStr, I: Source, O: Outlet, E: Sink>(
+/// Makes the call that the words of a command line describe, or explains why they are none. The first word is the
+/// program's name. Returns the exit status.
+pub fn answer_words<F: Searchable, D: Disk, S: AsStr, I: Source, O: Outlet, E: Messages>(
     alloc: Global,
     disk: &mut D,
     words: &[S],
@@ -73,7 +75,10 @@ pub fn answer_words<F: Searchable, D: Disk, S: AsStr, I: Source, O: Outlet, E: S
 }
 
 /// Runs the program with buffered output. Fails if an allocation for the setup fails.
-fn start_gathered<F: Searchable, E: Sink>(rt: &HostRuntime, errors: &mut E) -> io::Result<Status> {
+fn start_gathered<F: Searchable, E: Messages>(
+    rt: &HostRuntime,
+    errors: &mut E,
+) -> io::Result<Status> {
     let mark = Cell::new(false);
     let watched = Watched::new(rt.stdout(), &mark);
     let writer = BufWriter::with_capacity(rt.alloc(), GATHERED, watched)?;

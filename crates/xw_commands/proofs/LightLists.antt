@@ -4,10 +4,11 @@ use Rattle.std.specs.Iterator.{YieldsFirst, MakesProgress, item_count}
 use Rattle.std.proofs.lemmas.Bool.{cases_Bool}
 use Rattle.xw_commands.specs.declared.command.LightArg.{LightArg}
 use Rattle.xw_commands.specs.declared.command.SyntaxFault.{SyntaxFault}
-use Rattle.xw_commands.specs.Line.{trimmed_start, first_word, first_index, is_ink, is_blank, is_number, number_in}
+use Rattle.xw_commands.specs.Line.{trimmed_start, first_word, first_index, is_ink, is_blank, number_in}
+use Rattle.xw_text.specs.Digits.{is_number}
 use Rattle.xw_commands.specs.Names.{directions}
 use Rattle.xw_commands.specs.Reading.{Reading, ◌>>=◌, given, wanted, then_others, next_word, HasFault, word, number, direction, named, lookup, before_others, first_lights, lights, lights_first}
-use Rattle.xw_commands.proofs.Digits.{has_digits}
+use Rattle.xw_text.proofs.DigitLemmas.{has_digits}
 
 -- ---- how much is read
 
@@ -46,7 +47,7 @@ wanted_is {A} (Some x) rest found e =
 
 value_has_digits : (digits : List ℕ) (n : ℕ) → number_in digits ≡ Some n → 1 ≤ length digits
 value_has_digits digits n e =
-    elim (cases_Bool (is_number digits)) [
+    elim (cases_Bool (is_number 18 digits)) [
       | inl is ↦ has_digits digits is
       | inr not ↦ let bad : None ≡ Some n = rw not at e in cc
     ]

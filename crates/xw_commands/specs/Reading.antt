@@ -80,7 +80,7 @@ word_if_any rest = if is_ended rest then given None rest else (do given (Some (�
 abbrev pub number_if_any : Reading (Option ℕ)
 number_if_any rest = if is_ended rest then given None rest else (do given (Some (← number))) rest
 
--- a number, if another word follows, and else 0
+-- a number, if another word follows, and otherwise 0
 abbrev pub number_or_zero : Reading ℕ
 number_or_zero = do given (unwrap_or (← number_if_any) 0)
 

@@ -370,8 +370,8 @@ fn command_named<'a>(word: &[u8], words: &mut Words<'a>) -> Result<Command<'a>, 
 }
 
 /// Parses a line, which must not contain its LF. Returns `None` for a blank line, and for a comment, whose first word
-/// starts with `#`. Returns `LineTooLong` for more than `LINE_LIMIT` bytes, then `Command` for an unknown command, then
-/// `Arguments` for missing, malformed or extra arguments.
+/// starts with `#`. Returns `LineTooLong` for more than `LINE_LIMIT` bytes, then `Command` for an unknown command,
+/// then `Arguments` for missing, malformed or extra arguments.
 pub fn parse(line: &[u8]) -> Result<Option<Command<'_>>, SyntaxFault>
     ensures { result ≡ command_of line.now }
 {

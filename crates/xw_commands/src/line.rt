@@ -1,17 +1,13 @@
 //! Splits a line into words.
 ghost use Rattle.std.specs.Prelude.{◌≡◌, ◌+◌, ◌*◌, ◌^◌, ◌<◌, ◌≤◌, true, length, reverse, position, bytes_eq, Some, None};
 ghost use Rattle.std.specs.Option.{option_map};
-ghost use Rattle.std.specs.List.{list_all};
-ghost use Rattle.std.specs.Str.Parse.{digits_value};
 ghost use Rattle.xw_commands.specs.Names.{by_name};
 ghost use Rattle.xw_commands.specs.Reading.{lookup as lookup_in};
-ghost use Rattle.xw_commands.specs.Line.{is_blank as is_blank_byte, is_ink as is_ink_byte, is_digit as is_digit_byte, is_number as is_number_word, number_in as number_in_word, grade_in as grade_in_number, byte_in as byte_in_word, without_cr as line_without_cr, trimmed as trimmed_text, trimmed_start as text_trimmed_at_start, trimmed_end as text_trimmed_at_end, first_word as first_word_of};
+ghost use Rattle.xw_commands.specs.Line.{is_blank as is_blank_byte, is_ink as is_ink_byte, number_in as number_in_word, grade_in as grade_in_number, byte_in as byte_in_word, without_cr as line_without_cr, trimmed as trimmed_text, trimmed_start as text_trimmed_at_start, trimmed_end as text_trimmed_at_end, first_word as first_word_of};
 
 use crate::command::BEST_GRADE;
 use crate::names::Named;
-
-/// The maximum number of digits of a number.
-const MOST_DIGITS: usize = 18;
+use xw_text::digits::{MOST_DIGITS, is_number, value};
 
 /// Returns whether a byte separates words: a space or a tab.
 fn is_blank(byte: u8) -> bool
@@ -116,42 +112,11 @@ pub fn first_word(text: &[u8]) -> Option<(&[u8], &[u8])>
     }
 }
 
-fn is_digit(byte: u8) -> bool
-    ensures { result ≡ is_digit_byte byte }
-{
-    byte.is_ascii_digit()
-}
-
-fn all_digits(word: &[u8]) -> bool
-    ensures { result ≡ list_all is_digit_byte word.now }
-{
-    word.iter().all(|byte| is_digit(*byte))
-}
-
-/// Returns whether a word is 1 to 18 decimal digits.
-fn is_number(word: &[u8]) -> bool
-    ensures { result ≡ is_number_word word.now }
-{
-    (1..=MOST_DIGITS).contains(&word.len()) && all_digits(word)
-}
-
-/// Returns the value of decimal digits.
-fn value(digits: &[u8]) -> u64
-    requires { is_number_word digits.now ≡ true }
-    ensures { result ≡ digits_value 10 digits.now }
-{
-    let mut value = 0;
-    for digit in digits {
-        value = 10 * value + u64::from(*digit - b'0');
-    }
-    value
-}
-
 /// Parses a word as a number of 1 to 18 decimal digits.
 pub fn number_in(word: &[u8]) -> Option<u64>
     ensures { result ≡ number_in_word word.now }
 {
-    if is_number(word) {
+    if is_number(word, MOST_DIGITS) {
         Some(value(word))
     } else {
         None

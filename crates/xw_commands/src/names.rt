@@ -1,5 +1,5 @@
-//! The words of the commands and of the values of their arguments. Lines of commands, answers and records spell them
-//! alike.
+//! The words of the commands and of the values of their arguments. Commands, answers and records spell them in the
+//! same way.
 use crate::command::{Name, Report, TextField, TextMode, WithCell, WithLight, WithWord};
 use xw_grid::{Direction, Side, Symmetry};
 

@@ -9,7 +9,7 @@ use std::rt::Files;
 use xw_lines::history::History;
 use xw_lines::{DeviceFault, Sink, ToWrite};
 
-/// The size of the buffer in bytes. The lines of almost any command fit, and so are one write.
+/// The size of the buffer in bytes. The lines of almost any command fit, so they are written in one call.
 const GATHERED: usize = 65536;
 
 /// The name of an open file.
@@ -32,8 +32,8 @@ impl<R: Files + Drop> Place for JournalName<R> {
     }
 }
 
-/// A file that is open for appending. What was written since the last flush is taken back if a write or a flush fails. If the file is
-/// synced, a flush brings what was written to the device.
+/// A file that is open for appending. If a write or a flush fails, everything written since the last flush is removed.
+/// If `is_synced` is set, a flush also syncs the file to the device.
 #[derive(Drop)]
 pub struct Appended<F: Drop, P: Drop> {
     file: F,
@@ -62,7 +62,7 @@ impl<F: Write + OpenFile + Drop, P: Place + Drop> Appended<F, P> {
         }
     }
 
-    /// Returns whether a write failed since the name of the file no longer led to it.
+    /// Returns whether a write failed because the name no longer led to the file.
     pub fn is_lost(&self) -> bool {
         self.is_lost
     }
@@ -91,7 +91,7 @@ impl<F: Write + OpenFile + Drop, P: Place + Drop> Appended<F, P> {
         }
     }
 
-    /// Brings what was written to the system, and to the device if that is asked for.
+    /// Flushes the file, and syncs it to the device if `is_synced` is set.
     fn bring(&mut self) -> io::Result<()> {
         self.file.flush()?;
         if self.is_synced {
@@ -100,13 +100,14 @@ impl<F: Write + OpenFile + Drop, P: Place + Drop> Appended<F, P> {
         Ok(())
     }
 
-    /// Takes back what was written since the last flush, and keeps the error of the call that failed.
+    /// Removes what was written since the last flush, and keeps the error of the call that failed.
     fn fail(&mut self, error: io::Error) {
         self.take_back();
         self.error = Some(error);
     }
 
-    /// Cuts the file to its length at the last flush. If this fails too, the next start drops what is left of the line.
+    /// Cuts the file to its length at the last flush. If this fails too, the next start drops what is left of the
+    /// line.
     fn take_back(&mut self) {
         if self.written > 0 {
             let _ = self.file.set_len(self.length);

@@ -17,22 +17,23 @@ pub enum DiskFault {
     Unwritable,
     /// Another program has the file as its journal.
     InUse,
-    /// The name no longer leads to the journal that was opened by it.
+    /// The name no longer leads to the journal that was opened under it.
     Replaced,
 }
 
 /// How an open file becomes a journal.
 #[derive(Clone, Copy, Debug)]
 pub enum Start<'a> {
-    /// The file is emptied, and gets these bytes.
+    /// Empties the file and writes these bytes.
     Anew(&'a [u8]),
-    /// The file is cut to these bytes, with which it begins.
+    /// Cuts the file to these bytes, which are its first ones.
     Cut(&'a [u8]),
-    /// A new file with the first bytes before the others takes the place of the file.
+    /// Replaces the file by a new one: the first bytes, and then the others.
     Put(&'a [u8], &'a [u8]),
 }
 
-/// The files of a call. The ghost `log` is the list of what was asked and what was answered. It says nothing of what a device keeps.
+/// The files of a call. The ghost `log` lists what was asked and what was answered. It does not say what a device
+/// keeps.
 pub trait Disk {
     /// An open file that no other program can use as its journal.
     type Opened: Drop;
@@ -57,13 +58,14 @@ pub trait Disk {
     fn copy(&mut self, name: &str, like: &str, bytes: &[u8]) -> Result<(), DiskFault>
         ensures { log self.new ≡ log self.old ++ copy name.now like.now bytes.now result ∷ [] };
 
-    /// Opens a journal, or makes it, keeps other programs from using it, and returns its bytes.
+    /// Opens a journal, or creates it, and returns its bytes. No other program can then use it.
     fn open_journal(&mut self, name: &str) -> Result<(Self::Opened, Vec<u8>), DiskFault>
         ensures { MatchResult result
             (λ opened. log self.new ≡ log self.old ++ open_ name.now (Ok opened.1.items) ∷ [])
             (λ fault. log self.new ≡ log self.old ++ open_ name.now (Err fault) ∷ []) };
 
-    /// Makes an open file a journal that lines can be appended to. If `is_synced` is set, each flush brings the lines to the device.
+    /// Makes an open file a journal that lines can be appended to. If `is_synced` is set, each flush syncs the lines
+    /// to the device.
     fn begin_journal(
         &mut self,
         name: &str,
@@ -77,12 +79,12 @@ pub trait Disk {
         ensures transcript { IfOk result (λ journal. Self.Journal.transcript journal ≡ []) }
         ensures failures { IfOk result (λ journal. Self.Journal.failures journal ≡ 0) };
 
-    /// Ends the writing to a journal, which no other program can use as long as the disk lives. Lines that it has not written are
-    /// lost: their write failed.
+    /// Closes a journal for writing. No other program can use it as long as the disk lives. Unwritten lines are lost,
+    /// since their write failed.
     fn close_journal(&mut self, name: &str, journal: Self::Journal)
         ensures { log self.new ≡ log self.old ++ take_lines name.now (Self.Journal.transcript journal) ∷ [] };
 
-    /// Returns whether a write to the journal failed since its name no longer led to it.
+    /// Returns whether a write to the journal failed because its name no longer led to it.
     fn is_lost(&self) -> bool;
 
     /// Fails if the name of the journal no longer leads to it.
@@ -98,6 +100,7 @@ pub trait Disk {
     /// Returns whether no other program has a file as its journal.
     fn is_free(&self, name: &str) -> bool;
 
-    /// Returns the error of the call that failed last. After a write to the journal failed, returns the error of that write.
+    /// Returns the error of the call that failed last. After a write to the journal failed, returns the error of that
+    /// write.
     fn error(&self) -> Option<io::Error>;
 }

@@ -6,7 +6,7 @@ use std::os::unix::fs::MetadataExt;
 use std::path::PathBuf;
 use std::rt::Files;
 
-/// What tells a file from all others.
+/// What distinguishes a file from all others.
 #[derive(Clone, Copy, Debug, PartialEq, Eq)]
 pub struct Identity {
     /// The device that the file is on.
@@ -34,8 +34,8 @@ pub fn identity_of<R: Files>(rt: &R, file: &str) -> io::Result<Option<Identity>>
     }
 }
 
-/// Returns whether two names lead to one file, also if it does not exist yet. If the folder of a name cannot be found, the names are
-/// compared.
+/// Returns whether two names lead to one file, even if it does not exist yet. If the folder of a name cannot be found,
+/// compares the names themselves.
 pub fn is_one_file<R: Files + AllocGlobal>(rt: &R, one: &str, other: &str) -> io::Result<bool> {
     match (identity_of(rt, one), identity_of(rt, other)) {
         (Ok(Some(one)), Ok(Some(other))) => Ok(one == other),
@@ -44,7 +44,8 @@ pub fn is_one_file<R: Files + AllocGlobal>(rt: &R, one: &str, other: &str) -> io
     }
 }
 
-/// Returns whether two names of no file have the same last name in the same folder, with all symbolic links followed.
+/// Returns whether two names of files that do not exist have the same last component in the same folder, with all
+/// symbolic links followed.
 fn is_one_place<R: Files + AllocGlobal>(rt: &R, one: &str, other: &str) -> io::Result<bool> {
     let (one, other) = (followed(rt, one)?, followed(rt, other)?);
     if one.file_name() != other.file_name() {

@@ -5,15 +5,16 @@ use std::rt::Files;
 
 /// A file system whose open files can be locked.
 pub trait Locks: Files {
-    /// Locks an open file until it is closed. Returns `false` if another open of the file is locked in either way.
+    /// Takes an exclusive lock on an open file until it is closed. Returns `false` if another handle of the file holds
+    /// a lock of either kind.
     fn try_lock(&self, file: &Self::File) -> io::Result<bool>;
 
-    /// Locks an open file until it is closed, together with others that are locked in this way. Returns `false` if another open of
-    /// the file is locked by `try_lock`.
+    /// Takes a shared lock on an open file until it is closed. Returns `false` if another handle of the file holds an
+    /// exclusive lock.
     fn try_lock_shared(&self, file: &Self::File) -> io::Result<bool>;
 }
 
-/// The files of the system, and standard input.
+/// The files of the operating system, and standard input.
 pub trait System: Locks {
     /// Returns the rest of standard input.
     fn read_input(&self) -> io::Result<Vec<u8>>;
@@ -48,15 +49,15 @@ fn is_locked(answer: Result<(), TryLockError>) -> io::Result<bool> {
 /// What keeps another program from beginning a journal in a file.
 #[derive(Drop)]
 pub enum Held<F: Drop> {
-    /// The file is not the journal of another program, and does not become one while this is held. `None` if there is no such
-    /// file, or if it cannot be locked.
+    /// The file is not the journal of another program, and does not become one while this is held. `None` if there is
+    /// no such file, or if it cannot be locked.
     Free(Option<F>),
     /// The file is the journal of another program.
     InUse,
 }
 
-/// Keeps other programs from beginning a journal in a file, unless one has it as its journal. Anything but a regular file is not
-/// opened, since opening a pipe can block.
+/// Keeps other programs from beginning a journal in a file, unless one has it as its journal. Anything but a regular
+/// file is not opened, since opening a pipe can block.
 pub fn hold<R: Locks>(rt: &R, file: &str) -> Held<R::File> {
     match fs::metadata(rt, file) {
         Ok(found) if found.is_file() => {}

@@ -1,4 +1,4 @@
-//! Opens the file of a journal, and makes it one that lines can be appended to.
+//! Opens the file of a journal, and prepares it for appending lines.
 ghost use Rattle.std.specs.Prelude.{◌≡◌, [], IfOk};
 
 use crate::appended::{Appended, JournalName, JournalWriter};
@@ -12,7 +12,7 @@ use std::io::{self, ErrorKind, Read, Write};
 use std::os::unix::fs::PermissionsExt;
 use std::rt::Files;
 
-/// A fault of a disk, with the error behind it.
+/// A fault of a disk, with the error that caused it.
 #[derive(Clone, Copy)]
 pub struct Failed {
     pub fault: DiskFault,
@@ -30,7 +30,7 @@ pub fn unwritable(error: io::Error) -> Failed {
     with_error(DiskFault::Unwritable, error)
 }
 
-/// Returns a fault with its error, or `Memory` if that says so.
+/// Returns a fault with its error; the fault is `Memory` if the error says so.
 fn with_error(fault: DiskFault, error: io::Error) -> Failed {
     let fault = match error.kind() {
         ErrorKind::OutOfMemory => DiskFault::Memory,
@@ -42,7 +42,7 @@ fn with_error(fault: DiskFault, error: io::Error) -> Failed {
     }
 }
 
-/// Returns that a file is the journal of another program.
+/// Returns the fault of a file that is the journal of another program.
 pub fn in_use() -> Failed {
     Failed {
         fault: DiskFault::InUse,
@@ -50,7 +50,7 @@ pub fn in_use() -> Failed {
     }
 }
 
-/// Opens a journal, or makes it, and locks it. Returns the open file and its bytes.
+/// Opens a journal, or creates it, and locks it. Returns the open file and its bytes.
 pub fn open_journal<R: Locks + AllocGlobal>(
     rt: &R,
     file: &str,
@@ -67,8 +67,8 @@ pub fn open_journal<R: Locks + AllocGlobal>(
     }
 }
 
-/// Opens a file for reading and appending, or makes it. Anything but a regular file is refused and not opened, since opening a
-/// pipe can block.
+/// Opens a file for reading and appending, or creates it. Anything but a regular file is refused and not opened, since
+/// opening a pipe can block.
 fn open_regular<R: Files>(rt: &R, file: &str) -> io::Result<R::File> {
     match fs::metadata(rt, file) {
         Ok(found) if !found.is_file() => return Err(io::Error::from(ErrorKind::InvalidInput)),
@@ -82,7 +82,8 @@ fn open_regular<R: Files>(rt: &R, file: &str) -> io::Result<R::File> {
         .open(rt, file)
 }
 
-/// Locks an open file. Returns `false` if another program holds the lock, or held it and has replaced the file meanwhile.
+/// Locks an open file. Returns `false` if another program holds the lock, or held it and has replaced the file
+/// meanwhile.
 fn lock<R: Locks>(rt: &R, file: &str, opened: &R::File) -> io::Result<bool> {
     if !rt.try_lock(opened)? {
         return Ok(false);
@@ -150,7 +151,8 @@ fn cut<F: OpenFile + Drop>(opened: F, whole: usize) -> io::Result<F> {
     Ok(opened)
 }
 
-/// Replaces a file by one with other bytes before its own, which is locked before it has the name. Returns the new file.
+/// Replaces a file by a new one with the bytes `first` and `others`. The new file is locked before it gets the name.
+/// Returns the new file.
 fn put_first<R: Locks + AllocGlobal>(
     rt: &R,
     file: &str,
@@ -172,7 +174,7 @@ fn put_first<R: Locks + AllocGlobal>(
     Ok(renamed)
 }
 
-/// Returns a writer that appends to the open file of a journal. If `is_synced` is set, brings the entry of the file in its folder to
+/// Returns a writer that appends to the open file of a journal. If `is_synced` is set, syncs the folder of the file to
 /// the device.
 fn appending<R: Locks + AllocGlobal + Clone + Drop>(
     rt: &R,
@@ -185,7 +187,7 @@ fn appending<R: Locks + AllocGlobal + Clone + Drop>(
 {
     let found = opened.metadata()?;
     if is_synced {
-        // Not every file system can do this.
+        // Not every file system can sync a folder.
         let _ = sync_entry(rt, file);
     }
     let place = JournalName {

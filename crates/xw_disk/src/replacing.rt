@@ -82,7 +82,8 @@ fn put_new<R: Files + AllocGlobal>(
     put(rt, &beside, target)
 }
 
-/// Writes the bytes to a new file in the folder of the target. Returns its path and the open file, or removes it on failure.
+/// Writes the bytes to a new file in the folder of the target. Returns its path and the open file, or removes it on
+/// failure.
 pub fn new_beside<R: Files + AllocGlobal>(
     rt: &R,
     target: &PathBuf,
@@ -99,18 +100,18 @@ pub fn new_beside<R: Files + AllocGlobal>(
     }
 }
 
-/// Renames a new file to its target, and brings the new entry of the folder to the device. Removes the new file on failure.
+/// Renames a new file to its target, and syncs the folder to the device. Removes the new file on failure.
 pub fn put<R: Files + AllocGlobal>(rt: &R, beside: &PathBuf, target: &PathBuf) -> io::Result<()> {
     if let Err(error) = fs::rename(rt, beside, target) {
         let _ = fs::remove_file(rt, beside);
         return Err(error);
     }
-    // The file is replaced, and not every file system can do this.
+    // The file is already replaced, and not every file system can sync a folder.
     let _ = sync_folder(rt, target);
     Ok(())
 }
 
-/// Brings the entries of the folder of a file to the device: that of a new file would else be lost with the power.
+/// Syncs the folder of a file to the device. Otherwise a power failure could lose the entry of a new file.
 pub fn sync_folder<R: Files + AllocGlobal>(rt: &R, target: &PathBuf) -> io::Result<()> {
     let folder = target.with_file_name(rt.alloc(), ".")?;
     let opened = OpenOptions::new().read(true).open(rt, &folder)?;
@@ -131,8 +132,8 @@ fn fill<F: Write + OpenFile + Drop>(
     }
 }
 
-/// Creates a file next to the target, under a name that is not in use, for appending. It never has more permissions than the file
-/// that it replaces.
+/// Creates a file next to the target, under a name that is not in use, for appending. It never has more permissions
+/// than the file that it replaces.
 fn new_file<R: Files + AllocGlobal>(
     rt: &R,
     target: &PathBuf,

@@ -1,4 +1,4 @@
-//! The disk of the system.
+//! The disk of the operating system.
 ghost use Rattle.std.specs.Prelude.{◌≡◌, []};
 
 use crate::appended::{Appended, JournalName, JournalWriter, Place};
@@ -16,11 +16,11 @@ use std::io::{self, ErrorKind};
 /// The name that stands for standard input.
 const INPUT: &str = "-";
 
-/// The files of the system as a `Disk`.
+/// The files of the operating system as a `Disk`.
 #[derive(Drop)]
 pub struct SystemDisk<'a, R: System + Drop> {
     rt: &'a R,
-    /// The journal that takes no more lines, which is still locked.
+    /// The journal after `close_journal`. It is still locked.
     closed: Option<Appended<R::File, JournalName<R>>>,
     /// The error of the call that failed last.
     error: Option<io::Error>,

@@ -27,7 +27,8 @@ pub record Shown : Type 0 where
 
 -- ---- opening
 
--- the puzzle that a session begins with: the empty one if there are no bytes, and otherwise the one that they are read as
+-- the puzzle that a session begins with: the empty one if there are no bytes, and otherwise the one that they are read
+-- as
 abbrev pub HasPuzzle : List ℕ → PuzzleShown → Type 0
 HasPuzzle [] puzzle = puzzle ≡ empty_puzzle
 HasPuzzle (byte ∷ bytes) puzzle = (kind : Kind) × IsRead kind (byte ∷ bytes) puzzle
@@ -45,7 +46,8 @@ pub record IsMisread (bytes : List ℕ) (fault : ReadFault) : Type 0 where
   pub format : HasFormat bytes kind
   pub first : IsFirstFault kind bytes fault
 
--- why a session does not begin on the bytes: an allocation failed, or this is the first fault of the bytes, if there are any
+-- why a session does not begin on the bytes: an allocation failed, or this is the first fault of the bytes, if there
+-- are any
 abbrev pub IsUnread : List ℕ → ReadFault → Type 0
 IsUnread [] fault = fault ≡ reads.Memory
 IsUnread (byte ∷ bytes) fault = (fault ≡ reads.Memory) ⊎ IsMisread (byte ∷ bytes) fault
@@ -58,8 +60,8 @@ IsUnopened list bytes status = status ≡ Memory
 
 -- ---- lines
 
--- The line is answered by the session, and the status is its outcome. If no allocation is left for the answer, there is
--- none, and the effect of the line remains.
+-- The line is answered by the session, and the status is its outcome. If no allocation is left for the answer, there
+-- is none, and the effect of the line remains.
 abbrev pub IsLineDone : List ℕ → Shown → Status → Shown → Type 0
 IsLineDone line old Memory new = MayBeDone old.state line new.state × (new.answer ≡ [])
 IsLineDone line old status new = (step : Step) × (status ≡ step_status step) × Answers old.state line step new.answer new.state
@@ -90,7 +92,8 @@ record_name = codes "record"
 abbrev pub replay_status : ℕ → Status
 replay_status refused = if refused == 0 then Accepted else Refused
 
--- the status of a replay, and its answer: the reports of refused lines, and a last one for a line that is not a command
+-- the status of a replay, and its answer: the reports of refused lines, and a last one for a line that is not a
+-- command
 abbrev pub IsReplayAnswer : Result ℕ Stop → List ℕ → Status → List ℕ → Type 0
 IsReplayAnswer (Ok refused) told status answer = (status ≡ replay_status refused) × (answer ≡ told)
 IsReplayAnswer (Err (stops.NoCommand number refusal)) told status answer = (status ≡ NoCommand) × (answer ≡ told ++ refused_line record_name number refusal)

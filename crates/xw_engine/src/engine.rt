@@ -99,8 +99,8 @@ fn stop_line(alloc: Global, number: usize, refusal: Refusal) -> Result<String, A
     Ok(format!(in alloc; "xw: record: line {number}: {name}\n")?)
 }
 
-/// The status and the answer of a replay. `told` has the reports of refused lines. Returns `None` if an allocation fails
-/// or failed during the replay.
+/// The status and the answer of a replay. `told` has the reports of refused lines. Returns `None` if an allocation
+/// fails or failed during the replay.
 fn report(alloc: Global, ended: Result<usize, Stop>, told: VecSink) -> Option<(Status, Vec<u8>)>
     ensures { IfSome result (λ told_so. (told.failures ≡ 0) × IsReplayAnswer ended told.bytes.items told_so.0 told_so.1.items) }
 {
@@ -120,10 +120,10 @@ fn report(alloc: Global, ended: Result<usize, Stop>, told: VecSink) -> Option<(S
 }
 
 impl Engine {
-    /// Opens a session over the words of a list. It starts on the puzzle in the bytes of a file or, if there are no bytes, on
-    /// an empty grid of 15 rows and columns. Returns `Full` if the list has more than 1,048,576 words of one length, and
-    /// `Unread` with the first fault of bytes that are not a puzzle. Returns `Memory`, or `Unread` with the fault `Memory`, if
-    /// an allocation fails.
+    /// Opens a session over the words of a list. It starts on the puzzle in the bytes of a file or, if there are no
+    /// bytes, on an empty grid of 15 rows and columns. Returns `Full` if the list has more than 1,048,576 words of one
+    /// length, and `Unread` with the first fault of bytes that are not a puzzle. Returns `Memory`, or `Unread` with
+    /// the fault `Memory`, if an allocation fails.
     pub fn open(alloc: Global, list: &[u8], puzzle: &[u8]) -> Result<Engine, Status>
         ensures ok { IfOk result (λ engine. IsOpened list.now puzzle.now engine) }
         ensures err { IfErr result (λ status. IsUnopened list.now puzzle.now status) }
@@ -137,8 +137,9 @@ impl Engine {
         })
     }
 
-    /// Answers a line, given without its line feed. The answer is what `xw edit` prints. Returns `Accepted`, `Refused` or
-    /// `Silent`. Returns `Memory` if there is no memory for the answer, which is then empty; the line may have been executed.
+    /// Answers a line, given without its line feed. The answer is what `xw edit` prints. Returns `Accepted`, `Refused`
+    /// or `Silent`. Returns `Memory` if there is no memory for the answer, which is then empty; the line may have been
+    /// executed.
     pub fn line(&mut self, line: &[u8]) -> Status
         ensures { IsLineDone line.now self.old result self.new }
     {
@@ -155,10 +156,10 @@ impl Engine {
         }
     }
 
-    /// Replays the lines of a record, up to the first that is not a command. The answer has a line `xw: record: line N: NAME`
-    /// for each line that is refused, and for the one that is not a command. Returns `Accepted`, `Refused` if lines were
-    /// refused, or `NoCommand`. Returns `Memory` if an allocation fails; the answer is then empty, and some lines may have
-    /// been executed.
+    /// Replays the lines of a record, up to the first that is not a command. The answer has a line `xw: record: line
+    /// N: NAME` for each line that is refused, and for the one that is not a command. Returns `Accepted`, `Refused` if
+    /// lines were refused, or `NoCommand`. Returns `Memory` if an allocation fails; the answer is then empty, and some
+    /// lines may have been executed.
     pub fn resume(&mut self, record: &[u8]) -> Status
         ensures { IsResumed record.now self.old result self.new }
     {
@@ -206,8 +207,8 @@ impl Engine {
         }
     }
 
-    /// Makes the record of the session the answer. Returns `Accepted`, or `Memory` if an allocation fails. The answer is then
-    /// empty.
+    /// Makes the record of the session the answer. Returns `Accepted`, or `Memory` if an allocation fails. The answer
+    /// is then empty.
     pub fn record(&mut self) -> Status
         ensures { IsRecordMade self.old result self.new }
     {

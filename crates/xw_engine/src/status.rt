@@ -5,7 +5,7 @@ ghost use Rattle.xw_engine.specs.Status.{code_of, read_code, write_code};
 use xw_files::{ReadFault, WriteFault};
 use xw_lines::Step;
 
-/// How a call ends. Every way has a code, which programs in other languages see.
+/// How a call ends. Each status has a code, which programs in other languages see.
 #[derive(Clone, Copy, Debug, PartialEq, Eq)]
 pub enum Status {
     /// The call was done. A line was accepted.

@@ -54,7 +54,7 @@ abbrev pub next_answer : State → Answers → LightName → ℕ → Result (Opt
 next_answer state answers name from =
     on_light (λ light. next_found (board_of state.grid) state.words answers light from) (index_named (lights_of state.grid) name)
 
--- the refusal of a query about a cell outside the grid or a block; else the answer
+-- the refusal of a query about a cell outside the grid or a block; otherwise the answer
 abbrev pub cell_judged : {X : Type 0} → Grid → Cell → X → Result X Refusal
 cell_judged grid cell good =
     if not (is_inside grid cell) then Err (refusals.Grid grids.OutOfGrid)

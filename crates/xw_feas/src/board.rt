@@ -109,10 +109,7 @@ impl<'a> Board<'a> {
         ensures cells { result ≡ light_at self.now light }
         ensures in_board { All (λ cell. cell < length self.now.open_cells) result }
     {
-        match self.lights.get(light) {
-            Some(light) => cells_of(self.grid, light),
-            None => unreachable!(),
-        }
+        cells_of(self.grid, self.lights.at(light))
     }
 
     /// The index of the light that crosses a light at a position; `None` if the cell there is unchecked.
@@ -238,8 +235,7 @@ pub fn has_all_entries(board: &Board<'_>, cells: &Cells) -> bool
     true
 }
 
-/// The letters that a cell allows: none if it is not open, the letter in it if it has one, and else
-/// all.
+/// The letters that a cell allows: none if the cell is not open, its letter if it has one, and otherwise all.
 #[tactic(auto, using(crate::proofs::BoardLemmas::allowed_steps))]
 pub fn allowed(is_open: bool, entry: Option<Letter>) -> LetterSet
     ensures { (letter : ℕ) →

@@ -14,7 +14,7 @@ ghost use Rattle.xw_feas.specs.Queries.{count_answer, next_answer, next_found, w
 use crate::changed::Changed;
 use crate::dictionary::known_distinct;
 use crate::edit::{Edit, Found, Refusal};
-use crate::place::{nth_light, spell_bytes};
+use crate::place::spell_bytes;
 use std::alloc::Global;
 use xw_grid::cell::{Cell, LightName};
 use xw_grid::fault::GridFault;
@@ -87,7 +87,7 @@ pub trait Feasible: Drop {
         requires { light < length (lights_of (state self.now).grid) }
         ensures { result ≡ length (words_of (answers self.now) light) }
     {
-        match self.word_count(nth_light(self.lights(), light).name) {
+        match self.word_count(self.lights().at(light).name) {
             Ok(count) => count,
             Err(_) => unreachable!(),
         }
@@ -98,7 +98,7 @@ pub trait Feasible: Drop {
         requires { light < length (lights_of (state self.now).grid) }
         ensures { result ≡ next_found (board_of (state self.now).grid) (state self.now).words (answers self.now) light from }
     {
-        match self.next_word(nth_light(self.lights(), light).name, from) {
+        match self.next_word(self.lights().at(light).name, from) {
             Ok(found) => found,
             Err(_) => unreachable!(),
         }
@@ -113,7 +113,7 @@ pub trait Feasible: Drop {
     {
         self.grid().well_formed();
         known_distinct(self.bank());
-        let light = nth_light(self.lights(), light);
+        let light = self.lights().at(light);
         let len = light.size as usize;
         let mut bytes = [0; LONGEST];
         spell_bytes(&mut bytes, self.bank().word(len, index));

@@ -1,14 +1,13 @@
 //! The edits of the grid.
-ghost use Rattle.std.specs.Prelude.{◌≡◌, length, true, IfOk, IfErr, OnOk, OnErr, Ok, Err};
+ghost use Rattle.std.specs.Prelude.{◌≡◌, length, IfOk, IfErr, OnOk, OnErr, Ok, Err};
 ghost use Rattle.xw_grid.specs.Edit.{toggle_block as block_toggled, toggle_bar as bar_toggled};
 ghost use Rattle.xw_grid.specs.Light.{lights_of};
 ghost use Rattle.xw_grid.specs.EditLaws.{SameShape};
 ghost use Rattle.xw_feas.specs.Shape.{IsGridRefused};
-ghost use Rattle.xw_feas.specs.State.{grid_after, is_of_letters, action_of};
+ghost use Rattle.xw_feas.specs.State.{grid_after, entry_action};
 
-use crate::edit::{Edit, Refusal};
+use crate::edit::{EntryEdit, Refusal};
 use crate::place::place;
-use crate::write::write;
 use xw_grid::cell::{Cell, Side};
 use xw_grid::fault::GridFault;
 use xw_grid::grid::Grid;
@@ -41,23 +40,19 @@ pub fn with_bar(grid: &Grid, cell: Cell, side: Side) -> Result<Grid, GridFault>
     Ok(toggled)
 }
 
-/// Applies an edit of letters or of the symmetry, which keeps the lights. Returns its refusal.
-pub fn edit_letters(grid: &mut Grid, lights: &Lights, edit: &Edit<'_>) -> Result<(), Refusal>
+/// Applies an edit of entries. Returns its refusal.
+pub fn edit_entries(grid: &mut Grid, lights: &Lights, edit: &EntryEdit<'_>) -> Result<(), Refusal>
     requires lights { lights.now ≡ lights_of grid.old }
-    requires letters { is_of_letters (action_of edit.now) ≡ true }
-    ensures ok { OnOk result (grid_after grid.old (action_of edit.now) ≡ Ok grid.new) }
-    ensures refused { IfErr result (λ refusal. grid_after grid.old (action_of edit.now) ≡ Err refusal) }
+    ensures ok { OnOk result (grid_after grid.old (entry_action edit.now) ≡ Ok grid.new) }
+    ensures refused { IfErr result (λ refusal. grid_after grid.old (entry_action edit.now) ≡ Err refusal) }
     ensures same { OnErr result (grid.new ≡ grid.old) }
     ensures shape { SameShape grid.old grid.new }
 {
     grid.well_formed();
     match *edit {
-        Edit::Set(cell, letter) => grid.set(cell, letter)?,
-        Edit::Clear(cell) => grid.clear(cell)?,
-        Edit::Place(name, word) => place(grid, lights, name, word)?,
-        Edit::Write(list) => write(grid, list)?,
-        Edit::Symmetry(kind) => grid.set_symmetry(kind)?,
-        _ => unreachable!(),
+        EntryEdit::Set(cell, letter) => grid.set(cell, letter)?,
+        EntryEdit::Clear(cell) => grid.clear(cell)?,
+        EntryEdit::Place(name, word) => place(grid, lights, name, word)?,
     }
     Ok(())
 }

@@ -15,9 +15,9 @@ pub fn families_join()
     ensures { (board : Board) (words : Dictionary) (one other : Family) → IsSupported board words one → IsSupported board words other → IsSupported board words (together one other) }
 {}
 
-/// The greatest supported family, which contains every other one, has exactly the feasible words and letters. The same is
-/// true of flags for words and letters, if they are set only for base words and allowed letters, cover every supported
-/// family and support one another.
+/// The greatest supported family, which contains every other one, has exactly the feasible words and letters. The same
+/// is true of flags for words and letters, if they are set only for base words and allowed letters, cover every
+/// supported family and support one another.
 pub fn greatest_family_is_feasible()
     ensures family { GreatestIsFeasible }
     ensures choices { StandingIsFeasible }
@@ -41,7 +41,8 @@ pub fn cells_are_written_in_turn()
     ensures refused { (state : State) (list : List (Cell × Option ℕ)) (refusal : Refusal) → after state (list_written list) ≡ Err refusal → IsRefusedInTurn state list refusal }
 {}
 
-/// An accepted `Place` writes each letter of its word into the cell of the light at its position, and changes nothing else.
+/// An accepted `Place` writes each letter of its word into the cell of the light at its position, and changes nothing
+/// else.
 pub fn words_are_placed()
     ensures { WordsArePlaced }
 {}

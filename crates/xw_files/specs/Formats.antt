@@ -34,8 +34,8 @@ abbrev pub IsFirstFault : Kind → List ℕ → ReadFault → Type 0
 IsFirstFault Puz bytes fault = puz_faults.IsFirstFault bytes fault
 IsFirstFault Text bytes fault = text_faults.IsFirstFault bytes fault
 
--- The bytes have this format and are a file of this puzzle. Bytes can be a file of several puzzles; this is the one that
--- the reader returns.
+-- The bytes have this format and are a file of this puzzle. Bytes can be a file of several puzzles; this is the one
+-- that the reader returns.
 pub record IsRead (kind : Kind) (bytes : List ℕ) (puzzle : PuzzleShown) : Type 0 where
   pub format : HasFormat bytes kind
   pub file : IsFileOf kind bytes puzzle

@@ -53,7 +53,8 @@ pub(crate) fn is_circled(grid: &Grid, circles: &Circles, cell: Cell) -> bool
     grid.is_open(cell) && circles.has(cell)
 }
 
-/// Returns the byte of a square in a file of either format: `.` for a block, `-` for an empty cell, and otherwise the letter.
+/// Returns the byte of a square in a file of either format: `.` for a block, `-` for an empty cell, and otherwise the
+/// letter.
 pub(crate) fn square_byte(square: Square) -> u8
     ensures { result ≡ square_byte square }
 {

@@ -10,7 +10,8 @@ use crate::text::{read_text, write_text};
 use std::alloc::Global;
 use xw_grid::puzzle::Puzzle;
 
-/// Reads the puzzle in the bytes of a file of this format. Returns its first fault, or `Memory` if an allocation fails.
+/// Reads the puzzle in the bytes of a file of this format. Returns its first fault, or `Memory` if an allocation
+/// fails.
 pub fn read_as(alloc: Global, kind: Kind, bytes: &[u8]) -> Result<Puzzle, ReadFault>
     ensures file { IfOk result (λ puzzle. IsFileOf kind bytes.now (puzzle_view puzzle)) }
     ensures exact { IfOk result (λ puzzle. puzzle_in kind bytes.now ≡ Ok (puzzle_view puzzle)) }
@@ -22,7 +23,8 @@ pub fn read_as(alloc: Global, kind: Kind, bytes: &[u8]) -> Result<Puzzle, ReadFa
     }
 }
 
-/// Returns the bytes of a puzzle in this format. Returns the first fault that applies, or `Memory` if an allocation fails.
+/// Returns the bytes of a puzzle in this format. Returns the first fault that applies, or `Memory` if an allocation
+/// fails.
 pub fn write_as(alloc: Global, kind: Kind, puzzle: &Puzzle) -> Result<Vec<u8>, WriteFault>
     ensures ok { IfOk result (λ bytes. written_as kind (puzzle_view puzzle.now) ≡ Ok bytes.items) }
     ensures refused { IfErr result (λ fault. fault ≢ WriteFault.Memory → written_as kind (puzzle_view puzzle.now) ≡ Err fault) }

@@ -1,11 +1,9 @@
 -- The search for the best fill.
 use Rattle.std.proofs.Common.{◌≡◌, ℕ, ◌<◌, ◌≤◌, Bool, true, List, [], Option, Some, sym, ◌∙◌, ap, subst, arith}
-use Rattle.std.specs.Prelude.{replicate, Result, Ok, Err, IfOk}
+use Rattle.std.specs.Prelude.{replicate}
 use Rattle.std.proofs.lemmas.List.{get_or-replicate}
-use Rattle.xw_grid.specs.declared.cell.LightName.{LightName}
 use Rattle.xw_words.specs.Dictionary.{best_grade}
 use Rattle.xw_feas.specs.State.{State}
-use Rattle.xw_feas.specs.declared.edit.Refusal.{Refusal}
 use Rattle.xw_feas.specs.Snapshot.{IsTwin}
 use Rattle.xw_feas.specs.WellFormed.{IsWellFormed}
 use Rattle.xw_fill.specs.Position.{position_of}
@@ -77,7 +75,7 @@ module _ (f g : ℕ → Bool) (before : State) (same : (light : ℕ) → light <
     none = λ below entries fill. is.none below entries (fill_at_back bound entries fill);
   }
 
-  best_same : (after : State) (best : Best) → IsBest f before after best → IsBest g before after best
+  pub best_same : (after : State) (best : Best) → IsBest f before after best → IsBest g before after best
   best_same after (Filled least bound) is =
       let filled = is.0 in (
         record {
@@ -93,15 +91,7 @@ module _ (f g : ℕ → Bool) (before : State) (same : (light : ℕ) → light <
   best_same after NoFill is = (λ entries fill. is.0 entries (fill_same g f (position_of before) back entries fill), is.1)
   best_same after (Limit bound) is = (is.0, bound_same bound is.1, is.2)
 
-  pub if_best_same : (after : State) (result : Result Best Refusal) → IfOk result (IsBest f before after) → IfOk result (IsBest g before after)
-  if_best_same after (Ok best) is = best_same after best is
-  if_best_same after (Err refusal) is = is
-
 -- a flag for each light is a flag for each named light, if an empty list names all lights
 pub all_are_flags : (state : State) (list : List Bool) → list ≡ replicate (light_count (position_of state)) true → AreFlags state [] list
 all_are_flags state list is light in_grid =
     ap (λ flagged. flags flagged light) is ∙ get_or-replicate (light_count (position_of state)) light true _ (subst (λ n. light < n) (sym (length-lights state.grid)) in_grid)
-
-pub if_all_flags : {A : Type 0} (state : State) (names : List LightName) (items : A → List Bool) (result : Result A Refusal) → names ≡ [] → IfOk result (λ named. items named ≡ replicate (light_count (position_of state)) true) → IfOk result (λ named. AreFlags state names (items named))
-if_all_flags state names items (Ok named) none is = subst (λ list. AreFlags state list (items named)) (sym none) (all_are_flags state (items named) is)
-if_all_flags state names items (Err refusal) none is = is

@@ -1,7 +1,6 @@
 -- Fills with the words of a grade and better.
 use Rattle.std.proofs.Common.{◌≡◌, ◌≢◌, ℕ, suc, ◌<◌, ◌≤◌, Bool, true, false, not, List, get_or, Option, Some, None, refl, sym, ◌∙◌, ap, subst, arith, inl, inr}
 use Rattle.std.specs.Prelude.{◌⊎◌, is_none, Result, Ok, IfOk}
-use Rattle.xw_feas.specs.declared.edit.Refusal.{Refusal}
 use Rattle.std.proofs.lemmas.Bool.{cases_Bool, and_from, or_left, or_right, true≢false, false≢true}
 use Rattle.xw_words.specs.Dictionary.{Dictionary, best_grade, with_least}
 use Rattle.xw_feas.specs.Board.{Board, light_at, is_wholly_entered}
@@ -192,22 +191,22 @@ plan_at state grade plan is = record {
 }
 
 -- what a search that found a fill left
-pub found_at : (named : ℕ → Bool) (before made now : State) (grade : ℕ) (result : Result Filling Refusal) → made ≡ at_least before grade → result ≡ Ok Filled → IfOk result (HasEntered named made now)
+pub found_at : {Fault : Type 0} (named : ℕ → Bool) (before made now : State) (grade : ℕ) (result : Result Filling Fault) → made ≡ at_least before grade → result ≡ Ok Filled → IfOk result (HasEntered named made now)
     → IsFillAt named before grade (entries_of now) × DiffersInEntries (at_least before grade) now
-found_at named before made now grade result made_is result_is entered =
-    let has : HasEntered named made now Filled = subst (λ (r : Result Filling Refusal). IfOk r (HasEntered named made now)) result_is entered in
+found_at {Fault} named before made now grade result made_is result_is entered =
+    let has : HasEntered named made now Filled = subst (λ (r : Result Filling Fault). IfOk r (HasEntered named made now)) result_is entered in
     (subst (λ (s : State). IsFillOf named (position_of s) (entries_of now)) made_is has.0, subst (λ (s : State). DiffersInEntries s now) made_is has.1)
 
 -- what a search that found that there is no fill shows, and leaves
-pub none_at : (named : ℕ → Bool) (before made now : State) (grade : ℕ) (result : Result Filling Refusal) → made ≡ at_least before grade → result ≡ Ok NoFill → IfOk result (IsAutofilled named made now)
+pub none_at : {Fault : Type 0} (named : ℕ → Bool) (before made now : State) (grade : ℕ) (result : Result Filling Fault) → made ≡ at_least before grade → result ≡ Ok NoFill → IfOk result (IsAutofilled named made now)
     → HasNoneAt named before grade × (now ≡ at_least before grade)
-none_at named before made now grade result made_is result_is is =
-    let has : IsAutofilled named made now NoFill = subst (λ (r : Result Filling Refusal). IfOk r (IsAutofilled named made now)) result_is is in
+none_at {Fault} named before made now grade result made_is result_is is =
+    let has : IsAutofilled named made now NoFill = subst (λ (r : Result Filling Fault). IfOk r (IsAutofilled named made now)) result_is is in
     (λ entries fill. has.0 entries (subst (λ (s : State). IsFillOf named (position_of s) entries) (sym made_is) fill), has.1 ∙ made_is)
 
-pub limit_at : (named : ℕ → Bool) (before made now : State) (grade : ℕ) (result : Result Filling Refusal) → made ≡ at_least before grade → result ≡ Ok Limit → IfOk result (IsAutofilled named made now) → now ≡ at_least before grade
-limit_at named before made now grade result made_is result_is is =
-    let has : IsAutofilled named made now Limit = subst (λ (r : Result Filling Refusal). IfOk r (IsAutofilled named made now)) result_is is in
+pub limit_at : {Fault : Type 0} (named : ℕ → Bool) (before made now : State) (grade : ℕ) (result : Result Filling Fault) → made ≡ at_least before grade → result ≡ Ok Limit → IfOk result (IsAutofilled named made now) → now ≡ at_least before grade
+limit_at {Fault} named before made now grade result made_is result_is is =
+    let has : IsAutofilled named made now Limit = subst (λ (r : Result Filling Fault). IfOk r (IsAutofilled named made now)) result_is is in
     has ∙ made_is
 
 -- back to the least grade that there was

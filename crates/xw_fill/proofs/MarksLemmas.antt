@@ -1,16 +1,11 @@
 -- Twins, which are states that differ only in what editing letters changes, and the states that marks hold.
-use Rattle.std.proofs.Common.{◌≡◌, ℕ, suc, ◌+◌, ◌-◌, ◌<◌, ◌≤◌, Bool, cond, not, ◌&&◌, ◌||◌, List, [], ◌∷◌, ◌++◌, map, take, drop, length, get_or, set, Option, refl, sym, ◌∙◌, ap, subst, arith}
-use Rattle.std.specs.Prelude.{All, flat_map, count_by}
-use Rattle.std.specs.List.{prefix_len}
+use Rattle.std.proofs.Common.{◌≡◌, ℕ, suc, ◌+◌, ◌-◌, ◌<◌, ◌≤◌, List, [], ◌∷◌, ◌++◌, map, take, drop, length, get_or, set, Option, refl, sym, ◌∙◌, ap, subst, arith}
+use Rattle.std.specs.Prelude.{All}
 use Rattle.std.proofs.lemmas.List.{drop-append-le, length_push, length-map, length-take-le, map_more, map_push, take_more_set, take-map, take-set, take-take}
 use Rattle.std.proofs.lemmas.List.Elements.{All-append, All-drop, All-set, All-take}
-use Rattle.xw_grid.specs.declared.cell.Cell.{Cell}
 use Rattle.xw_grid.specs.declared.cell.Square.{Square}
-use Rattle.xw_grid.specs.declared.cell.Direction.{Direction}
-use Rattle.xw_grid.specs.declared.cell.Direction.TheVariants.{Across, Down}
-use Rattle.xw_grid.specs.declared.lights.Light.{Light}
-use Rattle.xw_grid.specs.Grid.{Grid, is_open, is_barred, index_of, cells}
-use Rattle.xw_grid.specs.Light.{side_towards, next, previous, line, extent, lights_of}
+use Rattle.xw_grid.specs.Grid.{is_open}
+use Rattle.xw_grid.proofs.ChangeLemmas.{same_opens}
 use Rattle.xw_feas.specs.Board.{board_of}
 use Rattle.xw_feas.specs.State.{State}
 use Rattle.xw_feas.specs.Snapshot.{IsTwin}
@@ -34,33 +29,6 @@ IsTwin-turned first second twin = record {
   words = sym twin.words;
 }
 
--- ---- the lights as a function of the open cells
-
-abbrev joined_with : (Cell → Bool) → Grid → Direction → Cell → Bool
-joined_with opens grid direction cell = (opens cell && opens (next direction cell)) && not (is_barred grid cell (side_towards direction))
-
-abbrev begins_with : (Cell → Bool) → Grid → Direction → Cell → Bool
-begins_with opens grid direction cell = joined_with opens grid direction cell && not (joined_with opens grid direction (previous direction cell))
-
-abbrev begins_some_with : (Cell → Bool) → Grid → Cell → Bool
-begins_some_with opens grid cell = begins_with opens grid Across cell || begins_with opens grid Down cell
-
-abbrev light_with : (Cell → Bool) → Grid → Direction → Cell → Light
-light_with opens grid direction cell = record {
-  name = record { number = count_by (begins_some_with opens grid) (take (index_of grid cell) (cells grid)) + 1; direction = direction };
-  start = cell;
-  size = prefix_len (joined_with opens grid direction) (line direction cell (extent grid direction)) + 1;
-}
-
-abbrev light_from_with : (Cell → Bool) → Grid → Cell → Direction → List Light
-light_from_with opens grid cell direction = cond (begins_with opens grid direction cell) (light_with opens grid direction cell ∷ []) []
-
-abbrev lights_with : (Cell → Bool) → Grid → List Light
-lights_with opens grid = flat_map (λ cell. light_from_with opens grid cell Across ++ light_from_with opens grid cell Down) (cells grid)
-
-same_lights : (grid : Grid) (opens : Cell → Bool) → ((cell : Cell) → opens cell ≡ is_open grid cell) → lights_with opens grid ≡ lights_of grid
-same_lights grid opens same = ap (λ test. lights_with test grid) (λ i cell. same cell i)
-
 -- ---- states that differ in entries
 
 length-squares_with : (squares : List Square) (entries : List (Option ℕ)) → length (squares_with squares entries) ≡ length squares
@@ -70,7 +38,7 @@ length-squares_with (square ∷ squares) entries = ap suc (length-squares_with s
 pub filled_twin : (state : State) (entries : List (Option ℕ)) → IsTwin state (filled_in state entries)
 filled_twin state entries = record {
   shape = record {
-    lights = same_lights state.grid (is_open (filled_in state entries).grid) (filled_open state entries);
+    lights = same_opens state.grid (is_open (filled_in state entries).grid) (filled_open state entries);
     opens = filled_open state entries;
     cells = length-squares_with state.grid.squares entries;
   };

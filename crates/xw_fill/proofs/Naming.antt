@@ -7,7 +7,6 @@ use Rattle.std.proofs.lemmas.List.{take_more, get_or-set_same, get_or-set_other}
 use Rattle.std.proofs.lemmas.List.Folds.{list_any-append}
 use Rattle.xw_grid.specs.declared.cell.LightName.{LightName}
 use Rattle.xw_grid.specs.Light.{lights_of, index_named}
-use Rattle.xw_feas.specs.declared.edit.Refusal.{Refusal}
 use Rattle.xw_feas.specs.Board.{board_of, light_at}
 use Rattle.xw_feas.specs.State.{State}
 use Rattle.xw_feas.specs.WellFormed.{HasLetterEntries, IsLaidOut}
@@ -184,9 +183,9 @@ autofilled_same f g before after Filled same is = (is.0, fill_same f g (position
 autofilled_same f g before after NoFill same is = (λ entries fill. is.0 entries (fill_same g f (position_of before) (λ light in_grid. sym (same light in_grid)) entries fill), is.1)
 autofilled_same f g before after Limit same is = is
 
-pub if_ok_same : (f g : ℕ → Bool) (before after : State) (result : Result Filling Refusal) → ((light : ℕ) → light < light_count (position_of before) → f light ≡ g light) → IfOk result (IsAutofilled f before after) → IfOk result (IsAutofilled g before after)
+pub if_ok_same : {Fault : Type 0} (f g : ℕ → Bool) (before after : State) (result : Result Filling Fault) → ((light : ℕ) → light < light_count (position_of before) → f light ≡ g light) → IfOk result (IsAutofilled f before after) → IfOk result (IsAutofilled g before after)
 if_ok_same f g before after (Ok filling) same is = autofilled_same f g before after filling same is
-if_ok_same f g before after (Err refusal) same is = is
+if_ok_same f g before after (Err fault) same is = is
 
 -- ---- options
 

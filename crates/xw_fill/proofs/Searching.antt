@@ -135,6 +135,18 @@ searching-placed start current tries used light from index tried sound s next is
         used_is = omega (arith, s.used_is, here.1, made.1);
       }
 
+-- a try that leads to a dead position
+pub searching-failed : (start current : Position) (tries : List Try) (used light from index : ℕ) (tried : Try) (there : Position) → IsSound start → IsSearching start tries used current (Words light from) → IsNextWord current light from index → tried.light ≡ light → tried.index ≡ index → AreBlanks current.board (light_at current.board light) tried.blanks
+    → there ≡ after_try current tried → taken_back there tried ≡ current → is_dead there ≡ true
+    → IsSearching start tries (used + 1) current (Words light (index + 1))
+searching-failed start current tries used light from index tried there sound s next is at blanks there_is back dead =
+    let placed = searching-placed start current tries used light from index tried sound s next is at blanks in
+    let spent : outlook (after_try current tried) ≡ Spent = ap outlook (sym there_is) ∙ ap (λ b. cond b Spent (next_of (chosen there))) dead in
+    let failed = searching-back start (after_try current tried) tries tried (used + 1) sound (subst (IsSearching start (tries ++ tried ∷ []) (used + 1) (after_try current tried)) spent placed) in
+    subst (λ n. IsSearching start tries (used + 1) current (Words light (n + 1))) at
+    (subst (λ l. IsSearching start tries (used + 1) current (Words l (tried.index + 1))) is
+    (subst (λ position. IsSearching start tries (used + 1) position (Words tried.light (tried.index + 1))) (ap (λ position. taken_back position tried) (sym there_is) ∙ back) failed))
+
 -- the stack of tries has room for one more
 pub searching-room : (start current : Position) (tries : List Try) (used light from : ℕ) → IsSearching start tries used current (Words light from) → length tries < light_count start
 searching-room start current tries used light from s = split s.left s.trail s.at where

@@ -17,7 +17,6 @@ use Rattle.xw_grid.specs.Light.{lights_of, cells_of, step, no_light}
 use Rattle.xw_grid.specs.Edit.{with_entry}
 use Rattle.xw_grid.proofs.LightLemmas.{inside_from_open, cells_of_are_open, length-line, get_or-line}
 use Rattle.xw_feas.specs.Board.{board_of, square_is_open, square_entry, indices_of, light_at}
-use Rattle.std.proofs.lemmas.Option.{slice_get-get_or, get_or_from_slice_get}
 use Rattle.xw_feas.specs.State.{State, word_placed, after, with_letters as grid_with_letters, with_grid, light_of, known_count, known_placed}
 use Rattle.xw_feas.proofs.BoardLemmas.{length-lights, light_at-board}
 use Rattle.xw_feas.proofs.PlacingLemmas.{word_accepted, known_letters, known_length}
@@ -28,14 +27,6 @@ use Rattle.xw_fill.specs.Position.{position_of, holding, placed, with_entries, e
 
 pub in_grid_light : (grid : Grid) (light : ℕ) → light < length (board_of grid).lights → light < length (lights_of grid)
 in_grid_light grid light below = rw (← length-lights grid) below
-
-pub light_got : (grid : Grid) (lights : List Light) (light : ℕ) (found : Light) → lights ≡ lights_of grid → slice_get lights light ≡ Some found → found ≡ get_or (lights_of grid) light no_light
-light_got grid lights light found is at = sym (get_or_from_slice_get (lights_of grid) light found no_light (ap (λ ls. slice_get ls light) (sym is) ∙ at))
-
-pub light_missing : (grid : Grid) (lights : List Light) (light : ℕ) → lights ≡ lights_of grid → light < length (board_of grid).lights → slice_get lights light ≡ None → ⊥
-light_missing grid lights light is below at =
-    let there = sym at ∙ ap (λ ls. slice_get ls light) is ∙ slice_get-get_or (lights_of grid) light no_light (in_grid_light grid light below) in
-    cc
 
 pub ruleset light_steps = (length-lights)
 

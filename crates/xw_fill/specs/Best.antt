@@ -25,8 +25,8 @@ pub record IsBound (named : ℕ → Bool) (state : State) (bound : ℕ) : Type 0
   pub within : bound ≤ suc best_grade
   pub none : bound ≤ best_grade → HasNoneAt named state bound
 
--- The state after holds a fill of the state before, with the words of grade `least` and better; `least` is the greatest
--- grade of which that is true. Only entries changed.
+-- The state after holds a fill of the state before, with the words of grade `least` and better; `least` is the
+-- greatest grade of which that is true. Only entries changed.
 pub record IsFilledAt (named : ℕ → Bool) (before after : State) (least : ℕ) : Type 0 where
   pub entries : List (Option ℕ)
   pub fill : IsFillAt named before least entries
@@ -35,8 +35,8 @@ pub record IsFilledAt (named : ℕ → Bool) (before after : State) (least : ℕ
   pub greatest : (grade : ℕ) → least < grade → grade ≤ best_grade → IsFillAt named before grade entries → ⊥
   pub holds : after ≡ filled_in before entries
 
--- What each answer means. After Filled the state holds a fill at `least`. NoFill means that there is no fill, and after it
--- and Limit the state is as it was. No fill is known to be at `bound` or above.
+-- What each answer means. After Filled the state holds a fill at `least`. NoFill means that there is no fill, and
+-- after it and Limit the state is as it was. No fill is known to be at `bound` or above.
 abbrev pub IsBest : (ℕ → Bool) → State → State → Best → Type 0
 IsBest named before after (Filled least bound) = IsFilledAt named before after least × IsBound named before bound
 IsBest named before after NoFill = ((entries : List (Option ℕ)) → IsFillOf named (position_of before) entries → ⊥) × (after ≡ before)

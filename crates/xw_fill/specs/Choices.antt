@@ -1,4 +1,4 @@
--- How many words a light has left at the least once a word is placed.
+-- The least number of words that a light has left once a word is placed.
 use Rattle.std.specs.Prelude.{ℕ, List, length, Option, None, Result, Ok, Err, option_map}
 use Rattle.xw_feas.specs.declared.edit.Refusal.{Refusal}
 use Rattle.xw_feas.specs.State.{State, after, word_placed}

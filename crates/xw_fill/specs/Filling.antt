@@ -12,8 +12,9 @@ use Rattle.xw_fill.specs.declared.search.Filling.TheVariants.{Filled, NoFill, Li
 use Rattle.xw_fill.specs.declared.search.Next.{Next}
 use Rattle.xw_fill.specs.declared.search.Next.TheVariants.{Done, Spent, Words}
 
--- The answers in terms of the search that `Search.antt` defines. After Filled the state has the entries of the search's
--- end. NoFill and Limit leave the state as it was. Limit means that more placements are due than the limit allows.
+-- The answers in terms of the search that `Search.antt` defines. After Filled the state has the entries of the
+-- search's end. NoFill and Limit leave the state as it was. Limit means that more placements are due than the limit
+-- allows.
 abbrev pub IsFilling : ℕ → State → State → Filling → Type 0
 IsFilling limit before after Filled = (due (position_of before) ≤ limit) × (found (position_of before) ≡ true) × (after ≡ filled_in before (end (position_of before)).board.entries)
 IsFilling limit before after NoFill = (due (position_of before) ≤ limit) × (found (position_of before) ≡ false) × (after ≡ before)

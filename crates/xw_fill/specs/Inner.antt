@@ -3,5 +3,6 @@ pub mod Noted
 pub mod Linked
 pub mod Tries
 pub mod Stack
+pub mod Stepping
 pub mod Progress
 pub mod Climbing

@@ -10,8 +10,8 @@ use Rattle.xw_fill.specs.declared.search.Filling.{Filling}
 use Rattle.xw_fill.specs.FeasibleWords.{feasible_words}
 use Rattle.xw_fill.specs.Search.{light_count, is_entered, is_dead, chosen, found_by, due_by, end_by, found, due, end}
 
--- What `found`, `due` and `end` of `Search.antt` mean, without a bound on placements: those of a position follow from those
--- of the positions after one placement. A dead position has no fill and no placements.
+-- What `found`, `due` and `end` of `Search.antt` mean, without a bound on placements: those of a position follow from
+-- those of the positions after one placement. A dead position has no fill and no placements.
 pub record IsSearched (position : Position) : Type 0 where
   pub found_is : found position ≡ (not (is_dead position) && found_by found position (chosen position))
   pub due_is : due position ≡ cond (is_dead position) 0 (due_by found due position (chosen position))

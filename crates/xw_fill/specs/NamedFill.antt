@@ -40,9 +40,9 @@ Keeps before now = (cell letter : ℕ) → entry_in before cell ≡ Some letter 
 abbrev pub IsChanged : Position → List (Option ℕ) → ℕ → Type 0
 IsChanged position entries light = (k : ℕ) × (k < length (light_at position.board light)) × (entry_in entries (slice_index (light_at position.board light) k) ≢ entry_in position.board.entries (slice_index (light_at position.board light) k))
 
--- Each named light is wholly entered. Only cells of named lights have new entries, and these are letters. Each light that
--- became wholly entered spells an active word, and no two wholly entered lights spell the same. Each light that is named
--- or changed has a feasible word: a wholly entered one the word it spells.
+-- Each named light is wholly entered. Only cells of named lights have new entries, and these are letters. Each light
+-- that became wholly entered spells an active word, and no two wholly entered lights spell the same. Each light that
+-- is named or changed has a feasible word: a wholly entered one the word it spells.
 pub record IsFillOf (named : ℕ → Bool) (position : Position) (entries : List (Option ℕ)) : Type 0 where
   pub letters : HasLetterEntries (with_entries position.board entries)
   pub kept : Keeps position.board.entries entries
@@ -57,8 +57,8 @@ pub record IsInLights (position : Position) (entries : List (Option ℕ)) : Type
   pub long : length entries ≡ length position.board.entries
   pub elsewhere : (cell : ℕ) → is_in_named (λ light. true) position cell ≡ false → entry_in entries cell ≡ entry_in position.board.entries cell
 
--- What each answer means: after Filled the state holds a fill of the named lights, NoFill means that there is none, and
--- NoFill and Limit leave the state as it was.
+-- What each answer means: after Filled the state holds a fill of the named lights, NoFill means that there is none,
+-- and NoFill and Limit leave the state as it was.
 abbrev pub IsAutofilled : (ℕ → Bool) → State → State → Filling → Type 0
 IsAutofilled named before after Filled = (entries : List (Option ℕ)) × IsFillOf named (position_of before) entries × (after ≡ filled_in before entries)
 IsAutofilled named before after NoFill = ((entries : List (Option ℕ)) → IsFillOf named (position_of before) entries → ⊥) × (after ≡ before)
@@ -76,7 +76,7 @@ abbrev pub is_named : State → List LightName → ℕ → Bool
 is_named state [] light = true
 is_named state (name ∷ names) light = list_any (λ other. is_light light (index_named (lights_of state.grid) other)) (name ∷ names)
 
--- every name is that of a light
+-- every name belongs to a light
 abbrev pub AreLights : State → List LightName → Type 0
 AreLights state names = All (λ name. is_some (index_named (lights_of state.grid) name) ≡ true) names
 
@@ -88,10 +88,10 @@ AreFlagged state names before now = (light : ℕ) → light < length (lights_of 
 abbrev pub AreFlags : State → List LightName → List Bool → Type 0
 AreFlags state names list = (light : ℕ) → light < length (lights_of state.grid) → flags list light ≡ is_named state names light
 
--- some name is that of no light
+-- some name belongs to no light
 abbrev pub IsNoLight : State → List LightName → Refusal → Type 0
 IsNoLight state names refusal = (refusal ≡ NoLight) × (AreLights state names → ⊥)
 
--- why a call is refused: some name is that of no light, or an allocation failed
+-- why a call is refused: some name belongs to no light, or an allocation failed
 abbrev pub IsRefusal : State → List LightName → Refusal → Type 0
 IsRefusal state names refusal = IsNoLight state names refusal ⊎ (refusal ≡ Grid Memory)

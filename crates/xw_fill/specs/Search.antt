@@ -1,7 +1,7 @@
--- The search for a fill: whether it finds one from a position (`found`), how many placements it takes (`due`), and where it
--- ends (`end`). `found_in`, `due_in` and `end_in` have a bound on the placements in a row only so that the recursion ends.
--- `IsSearched` of `Laws.antt` says what the three mean without a bound, and `FoundIsFill` and `FillIsFound` there relate
--- them to fills.
+-- The search for a fill: whether it finds one from a position (`found`), how many placements it takes (`due`), and
+-- where it ends (`end`). `found_in`, `due_in` and `end_in` have a bound on the placements in a row only so that the
+-- recursion ends. `IsSearched` of `Laws.antt` says what the three mean without a bound, and `FoundIsFill` and
+-- `FillIsFound` there relate them to fills.
 use Rattle.std.specs.Prelude.{ℕ, zero, suc, ◌+◌, Bool, true, cond, ◌&&◌, ◌||◌, not, nat_lt, ◌==◌, List, [], ◌∷◌, length, bytes_eq, Option, Some, None, is_none}
 use Rattle.std.specs.List.{list_any}
 use Rattle.xw_feas.specs.Board.{light_at, is_wholly_entered, spelled}
@@ -61,8 +61,8 @@ unfoldable pub found_in : ℕ → Position → Bool
 found_in zero position = not (is_dead position) && is_none (chosen position)
 found_in (suc n) position = not (is_dead position) && found_by (found_in n) position (chosen position)
 
--- The placements for a list of words, tried in order up to the first that leads to a fill: one for each, and those that
--- are due after it.
+-- The placements for a list of words, tried in order up to the first that leads to a fill: one for each, and those
+-- that are due after it.
 abbrev pub due_of : (List ℕ → Bool) → (List ℕ → ℕ) → List (List ℕ) → ℕ
 due_of found due [] = 0
 due_of found due (word ∷ words) = 1 + due word + cond (found word) 0 (due_of found due words)
@@ -90,8 +90,8 @@ unfoldable pub end_in : ℕ → Position → Position
 end_in zero position = position
 end_in (suc n) position = end_by (found_in n) (end_in n) position (chosen position)
 
--- The bound that is enough: each placement makes at least one more light wholly entered, so no path has more placements
--- than there are lights that are not.
+-- The bound that is enough: each placement makes at least one more light wholly entered, so no path has more
+-- placements than there are lights that are not.
 abbrev pub unentered_count : Position → ℕ
 unentered_count position = count_below (λ light. not (is_entered position light)) (light_count position)
 

@@ -1,4 +1,4 @@
-//! The best fill of the named lights: the grade of its worst new word is the greatest that a search finds.
+//! Searches for the best fill of the named lights: the one whose worst new word has the greatest grade.
 mod climb;
 mod grades;
 mod probe;
@@ -12,19 +12,19 @@ use crate::best::climb::{Climb, Pace};
 use crate::named_lights::plan::Plan;
 use crate::named_lights::run::Effort;
 use crate::named_lights::{all_lights, flags_of};
-use crate::scan::light_count;
-use std::alloc::Global;
+use crate::scan::{board, light_count};
+use std::alloc::{AllocError, Global};
 use xw_feas::edit::Refusal;
 use xw_feas::feasible::Feasible;
 use xw_feas::searchable::Searchable;
 use xw_grid::cell::LightName;
-use xw_grid::fault::GridFault;
+use xw_letters::letter::Letter;
 
-/// What a search for the best fill found. With the words of grade `bound` and better there is no fill; a bound of 101 says
-/// nothing.
+/// What a search for the best fill found. With the words of grade `bound` and better there is no fill; a bound of 101
+/// says nothing.
 #[derive(Clone, Copy, Debug, PartialEq, Eq)]
 pub enum Best {
-    /// The grid holds a fill. It is one with the words of grade `least` and better, and with those of no greater grade.
+    /// The grid holds a fill. `least` is the greatest grade at which it is one.
     Filled { least: u8, bound: u8 },
     /// There is no fill.
     NoFill,
@@ -32,43 +32,65 @@ pub enum Best {
     Limit { bound: u8 },
 }
 
-/// What a search leaves to the next one with the same seed and lights, which then goes on. It is a hint: it decides at
-/// which grades and in which order the next search tries letters, and nothing else.
+/// The hint that a search leaves. The next search continues from it if it has the same seed and lights and begins with
+/// the same entries. A hint decides only at which grades and in which order a search tries letters.
 #[derive(Drop)]
 pub struct BestHint {
     names: Vec<LightName>,
+    entries: Vec<Option<Letter>>,
     effort: Effort,
     pace: Pace,
 }
 
+/// The entries of the cells, in reading order.
+fn copied_entries<E: Feasible>(
+    alloc: Global,
+    engine: &E,
+) -> Result<Vec<Option<Letter>>, AllocError> {
+    let mut entries = Vec::new(alloc);
+    for cell in 0..board(engine).cell_count() {
+        entries.push(board(engine).entry(cell))?;
+    }
+    Ok(entries)
+}
+
+/// Whether the cells have these entries.
+fn has_entries<E: Feasible>(engine: &E, entries: &[Option<Letter>]) -> bool {
+    if entries.len() != board(engine).cell_count() {
+        return false;
+    }
+    for cell in 0..entries.len() {
+        if board(engine).entry(cell) != entries[cell] {
+            return false;
+        }
+    }
+    true
+}
+
 impl BestHint {
-    /// The hint for a search that has not begun. It is refused only if an allocation fails.
+    /// The hint for a search that has not begun.
     fn new<E: Feasible>(
         alloc: Global,
         engine: &E,
         names: &[LightName],
         seed: u64,
-    ) -> Result<BestHint, Refusal>
-        ensures { IfErr result (λ refusal. refusal ≡ Refusal.Grid GridFault.Memory) }
-    {
-        let lights = light_count(engine);
-        let graded = engine.bank().is_graded();
-        match (
-            Vec::from_slice(alloc, names),
-            Effort::new(alloc, lights, seed, graded),
-        ) {
-            (Ok(names), Ok(effort)) => Ok(BestHint {
-                names,
-                effort,
-                pace: Pace::new(),
-            }),
-            _ => Err(Refusal::Grid(GridFault::Memory)),
-        }
+    ) -> Result<BestHint, AllocError> {
+        let names = Vec::from_slice(alloc, names)?;
+        let entries = copied_entries(alloc, engine)?;
+        let effort = Effort::new(alloc, light_count(engine), seed, engine.bank().is_graded())?;
+        Ok(BestHint {
+            names,
+            entries,
+            effort,
+            pace: Pace::new(),
+        })
     }
 
-    /// Whether it is from a search with these lights and this seed.
-    fn is_of(&self, names: &[LightName], seed: u64) -> bool {
-        self.effort.seed == seed && self.names.as_slice() == names
+    /// Whether the hint is from a search with these lights and this seed that began with the entries of the engine.
+    fn is_of<E: Feasible>(&self, engine: &E, names: &[LightName], seed: u64) -> bool {
+        self.effort.seed == seed
+            && self.names.as_slice() == names
+            && has_entries(engine, &self.entries)
     }
 }
 
@@ -82,7 +104,7 @@ fn named_flags<E: Feasible>(
     ensures refused { IfErr result (IsRefusal (E.state engine.now) names.now) }
 {
     if names.is_empty() {
-        return all_lights(alloc, engine);
+        return Ok(all_lights(alloc, engine)?);
     }
     flags_of(alloc, engine, names)
 }
@@ -95,9 +117,8 @@ fn best_flagged<E: Searchable>(
     limit: u64,
     effort: &mut Effort,
     pace: &mut Pace,
-) -> Result<Best, Refusal>
+) -> Result<Best, AllocError>
     ensures ok { IfOk result (IsBest (flags named.items) (E.state engine.old) (E.state engine.new)) }
-    ensures memory { IfErr result (λ refusal. refusal ≡ Refusal.Grid GridFault.Memory) }
     ensures unchanged { OnErr result (E.state engine.new ≡ E.state engine.old) }
 {
     let plan = Plan::of(alloc, engine, named)?;
@@ -119,45 +140,44 @@ fn best_named<E: Searchable>(
     ensures unchanged { OnErr result (E.state engine.new ≡ E.state engine.old) }
 {
     let named = named_flags(alloc, engine, names)?;
-    best_flagged(
+    Ok(best_flagged(
         alloc,
         engine,
         named,
         limit,
         &mut hint.effort,
         &mut hint.pace,
-    )
+    )?)
 }
 
-/// Whether a search ended for want of placements.
-fn is_limit(best: &Best) -> bool {
-    matches!(best, Best::Limit { .. })
-}
-
-/// The hint if it is from a search with these lights and this seed.
-fn hint_of<'a>(
+/// The hint if it is from a search with these lights and this seed that began with the entries of the engine.
+fn hint_of<'a, E: Feasible>(
     hint: &'a mut Option<BestHint>,
+    engine: &E,
     names: &[LightName],
     seed: u64,
 ) -> Option<&'a mut BestHint> {
     match hint {
-        Some(hint) if hint.is_of(names, seed) => Some(hint),
+        Some(hint) if hint.is_of(engine, names, seed) => Some(hint),
         _ => None,
     }
 }
 
 /// Fills the named lights, or all lights if the list of names is empty, with a fill whose worst new word has the best
-/// grade that a search with at most `limit` placements of letters finds. It tries no word below the least grade of active
-/// words, which is the same after it. The seed turns the order of ties. The state changes only for `Filled`.
+/// grade that a search with at most `limit` placements of letters finds. It tries no word below the least grade of
+/// active words, and leaves that grade as it was. The seed decides the order of ties. The state changes only for
+/// `Filled`.
 ///
-/// A bound is proved, and it holds for all greater grades too (`grade_law`). So if it is one more than `least`, no fill is
-/// better. A search without any placement still finds a bound.
+/// A bound is proved, and it holds for all greater grades too (`grade_law`). So if it is one more than `least`, no
+/// fill is better. A search without any placement still finds a bound.
 ///
-/// A search that ends with `Limit` leaves a hint. The next search with the same names and seed goes on with it, though it
-/// proves its bound anew. Pass `None`, or the hint of a search from the same state: the answer depends on the state, the
-/// names, the limit, the seed and the hint alone. An error does not take the hint away.
+/// A search leaves a hint, unless there is no fill. The next search with the same names and seed continues from it if
+/// it begins with the same entries, but proves its bound anew. So a search can continue after a fill once the letters
+/// of the fill are removed. The least grade may change in between. Pass `None`, or the hint of a search over the same
+/// words and lights: the answer depends on the state, the names, the limit, the seed and the hint alone. An error
+/// leaves the hint as it was.
 ///
-/// Returns `NoLight` if a name is that of no light, and `Memory` if an allocation fails.
+/// Returns `NoLight` if one of the names belongs to no light, and `Memory` if an allocation fails.
 pub fn best_fill<E: Searchable>(
     alloc: Global,
     engine: &mut E,
@@ -170,15 +190,19 @@ pub fn best_fill<E: Searchable>(
     ensures refused { IfErr result (IsRefusal (E.state engine.old) names.now) }
     ensures unchanged { OnErr result (E.state engine.new ≡ E.state engine.old) }
 {
-    if let Some(begun) = hint_of(hint, names, seed) {
+    if let Some(begun) = hint_of(hint, engine, names, seed) {
         let best = best_named(alloc, engine, names, limit, begun)?;
-        if !is_limit(&best) {
+        if best == Best::NoFill {
             *hint = None;
         }
         return Ok(best);
     }
     let mut begun = BestHint::new(alloc, engine, names, seed)?;
     let best = best_named(alloc, engine, names, limit, &mut begun)?;
-    *hint = if is_limit(&best) { Some(begun) } else { None };
+    *hint = if best == Best::NoFill {
+        None
+    } else {
+        Some(begun)
+    };
     Ok(best)
 }

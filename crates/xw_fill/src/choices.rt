@@ -1,4 +1,4 @@
-//! What the choice of a word leaves.
+//! The least number of words that a light has left once a word is placed.
 ghost use Rattle.std.specs.Prelude.{◌≡◌, slice_index_or, []};
 ghost use Rattle.xw_fill.specs.Position.{position_of};
 ghost use Rattle.xw_fill.specs.Choices.{fewest_words as fewest_words_of, fewest_after as fewest_words_after};

@@ -43,16 +43,16 @@ pub fn answer_law()
     ensures end { EndIsOne }
 {}
 
-/// A fill of all lights is a fill in the sense of `fill`. A fill in this sense that changes only cells of lights is a fill of all
-/// lights.
+/// A fill of all lights is a fill in the sense of `fill`. A fill in this sense that changes only cells of lights is a
+/// fill of all lights.
 pub fn all_law()
     ensures fill { (position : Position) (entries : List (Option ℕ)) → IsFillOf (λ light. true) position entries → IsFill position entries }
     ensures of_all { (position : Position) (entries : List (Option ℕ)) → IsLaidOut position.board → IsInLights position entries
         → IsFill position entries → IsFillOf (λ light. true) position entries }
 {}
 
-/// A fill with the words of a grade and better is one with those of each lower grade. So if there is none, there is none
-/// with those of a greater grade.
+/// A fill with the words of a grade and better is one with those of each lower grade. So if there is none, there is
+/// none with those of a greater grade.
 pub fn grade_law()
     ensures fills { FillsReachDown }
     ensures none { NoneReachesUp }

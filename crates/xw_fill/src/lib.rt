@@ -1,5 +1,5 @@
-//! Finds repeated and unlisted words, suggests words, and fills grids or named lights, also with the best words that it
-//! finds. Works over any engine that implements `Feasible`; filling needs one that implements `Searchable`.
+//! Finds repeated and unlisted words, suggests words, and fills grids or named lights, also with the best words that
+//! it finds. Works over any engine that implements `Feasible`; filling needs one that implements `Searchable`.
 #![tactic(auto)]
 
 pub mod best;

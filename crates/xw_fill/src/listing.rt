@@ -1,4 +1,4 @@
-//! Lists repeated words, and words that are not active, and tells the grades of words.
+//! Lists repeated words and words that are not active, and looks up the grades of words.
 ghost use Rattle.std.specs.Prelude.{◌≡◌, ◌<◌, ◌≤◌, length, IfOk, IfErr, take};
 ghost use Rattle.xw_words.specs.Dictionary.{index_of_word};
 ghost use Rattle.xw_feas.specs.Board.{spelled};
@@ -32,12 +32,10 @@ pub fn duplicates<E: Feasible>(alloc: Global, engine: &E) -> Result<Vec<Duplicat
     let mut found = Vec::new(alloc);
     for light in 0..light_count(engine) {
         if let Some(first) = first_same(engine, light) {
-            found
-                .push(Duplicate {
-                    light: name_at(engine, light),
-                    first: name_at(engine, first),
-                })
-                .map_err(|_| Refusal::Grid(GridFault::Memory))?;
+            found.push(Duplicate {
+                light: name_at(engine, light),
+                first: name_at(engine, first),
+            })?;
         }
     }
     Ok(found)
@@ -102,16 +100,14 @@ pub fn unlisted<E: Feasible>(alloc: Global, engine: &E) -> Result<Vec<LightName>
     let mut lights = Vec::new(alloc);
     for light in 0..light_count(engine) {
         if is_unlisted(engine, light) {
-            lights
-                .push(name_at(engine, light))
-                .map_err(|_| Refusal::Grid(GridFault::Memory))?;
+            lights.push(name_at(engine, light))?;
         }
     }
     Ok(lights)
 }
 
-/// Returns the grade of the word of a light, active or not. Returns `None` if the light is not wholly entered, or if its
-/// word is not known.
+/// Returns the grade of the word of a light, active or not. Returns `None` if the light is not wholly entered, or if
+/// its word is not known.
 pub fn grade<E: Feasible>(engine: &E, light: usize) -> Option<u8>
     requires { light < light_count (position_of (E.state engine.now)) }
     ensures { result ≡ grade_of (position_of (E.state engine.now)) light }

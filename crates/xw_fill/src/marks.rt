@@ -1,15 +1,13 @@
 //! Saved states of an engine, to which a search returns.
-ghost use Rattle.std.specs.Prelude.{◌≡◌, ◌-◌, ◌<◌, ◌≤◌, [], ◌∷◌, ◌++◌, true, false, IfOk, IfErr};
+ghost use Rattle.std.specs.Prelude.{◌≡◌, ◌-◌, ◌<◌, ◌≤◌, [], ◌∷◌, ◌++◌, true, false, IfOk};
 ghost use Rattle.xw_feas.specs.State.{State};
 ghost use Rattle.xw_fill.specs.Marks.{held_of, room_of, latest, but_last, AreTwins, HoldsFree};
 
-use std::alloc::Global;
-use xw_feas::edit::Refusal;
+use std::alloc::{AllocError, Global};
 use xw_feas::searchable::Searchable;
-use xw_grid::fault::GridFault;
 
-/// The latest marks of an engine: saved states, with room for a fixed number. A mark that finds no room left replaces the
-/// oldest one. The first `held` snapshots are the marks, the oldest first; the others are free.
+/// The latest marks of an engine: saved states, with room for a fixed number. A mark that finds no room left replaces
+/// the oldest one. The first `held` snapshots are the marks, the oldest first; the others are free.
 #[derive(Drop)]
 pub struct Marks<E: Searchable> {
     snapshots: Vec<E::Snapshot>,
@@ -17,21 +15,16 @@ pub struct Marks<E: Searchable> {
 }
 
 impl<E: Searchable> Marks<E> {
-    /// Creates room for `room` marks of an engine, and holds none. It is refused only if an allocation fails.
-    pub fn new(alloc: Global, engine: &E, room: usize) -> Result<Marks<E>, Refusal>
+    /// Creates room for `room` marks of an engine, and holds none.
+    pub fn new(alloc: Global, engine: &E, room: usize) -> Result<Marks<E>, AllocError>
         ensures held { IfOk result (λ marks. held_of E.saved marks ≡ []) }
         ensures room { IfOk result (λ marks. room_of marks ≡ room) }
         ensures twins { IfOk result (λ marks. AreTwins E.saved marks (E.state engine.now)) }
-        ensures memory { IfErr result (λ refusal. refusal ≡ Refusal.Grid GridFault.Memory) }
     {
-        let mut snapshots = Vec::with_capacity(alloc, room).map_err(|_| Refusal::Grid(
-            GridFault::Memory,
-        ))?;
+        let mut snapshots = Vec::with_capacity(alloc, room)?;
         for _made in 0..room {
             let snapshot = engine.snapshot()?;
-            snapshots
-                .push(snapshot)
-                .map_err(|_| Refusal::Grid(GridFault::Memory))?;
+            snapshots.push(snapshot)?;
         }
         Ok(Marks { snapshots, held: 0 })
     }
@@ -51,8 +44,8 @@ impl<E: Searchable> Marks<E> {
         }
     }
 
-    /// Saves the present state in the first free snapshot, which is no mark until `keep` is called. If no snapshot is free,
-    /// the oldest mark is forgotten. Returns whether there is room for any mark; if not, nothing changes.
+    /// Saves the current state in the first free snapshot, which becomes a mark when `keep` is called. If no snapshot
+    /// is free, the oldest mark is forgotten. Returns whether there is room for any mark; if not, nothing changes.
     pub fn prepare(&mut self, engine: &E) -> bool
         requires twins { AreTwins E.saved self.old (E.state engine.now) }
         ensures same { result ≡ false → self.new ≡ self.old }
@@ -88,7 +81,7 @@ impl<E: Searchable> Marks<E> {
         self.held = self.held + 1;
     }
 
-    /// Marks the present state. If no room is left, the oldest mark is forgotten.
+    /// Marks the current state. If no room is left, the oldest mark is forgotten.
     pub fn mark(&mut self, engine: &E)
         requires twins { AreTwins E.saved self.old (E.state engine.now) }
         ensures held { held_of E.saved self.new ≡ latest (room_of self.old) (held_of E.saved self.old ++ E.state engine.now ∷ []) }

@@ -1,4 +1,4 @@
-//! Fills the named lights: by letters, and first where it failed before.
+//! Fills the named lights letter by letter, first where the search failed before.
 pub(crate) mod checks;
 mod choice;
 mod frame;
@@ -20,21 +20,22 @@ use crate::repeats::has_repeat;
 use crate::scan::light_count;
 use crate::search::{Filling, fill};
 use crate::stack::Stack;
-use std::alloc::Global;
+use std::alloc::{AllocError, Global};
 use xw_feas::edit::Refusal;
 use xw_feas::feasible::Feasible;
 use xw_feas::searchable::Searchable;
 use xw_grid::cell::LightName;
 use xw_grid::fault::GridFault;
 
-/// The most marks that a search has room for. Beyond these it goes back by emptying cells.
+/// The greatest number of marks that a search has room for. To go back further, it empties cells.
 const MARKS: usize = 24;
 
-/// How many placements the search of `fill` gets first with seed 0, so that the good words of a sorted list come first.
+/// How many placements the search of `fill` gets first with seed 0, so that the good words of a sorted list come
+/// first.
 const FIRST: u64 = 500;
 
-/// What a search leaves to the next one with the same seed and lights, which then goes on. It is a hint: it decides in
-/// which order the next search tries cells and letters, and nothing else.
+/// The hint that a search leaves. The next search continues from it if it has the same seed and lights. A hint decides
+/// only the order in which a search tries cells and letters.
 #[derive(Drop)]
 pub struct Hint {
     names: Vec<LightName>,
@@ -42,45 +43,36 @@ pub struct Hint {
 }
 
 impl Hint {
-    /// The hint for a search that has not begun. It is refused only if an allocation fails.
+    /// The hint for a search that has not begun.
     fn new<E: Feasible>(
         alloc: Global,
         engine: &E,
         names: &[LightName],
         seed: u64,
-    ) -> Result<Hint, Refusal>
-        ensures { IfErr result (λ refusal. refusal ≡ Refusal.Grid GridFault.Memory) }
-    {
-        let lights = light_count(engine);
-        let graded = engine.bank().is_graded();
-        match (
-            Vec::from_slice(alloc, names),
-            Effort::new(alloc, lights, seed, graded),
-        ) {
-            (Ok(names), Ok(effort)) => Ok(Hint { names, effort }),
-            _ => Err(Refusal::Grid(GridFault::Memory)),
-        }
+    ) -> Result<Hint, AllocError> {
+        let names = Vec::from_slice(alloc, names)?;
+        let effort = Effort::new(alloc, light_count(engine), seed, engine.bank().is_graded())?;
+        Ok(Hint { names, effort })
     }
 
-    /// Whether it is from a search with these lights and this seed.
+    /// Whether the hint is from a search with these lights and this seed.
     fn is_of(&self, names: &[LightName], seed: u64) -> bool {
         self.effort.seed == seed && self.names.as_slice() == names
     }
 }
 
-/// Runs the search again and again, each time with a later cut, until it ends.
+/// Repeats the search, each time with a later cut, until it ends.
 fn run_again<E: Searchable>(
     engine: &mut E,
     stack: &mut Stack<E, Frame>,
     plan: &Plan,
     effort: &mut Effort,
-) -> Result<Filling, Refusal>
+) -> Result<Filling, AllocError>
     requires plan { IsPlan (position_of (E.state engine.old)) plan.now }
     requires open { IsOpen (flags plan.now.named.items) (position_of (E.state engine.old)) (entries_of (E.state engine.old)) }
     requires ready { IsReady E.saved stack.old (E.state engine.old) }
     ensures ok { IfOk result (IsAutofilled (flags plan.now.named.items) (E.state engine.old) (E.state engine.new)) }
     ensures entered { IfOk result (HasEntered (flags plan.now.named.items) (E.state engine.old) (E.state engine.new)) }
-    ensures memory { IfErr result (λ refusal. refusal ≡ Refusal.Grid GridFault.Memory) }
     ensures unchanged { OnErr result (E.state engine.new ≡ E.state engine.old) }
 {
     loop {
@@ -89,7 +81,7 @@ fn run_again<E: Searchable>(
             Ending::Filled => return Ok(Filling::Filled),
             Ending::NoFill => return Ok(Filling::NoFill),
             Ending::Limit => return Ok(Filling::Limit),
-            Ending::Memory => return Err(Refusal::Grid(GridFault::Memory)),
+            Ending::Memory => return Err(AllocError),
             Ending::Cut => {
                 effort.cut = cut.saturating_mul(2);
                 effort.weighted = effort.graded && !effort.weighted;
@@ -105,17 +97,16 @@ pub(crate) fn fill_planned<E: Searchable>(
     plan: &Plan,
     limit: u64,
     effort: &mut Effort,
-) -> Result<Filling, Refusal>
+) -> Result<Filling, AllocError>
     requires plan { IsPlan (position_of (E.state engine.old)) plan.now }
     ensures ok { IfOk result (IsAutofilled (flags plan.now.named.items) (E.state engine.old) (E.state engine.new)) }
     ensures entered { IfOk result (HasEntered (flags plan.now.named.items) (E.state engine.old) (E.state engine.new)) }
-    ensures memory { IfErr result (λ refusal. refusal ≡ Refusal.Grid GridFault.Memory) }
     ensures unchanged { OnErr result (E.state engine.new ≡ E.state engine.old) }
 {
     if first_dead(engine, &plan.watched).is_some() {
         return Ok(Filling::NoFill);
     }
-    let repeats = has_repeat(alloc, engine).map_err(|_| Refusal::Grid(GridFault::Memory))?;
+    let repeats = has_repeat(alloc, engine)?;
     if repeats {
         return Ok(Filling::NoFill);
     }
@@ -132,16 +123,15 @@ fn fill_flagged<E: Searchable>(
     named: Vec<bool>,
     limit: u64,
     effort: &mut Effort,
-) -> Result<Filling, Refusal>
+) -> Result<Filling, AllocError>
     ensures ok { IfOk result (IsAutofilled (flags named.items) (E.state engine.old) (E.state engine.new)) }
-    ensures memory { IfErr result (λ refusal. refusal ≡ Refusal.Grid GridFault.Memory) }
     ensures unchanged { OnErr result (E.state engine.new ≡ E.state engine.old) }
 {
     let plan = Plan::of(alloc, engine, named)?;
     fill_planned(alloc, engine, &plan, limit, effort)
 }
 
-/// Sets the flag of each named light. Returns `NoLight` if a name is that of no light.
+/// Sets the flag of each named light. Returns `NoLight` if one of the names belongs to no light.
 fn flag_lights<E: Feasible>(
     engine: &E,
     names: &[LightName],
@@ -160,8 +150,8 @@ fn flag_lights<E: Feasible>(
     Ok(())
 }
 
-/// A flag for each light: whether its name is in a list. Returns `NoLight` if a name is that of no light, and `Memory` if
-/// an allocation fails.
+/// A flag for each light: whether its name is in a list. Returns `NoLight` if one of the names belongs to no light,
+/// and `Memory` if an allocation fails.
 pub(crate) fn flags_of<E: Feasible>(
     alloc: Global,
     engine: &E,
@@ -171,23 +161,21 @@ pub(crate) fn flags_of<E: Feasible>(
     ensures ok { IfOk result (λ named. AreFlags (E.state engine.now) names.now named.items) }
     ensures refused { IfErr result (IsRefusal (E.state engine.now) names.now) }
 {
-    let mut named = vec![in alloc; false; light_count(engine)].map_err(|_| Refusal::Grid(
-        GridFault::Memory,
-    ))?;
+    let mut named = vec![in alloc; false; light_count(engine)]?;
     flag_lights(engine, names, &mut named)?;
     Ok(named)
 }
 
 /// A set flag for each light.
-pub(crate) fn all_lights<E: Feasible>(alloc: Global, engine: &E) -> Result<Vec<bool>, Refusal>
-    ensures ok { IfOk result (λ named. named.items ≡ replicate (light_count (position_of (E.state engine.now))) true) }
-    ensures memory { IfErr result (λ refusal. refusal ≡ Refusal.Grid GridFault.Memory) }
+pub(crate) fn all_lights<E: Feasible>(alloc: Global, engine: &E) -> Result<Vec<bool>, AllocError>
+    ensures { IfOk result (λ named. named.items ≡ replicate (light_count (position_of (E.state engine.now))) true) }
 {
-    vec![in alloc; true; light_count(engine)].map_err(|_| Refusal::Grid(GridFault::Memory))
+    vec![in alloc; true; light_count(engine)]
 }
 
-/// How many placements the search of `fill` gets first: none with another seed than 0, which asks for another fill, and
-/// none if words have different grades, which the search by letters goes by.
+/// How many placements the search of `fill` gets before the search by letters. It gets none with a seed other than 0,
+/// which asks for another fill. It gets none if words have different grades, since only the search by letters uses
+/// grades.
 fn first_share(limit: u64, effort: &Effort) -> u64
     ensures { result ≤ limit }
 {
@@ -204,9 +192,8 @@ fn all_by_letters<E: Searchable>(
     engine: &mut E,
     limit: u64,
     effort: &mut Effort,
-) -> Result<Filling, Refusal>
+) -> Result<Filling, AllocError>
     ensures ok { IfOk result (IsAutofilled (λ light. true) (E.state engine.old) (E.state engine.new)) }
-    ensures memory { IfErr result (λ refusal. refusal ≡ Refusal.Grid GridFault.Memory) }
     ensures unchanged { OnErr result (E.state engine.new ≡ E.state engine.old) }
 {
     let named = all_lights(alloc, engine)?;
@@ -233,10 +220,11 @@ fn fill_all<E: Searchable>(
     if first == limit {
         return Ok(Filling::Limit);
     }
-    all_by_letters(alloc, engine, limit - first, effort)
+    Ok(all_by_letters(alloc, engine, limit - first, effort)?)
 }
 
-/// Fills the named lights, or all lights if the list of names is empty. A search that goes on has only letters left to try.
+/// Fills the named lights, or all lights if the list of names is empty. A search that continues an earlier one tries
+/// letters only.
 fn fill_named<E: Searchable>(
     alloc: Global,
     engine: &mut E,
@@ -250,14 +238,14 @@ fn fill_named<E: Searchable>(
     ensures unchanged { OnErr result (E.state engine.new ≡ E.state engine.old) }
 {
     if names.is_empty() {
-        return if goes_on {
-            all_by_letters(alloc, engine, limit, effort)
+        return Ok(if goes_on {
+            all_by_letters(alloc, engine, limit, effort)?
         } else {
-            fill_all(alloc, engine, limit, effort)
-        };
+            fill_all(alloc, engine, limit, effort)?
+        });
     }
     let named = flags_of(alloc, engine, names)?;
-    fill_flagged(alloc, engine, named, limit, effort)
+    Ok(fill_flagged(alloc, engine, named, limit, effort)?)
 }
 
 /// The effort of a hint if it is from a search with these lights and this seed.
@@ -273,13 +261,14 @@ fn effort_of<'a>(
 }
 
 /// Fills the named lights, or all lights if the list of names is empty, with at most `limit` placements of words or
-/// letters. The seed turns the order of ties, so another seed leads to another fill. The state changes only for `Filled`.
+/// letters. The seed decides the order of ties, so another seed leads to another fill. The state changes only for
+/// `Filled`.
 ///
-/// A search that ends with `Limit` leaves a hint. The next search with the same names and seed goes on with it, so that
-/// a search in slices comes as far as a single one. Pass `None`, or the hint of a search from the same state: the answer
+/// A search that ends with `Limit` leaves a hint. The next search with the same names and seed continues from it, so a
+/// search in slices gets as far as a single one. Pass `None`, or the hint of a search from the same state: the answer
 /// depends on the state, the names, the limit, the seed and the hint alone. An error leaves the hint as it was.
 ///
-/// Returns `NoLight` if a name is that of no light, and `Memory` if an allocation fails.
+/// Returns `NoLight` if one of the names belongs to no light, and `Memory` if an allocation fails.
 pub fn autofill<E: Searchable>(
     alloc: Global,
     engine: &mut E,

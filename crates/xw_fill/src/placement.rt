@@ -21,8 +21,8 @@ pub trait Placement: Copy {
         requires { may_place self.now (E.state engine.old) }
         ensures { is_placed self.now (E.state engine.old) (E.state engine.new) };
 
-    /// Places it, unless a watched light has no feasible word then: the engine may stop at such a light, and returns it.
-    /// Then nothing changes. `mark` holds the state.
+    /// Places it. If this leaves a watched light without a feasible word, the engine may return that light instead,
+    /// and then nothing changes. `mark` holds the current state.
     fn try_place<E: Searchable>(
         &self,
         engine: &mut E,

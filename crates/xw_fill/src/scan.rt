@@ -36,10 +36,7 @@ pub fn light_at<E: Feasible>(engine: &E, light: usize) -> Light
     requires { light < light_count (position_of (E.state engine.now)) }
     ensures { result ≡ slice_index_or (lights_of (E.state engine.now).grid) light no_light }
 {
-    match engine.lights().get(light) {
-        Some(light) => light,
-        None => unreachable!(),
-    }
+    engine.lights().at(light)
 }
 
 /// Returns the name of the light at an index.
@@ -170,7 +167,8 @@ pub(crate) enum Scan {
     Open(Option<usize>),
 }
 
-/// Scans all lights, with one count of words per light. `since` must have a note for exactly the wholly entered lights.
+/// Scans all lights, with one count of words per light. `since` must have a note for exactly the wholly entered
+/// lights.
 pub(crate) fn scan_lights<E: Feasible>(engine: &E, since: &[Option<usize>]) -> Scan
     requires long { length since.now ≡ light_count (position_of (E.state engine.now)) }
     requires entered { AreEntered (position_of (E.state engine.now)) (has_note since.now) }

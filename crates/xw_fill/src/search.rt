@@ -1,10 +1,12 @@
 //! The search for a fill: depth first, with the words of each light in dictionary order.
-ghost use Rattle.std.specs.Prelude.{◌≡◌, ◌<◌, ◌≤◌, ◌∷◌, ◌++◌, false, suc, [], length, IfOk, IfErr, OnErr};
+ghost use Rattle.std.specs.Prelude.{◌≡◌, ◌<◌, ◌≤◌, false, suc, length, IfOk, IfErr, OnErr, IfSome, IfNone};
 ghost use Rattle.std.specs.Vec.{vec_capacity};
-ghost use Rattle.xw_fill.specs.Position.{position_of};
+ghost use Rattle.xw_fill.specs.Position.{position_of, DiffersInEntries};
 ghost use Rattle.xw_fill.specs.Search.{is_dead, light_count, unentered_count};
-ghost use Rattle.xw_fill.specs.Inner.Stack.{start_of, StandsAt};
+ghost use Rattle.xw_fill.specs.Inner.Stack.{start_of, StandsAt, HasTried};
+ghost use Rattle.xw_fill.specs.NamedFill.{flags};
 ghost use Rattle.xw_fill.specs.Inner.Tries.{CanBeMade, IsMade};
+ghost use Rattle.xw_fill.specs.Inner.Stepping.{HasPlaced, HasDied};
 ghost use Rattle.xw_fill.specs.Inner.Noted.{noted, AreEntered, StayNoted};
 ghost use Rattle.xw_fill.specs.Filling.{IsFilling, HasFill, UnlessFilled, unless_repeated, outlook};
 
@@ -13,15 +15,15 @@ use crate::repeats::has_repeat;
 use crate::scan::{Scan, light_count, next_word_index, scan_lights, unentered_count};
 use crate::stack::Stack;
 use crate::tries::{Try, make_try};
-use std::alloc::Global;
+use std::alloc::{AllocError, Global};
 use xw_feas::edit::Refusal;
 use xw_feas::feasible::Feasible;
 use xw_feas::searchable::Searchable;
 use xw_grid::fault::GridFault;
 
-/// The most marks that a search has room for. It needs one for each light that is not wholly entered. A placement whose
-/// mark is forgotten is undone by an edit. Each mark takes one snapshot, as the start of the search does: two bits for
-/// each known word of each light's length, and some 440 bytes for each cell.
+/// The most marks that a search has room for. It needs one for each light that is not wholly entered. A placement
+/// whose mark is forgotten is undone by an edit. Each mark takes one snapshot, as the start of the search does: two
+/// bits for each known word of each light's length, and some 440 bytes for each cell.
 const MARKS: usize = 7;
 
 /// How a search for a fill ended.
@@ -65,30 +67,53 @@ fn begin<E: Feasible>(
     alloc: Global,
     engine: &E,
     since: &mut [Option<usize>],
-) -> Result<Next, Refusal>
+) -> Result<Next, AllocError>
     requires { length since.old ≡ light_count (position_of (E.state engine.now)) }
     ensures long { length since.new ≡ length since.old }
     ensures entered { AreEntered (position_of (E.state engine.now)) (noted since.new 1) }
     ensures next { IfOk result (λ next. next ≡ outlook (position_of (E.state engine.now))) }
-    ensures memory { IfErr result (λ refusal. refusal ≡ Refusal.Grid GridFault.Memory) }
 {
     note_entered(engine, since, 0);
     match scan_lights(engine, since) {
         Scan::Blocked => Ok(Next::Spent),
         Scan::Open(chosen) => {
-            let repeats = has_repeat(alloc, engine).map_err(|_| Refusal::Grid(GridFault::Memory))?;
+            let repeats = has_repeat(alloc, engine)?;
             Ok(open_outlook(chosen, repeats))
         }
     }
 }
 
-/// Places a feasible word at a position that is not dead, and returns the next step. The stack has room for it.
+/// Places a word as `Stack::try_place` does. The stack has room for it.
+fn place_word<E: Searchable>(
+    engine: &mut E,
+    stack: &mut Stack<E, Try>,
+    watched: &[bool],
+    tried: Try,
+) -> Option<usize>
+    requires may { CanBeMade tried (E.state engine.old) }
+    requires room { length stack.old.placements.items < vec_capacity stack.old.placements }
+    requires stands { StandsAt E.saved IsMade stack.old (E.state engine.old) }
+    ensures capacity { vec_capacity stack.old.placements ≤ vec_capacity stack.new.placements }
+    ensures start { start_of E.saved stack.new ≡ start_of E.saved stack.old }
+    ensures entries { DiffersInEntries (E.state engine.old) (E.state engine.new) }
+    ensures stands { StandsAt E.saved IsMade stack.new (E.state engine.new) }
+    ensures tried { HasTried IsMade (flags watched.now) tried (E.state engine.old) stack.old.placements.items (E.state engine.new) stack.new.placements.items result }
+{
+    match stack.try_place(engine, tried, watched) {
+        Ok(dead) => dead,
+        Err(_) => unreachable!(),
+    }
+}
+
+/// Places a feasible word at a position that is not dead, and returns the next step. Returns `None`, and changes
+/// nothing, if the engine stopped at a light without a feasible word. The stack has room for the word.
 fn try_word<E: Searchable>(
     engine: &mut E,
     stack: &mut Stack<E, Try>,
     since: &mut [Option<usize>],
+    watched: &[bool],
     tried: Try,
-) -> Next
+) -> Option<Next>
     requires may { CanBeMade tried (E.state engine.old) }
     requires alive { is_dead (position_of (E.state engine.old)) ≡ false }
     requires room { length stack.old.placements.items < vec_capacity stack.old.placements }
@@ -97,21 +122,22 @@ fn try_word<E: Searchable>(
     requires entered { AreEntered (position_of (E.state engine.old)) (noted since.old (suc (length stack.old.placements.items))) }
     ensures long { length since.new ≡ length since.old }
     ensures stay { StayNoted (suc (length stack.old.placements.items)) since.old since.new }
-    ensures entered { AreEntered (position_of (E.state engine.new)) (noted since.new (suc (suc (length stack.old.placements.items)))) }
-    ensures made { IsMade tried (E.state engine.old) (E.state engine.new) }
-    ensures tries { stack.new.placements.items ≡ stack.old.placements.items ++ tried ∷ [] }
     ensures capacity { vec_capacity stack.old.placements ≤ vec_capacity stack.new.placements }
     ensures start { start_of E.saved stack.new ≡ start_of E.saved stack.old }
+    ensures entries { DiffersInEntries (E.state engine.old) (E.state engine.new) }
     ensures stands { StandsAt E.saved IsMade stack.new (E.state engine.new) }
-    ensures next { result ≡ outlook (position_of (E.state engine.new)) }
+    ensures placed { IfSome result (λ next. HasPlaced tried (E.state engine.old) stack.old.placements.items (E.state engine.new) stack.new.placements.items since.new next) }
+    ensures died { IfNone result (HasDied tried (E.state engine.old) stack.old.placements.items (E.state engine.new) stack.new.placements.items since.old since.new) }
 {
-    let _ = stack.place(engine, tried);
+    if let Some(_dead) = place_word(engine, stack, watched, tried) {
+        return None;
+    }
     let placement = stack.len();
     note_entered(engine, since, placement);
-    match scan_lights(engine, since) {
+    Some(match scan_lights(engine, since) {
         Scan::Blocked => Next::Spent,
         Scan::Open(chosen) => open_outlook(chosen, has_new_repeat(engine, since, placement)),
-    }
+    })
 }
 
 /// Returns how many marks a search makes room for. `next` is its first step; a search that ends there needs none.
@@ -126,8 +152,9 @@ fn marks_for<E: Feasible>(engine: &E, next: Next) -> usize
 }
 
 /// Fills the grid with at most `limit` placements. The engine changes only for `Filled`. Returns `Memory` if an
-/// allocation fails, and then leaves the engine unchanged. All memory is allocated before the first placement: a try and
-/// a note for each light, a snapshot of the start, and one for each light that is not wholly entered, up to `MARKS`.
+/// allocation fails, and then leaves the engine unchanged. All memory is allocated before the first placement: a try,
+/// a note and a flag for each light, a snapshot of the start, and one for each light that is not wholly entered, up to
+/// `MARKS`.
 pub fn fill<E: Searchable>(alloc: Global, engine: &mut E, limit: u64) -> Result<Filling, Refusal>
     ensures found { IfOk result (IsFilling limit (E.state engine.old) (E.state engine.new)) }
     ensures fill { IfOk result (HasFill (E.state engine.old) (E.state engine.new)) }
@@ -136,7 +163,8 @@ pub fn fill<E: Searchable>(alloc: Global, engine: &mut E, limit: u64) -> Result<
     ensures answers { IfOk result (λ filling. UnlessFilled filling (E.answers engine.new ≡ E.answers engine.old)) }
 {
     let count = light_count(engine);
-    let mut since = vec![in alloc; None; count].map_err(|_| Refusal::Grid(GridFault::Memory))?;
+    let mut since = vec![in alloc; None; count]?;
+    let all = vec![in alloc; true; count]?;
     let mut used = 0;
     let mut next = begin(alloc, engine, since.as_mut_slice())?;
     let mut stack: Stack<E, Try> = Stack::new(alloc, engine, count, marks_for(engine, next))?;
@@ -156,7 +184,10 @@ pub fn fill<E: Searchable>(alloc: Global, engine: &mut E, limit: u64) -> Result<
                     }
                     used += 1;
                     let tried = make_try(engine, light, index);
-                    next = try_word(engine, &mut stack, since.as_mut_slice(), tried);
+                    match try_word(engine, &mut stack, since.as_mut_slice(), &all, tried) {
+                        Some(placed) => next = placed,
+                        None => next = Next::Words(light, index + 1),
+                    }
                 }
             },
         }

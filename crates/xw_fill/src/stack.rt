@@ -1,5 +1,5 @@
 //! The stack of a search: what it has placed, and the way back.
-ghost use Rattle.std.specs.Prelude.{◌≡◌, ◌<◌, ◌≤◌, [], ◌∷◌, ◌++◌, length, true, is_ok, IfOk, IfErr, IfSome, IfNone, OnOk, OnErr};
+ghost use Rattle.std.specs.Prelude.{◌≡◌, ◌<◌, ◌≤◌, [], ◌∷◌, ◌++◌, length, true, is_ok, IfOk, IfSome, IfNone, OnOk, OnErr};
 ghost use Rattle.std.specs.Option.{option_to_list};
 ghost use Rattle.std.specs.Vec.{vec_capacity};
 ghost use Rattle.xw_feas.specs.State.{State};
@@ -11,33 +11,33 @@ ghost use Rattle.xw_fill.specs.NamedFill.{flags};
 use crate::marks::Marks;
 use crate::placement::Placement;
 use std::alloc::{AllocError, Global};
-use xw_feas::edit::Refusal;
 use xw_feas::searchable::Searchable;
-use xw_grid::fault::GridFault;
 
-/// The placements of a search in order, with a snapshot of the state where it began, and marks of the states before the
-/// last placements. The stack goes back by a mark or, if that is forgotten, by an edit.
+/// The placements of a search in order, with a snapshot of the state where it began, and marks of the states before
+/// the last placements. The stack goes back by a mark or, if that is forgotten, by an edit.
 #[derive(Drop)]
 pub struct Stack<E: Searchable, M: Placement> {
     root: E::Snapshot,
     marks: Marks<E>,
     placements: Vec<M>,
-    /// Whether the first free snapshot of the marks holds the present state.
+    /// Whether the first free snapshot of the marks holds the current state.
     is_prepared: bool,
 }
 
 impl<E: Searchable, M: Placement> Stack<E, M> {
     /// Allocates a stack for `room` placements and `marks` marks.
-    pub fn new(alloc: Global, engine: &E, room: usize, marks: usize) -> Result<Stack<E, M>, Refusal>
+    pub fn new(
+        alloc: Global,
+        engine: &E,
+        room: usize,
+        marks: usize,
+    ) -> Result<Stack<E, M>, AllocError>
         ensures empty { IfOk result (λ stack. stack.placements.items ≡ []) }
         ensures room { IfOk result (λ stack. room ≤ vec_capacity stack.placements) }
         ensures start { IfOk result (λ stack. start_of E.saved stack ≡ E.state engine.now) }
         ensures stands { IfOk result (λ stack. StandsAt E.saved M.is_placed stack (E.state engine.now)) }
-        ensures memory { IfErr result (λ refusal. refusal ≡ Refusal.Grid GridFault.Memory) }
     {
-        let placements = Vec::with_capacity(alloc, room).map_err(|_| Refusal::Grid(
-            GridFault::Memory,
-        ))?;
+        let placements = Vec::with_capacity(alloc, room)?;
         let root = engine.snapshot()?;
         let marks = Marks::new(alloc, engine, marks)?;
         Ok(Stack {
@@ -48,7 +48,7 @@ impl<E: Searchable, M: Placement> Stack<E, M> {
         })
     }
 
-    /// Begins a search at the present state: forgets all placements and marks.
+    /// Begins a search at the current state: forgets all placements and marks.
     pub fn begin(&mut self, engine: &E)
         requires ready { IsReady E.saved self.old (E.state engine.now) }
         ensures empty { self.new.placements.items ≡ [] }
@@ -92,7 +92,8 @@ impl<E: Searchable, M: Placement> Stack<E, M> {
         Ok(())
     }
 
-    /// Saves the present state in the marks, unless it was saved there. Returns whether there is room for marks.
+    /// Saves the current state in the marks, unless it is saved there already. Returns whether there is room for
+    /// marks.
     fn prepare(&mut self, engine: &E) -> bool
         requires stands { StandsAt E.saved M.is_placed self.old (E.state engine.now) }
         ensures stands { StandsAt E.saved M.is_placed self.new (E.state engine.now) }
@@ -110,9 +111,9 @@ impl<E: Searchable, M: Placement> Stack<E, M> {
         true
     }
 
-    /// Places a word or a letter, unless a watched light has no feasible word then: the engine may stop at such a light, and
-    /// returns it. Then the state and the placements stay. Returns an error if the stack has no room left and an allocation
-    /// fails, and then changes nothing.
+    /// Places a word or a letter. If this leaves a watched light without a feasible word, the engine may return that
+    /// light instead, and then the state and the placements stay as they were. Returns an error if the stack has no
+    /// room left and an allocation fails, and then changes nothing.
     pub fn try_place(
         &mut self,
         engine: &mut E,
@@ -121,6 +122,8 @@ impl<E: Searchable, M: Placement> Stack<E, M> {
     ) -> Result<Option<usize>, AllocError>
         requires may { M.may_place placement (E.state engine.old) }
         requires stands { StandsAt E.saved M.is_placed self.old (E.state engine.old) }
+        ensures room { length self.old.placements.items < vec_capacity self.old.placements → is_ok result ≡ true }
+        ensures capacity { vec_capacity self.old.placements ≤ vec_capacity self.new.placements }
         ensures start { start_of E.saved self.new ≡ start_of E.saved self.old }
         ensures entries { DiffersInEntries (E.state engine.old) (E.state engine.new) }
         ensures stands { StandsAt E.saved M.is_placed self.new (E.state engine.new) }

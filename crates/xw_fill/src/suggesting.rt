@@ -24,7 +24,8 @@ pub enum Suggestion {
     NoWord(LightName),
 }
 
-/// Returns whether every light still has a feasible word after a word is placed in a light. Leaves the state as it was.
+/// Returns whether every light still has a feasible word after a word is placed in a light. Leaves the state as it
+/// was.
 fn can_be_placed<E: Feasible>(engine: &mut E, light: usize, index: usize) -> bool
     requires tried { IsTriedAt (position_of (E.state engine.old)) light index }
     ensures found { result ≡ is_none (first_blocked (placed (position_of (E.state engine.old)) light (slice_index_or (spellings_at (position_of (E.state engine.old)) light) index []))) }

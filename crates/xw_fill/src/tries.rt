@@ -1,18 +1,24 @@
 //! Trial placements of words, and how to undo them.
-ghost use Rattle.std.specs.Prelude.{◌≡◌, ◌<◌, ◌≤◌, length, slice_index_or, []};
+ghost use Rattle.std.specs.Prelude.{◌≡◌, ◌<◌, ◌≤◌, length, take, slice_index_or, [], IfSome, IfNone};
 ghost use Rattle.xw_feas.specs.Board.{board_of, light_at};
+ghost use Rattle.xw_feas.specs.State.{State};
 ghost use Rattle.xw_fill.specs.Position.{position_of, placed, DiffersInEntries};
 ghost use Rattle.xw_fill.specs.Search.{light_count};
 ghost use Rattle.xw_fill.specs.Suggesting.{IsTriedAt};
-ghost use Rattle.xw_fill.specs.Inner.Tries.{taken_back, AreBlanks, CanBeMade, IsMade};
+ghost use Rattle.xw_fill.specs.NamedFill.{flags};
+ghost use Rattle.xw_fill.specs.Inner.Progress.{IsDead};
+ghost use Rattle.xw_fill.specs.Inner.Tries.{taken_back, AreBlanks, CanBeMade, IsMade, IsWordPlaced};
 ghost use Rattle.xw_fill.specs.Words.{spellings_at};
 
 use crate::placement::Placement;
 use crate::scan::{board, light_at};
 use xw_feas::board::{Board, Cells};
-use xw_feas::edit::Edit;
+use xw_feas::dictionary::known_distinct;
+use xw_feas::edit::{Edit, EntryEdit};
 use xw_feas::feasible::Feasible;
+use xw_feas::searchable::Searchable;
 use xw_grid::cell::Cell;
+use xw_letters::letter::Letter;
 use xw_words::word::LONGEST;
 
 /// A placement that can be undone: the light, the index of the placed word, and which of the light's cells were empty
@@ -62,6 +68,44 @@ fn place_word<E: Feasible>(engine: &mut E, light: usize, index: usize)
     engine.place_word_at(light, index);
 }
 
+/// Writes the codes of letters to the start of an array.
+fn spell_bytes(bytes: &mut [u8], letters: &[Letter])
+    requires { length letters.now ≤ length bytes.old }
+    ensures { take (length letters.now) bytes.new ≡ letters.now }
+{
+    for (k, letter) in letters.iter().enumerate() {
+        bytes[k] = letter.byte();
+    }
+}
+
+/// Places the known word with this index in a light. If this leaves a watched light without a feasible word, the
+/// engine may return that light instead, and then nothing changes.
+fn try_word<E: Searchable>(
+    engine: &mut E,
+    light: usize,
+    index: usize,
+    watched: &[bool],
+    mark: &E::Snapshot,
+) -> Option<usize>
+    requires light { light < light_count (position_of (E.state engine.old)) }
+    requires index { index < length (spellings_at (position_of (E.state engine.old)) light) }
+    requires marked { E.saved mark.now ≡ E.state engine.old }
+    ensures placed { IfNone result (IsWordPlaced light index (E.state engine.old) (E.state engine.new)) }
+    ensures same { IfSome result (λ dead. E.state engine.new ≡ E.state engine.old) }
+    ensures dead { IfSome result (λ dead. (there : State) × IsWordPlaced light index (E.state engine.old) there × IsDead (flags watched.now) (position_of there) dead) }
+{
+    engine.grid().well_formed();
+    known_distinct(engine.bank());
+    let found = light_at(engine, light);
+    let len = found.size as usize;
+    let mut bytes = [0; LONGEST];
+    spell_bytes(&mut bytes, engine.bank().word(len, index));
+    match engine.try_edit(&EntryEdit::Place(found.name, &bytes[..len]), watched, mark) {
+        Ok(dead) => dead,
+        Err(_) => unreachable!(),
+    }
+}
+
 /// Undoes a placement: clears the cells that were empty before it, in one edit.
 fn clear_blanks<E: Feasible>(engine: &mut E, tried: &Try)
     requires { tried.now.light < light_count (position_of (E.state engine.old)) }
@@ -90,6 +134,15 @@ impl Placement for Try {
 
     fn place<E: Feasible>(&self, engine: &mut E) {
         place_word(engine, self.light, self.index);
+    }
+
+    fn try_place<E: Searchable>(
+        &self,
+        engine: &mut E,
+        watched: &[bool],
+        mark: &E::Snapshot,
+    ) -> Option<usize> {
+        try_word(engine, self.light, self.index, watched, mark)
     }
 
     fn take_back<E: Feasible>(&self, engine: &mut E) {

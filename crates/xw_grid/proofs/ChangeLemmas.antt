@@ -44,14 +44,14 @@ light_with opens grid direction cell = record {
 abbrev light_from_with : (Cell → Bool) → Grid → Cell → Direction → List Light
 light_from_with opens grid cell direction = cond (begins_with opens grid direction cell) (light_with opens grid direction cell ∷ []) []
 
-abbrev lights_with : (Cell → Bool) → Grid → List Light
+abbrev pub lights_with : (Cell → Bool) → Grid → List Light
 lights_with opens grid = flat_map (λ cell. light_from_with opens grid cell Across ++ light_from_with opens grid cell Down) (cells grid)
 
 lights_are_with : (grid : Grid) → lights_of grid ≡ lights_with (is_open grid) grid
 lights_are_with grid = refl
 
 -- the same open cells give the same lights
-same_opens : (grid : Grid) (opens : Cell → Bool) → ((cell : Cell) → opens cell ≡ is_open grid cell) → lights_with opens grid ≡ lights_of grid
+pub same_opens : (grid : Grid) (opens : Cell → Bool) → ((cell : Cell) → opens cell ≡ is_open grid cell) → lights_with opens grid ≡ lights_of grid
 same_opens grid opens same = ap (λ test. lights_with test grid) (λ i cell. same cell i)
 
 -- ---- writing an entry

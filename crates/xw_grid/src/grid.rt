@@ -1,5 +1,5 @@
-//! Grids: the type, its constructors and copies, its size and its squares. The modules below read and edit entries, blocks,
-//! bars and the symmetry.
+//! Grids: the type, its constructors and copies, its size and its squares. The modules below read and edit entries,
+//! blocks, bars and the symmetry.
 mod bars;
 mod blocks;
 mod entries;

@@ -1,7 +1,7 @@
 //! The lights of a grid and their numbers.
-ghost use Rattle.std.specs.Prelude.{◌≡◌, ℕ, ◌+◌, ◌++◌, ◌<◌, ◌≤◌, ◌^◌, true, List, Some, None, slice_get, IfOk, OnOk, IsOkUnless, length, if◌then◌else◌, ◌&&◌, ◌==◌};
+ghost use Rattle.std.specs.Prelude.{◌≡◌, ℕ, ◌+◌, ◌++◌, ◌<◌, ◌≤◌, ◌^◌, true, List, Some, None, slice_get, slice_index_or, IfOk, OnOk, IsOkUnless, length, if◌then◌else◌, ◌&&◌, ◌==◌};
 ghost use Rattle.xw_grid.specs.Grid.{is_inside, same_cell};
-ghost use Rattle.xw_grid.specs.Light.{is_joined as is_joined_to_next, begins as begins_light, previous as cell_before, begins_some as begins_some_light, step as cell_after, run_from, light_from, lights_at, lights_of, number_at, same_name, index_named, index_through, index_with_cells, number_in, same_name, name_before};
+ghost use Rattle.xw_grid.specs.Light.{is_joined as is_joined_to_next, begins as begins_light, previous as cell_before, begins_some as begins_some_light, step as cell_after, run_from, light_from, lights_at, lights_of, number_at, same_name, index_named, index_through, index_with_cells, number_in, same_name, name_before, no_light};
 ghost use Rattle.xw_grid.specs.LightLaws.{LightsAreLights, LightsAreAll, LightsBegin, LightsAreOrdered, LightsAreApart, LightsAreFew, LightsMeetOnce};
 ghost use Rattle.xw_grid.specs.LightTable.{IsLightTable, number_of_start, is_such};
 ghost use Rattle.std.specs.Option.{option_and_then};
@@ -82,6 +82,14 @@ impl Lights {
         ensures { result ≡ slice_get self.now index }
     {
         self.lights.get(index).copied()
+    }
+
+    /// The light at an index.
+    pub fn at(&self, index: usize) -> Light
+        requires { index < length self.now }
+        ensures { result ≡ slice_index_or self.now index no_light }
+    {
+        self.lights[index]
     }
 
     /// The index of the light with this name, found by binary search; `None` if there is none.

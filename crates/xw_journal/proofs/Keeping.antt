@@ -19,7 +19,7 @@ use Rattle.xw_lines.specs.Spoken.{NeverStops, broken_by}
 use Rattle.xw_lines.specs.declared.outcome.AnswerFault.{AnswerFault}
 use Rattle.xw_lines.specs.declared.outcome.AnswerFault.TheVariants.{WriteFailed, Stopped}
 use Rattle.xw_lines.specs.declared.outcome.Step.TheVariants.{Accepted}
-use Rattle.xw_feas.specs.State.{State as Position}
+use Rattle.xw_feas.specs.State.{State as EngineState}
 use Rattle.xw_answers.specs.declared.refusal.Refusal.{Refusal}
 use Rattle.xw_session.specs.State.{State}
 use Rattle.xw_session.specs.Resuming.{MayBeDone}
@@ -43,59 +43,59 @@ same_size grid = record { width = refl; height = refl }
 abbrev done : Reply → Result Reply Refusal
 done reply = Ok reply
 
-reply_size : (state : State) (given reply : Reply) → done given ≡ done reply → HasSizeOf state.position.grid given.state.position.grid → HasSizeOf state.position.grid reply.state.position.grid
-reply_size state given reply e size = let same : given ≡ reply = cc in subst (λ (r : Reply). HasSizeOf state.position.grid r.state.position.grid) same size
+reply_size : (state : State) (given reply : Reply) → done given ≡ done reply → HasSizeOf state.engine.grid given.state.engine.grid → HasSizeOf state.engine.grid reply.state.engine.grid
+reply_size state given reply e size = let same : given ≡ reply = cc in subst (λ (r : Reply). HasSizeOf state.engine.grid r.state.engine.grid) same size
 
-tried_size : (state : State) (filled : Position) (limit_line fill_line none_line : List ℕ) (many is_found : Bool) (reply : Reply) → HasSizeOf state.position.grid filled.grid
-    → (if many then shown state limit_line else if is_found then Ok (record { lines = fill_line; state = record state { position = filled } }) else shown state none_line) ≡ done reply
-    → HasSizeOf state.position.grid reply.state.position.grid
-tried_size state filled limit_line fill_line none_line true is_found reply size e = reply_size state (record { lines = limit_line; state = state }) reply e (same_size state.position.grid)
-tried_size state filled limit_line fill_line none_line false true reply size e = reply_size state (record { lines = fill_line; state = record state { position = filled } }) reply e size
-tried_size state filled limit_line fill_line none_line false false reply size e = reply_size state (record { lines = none_line; state = state }) reply e (same_size state.position.grid)
+tried_size : (state : State) (filled : EngineState) (limit_line fill_line none_line : List ℕ) (many is_found : Bool) (reply : Reply) → HasSizeOf state.engine.grid filled.grid
+    → (if many then shown state limit_line else if is_found then Ok (record { lines = fill_line; state = record state { engine = filled } }) else shown state none_line) ≡ done reply
+    → HasSizeOf state.engine.grid reply.state.engine.grid
+tried_size state filled limit_line fill_line none_line true is_found reply size e = reply_size state (record { lines = limit_line; state = state }) reply e (same_size state.engine.grid)
+tried_size state filled limit_line fill_line none_line false true reply size e = reply_size state (record { lines = fill_line; state = record state { engine = filled } }) reply e size
+tried_size state filled limit_line fill_line none_line false false reply size e = reply_size state (record { lines = none_line; state = state }) reply e (same_size state.engine.grid)
 
-fill_size : (state : State) (limit : ℕ) (reply : Reply) → fill_tried state limit ≡ Ok reply → HasSizeOf state.position.grid reply.state.position.grid
+fill_size : (state : State) (limit : ℕ) (reply : Reply) → fill_tried state limit ≡ Ok reply → HasSizeOf state.engine.grid reply.state.engine.grid
 fill_size state limit reply e =
-    tried_size state (filled_in state.position (end (position_of state.position)).board.entries) (word_line (filling_name Limit)) (word_line (filling_name Filled)) (word_line (filling_name NoFill))
-    (nat_lt limit (due (position_of state.position))) (found (position_of state.position)) reply (record { width = refl; height = refl }) e
+    tried_size state (filled_in state.engine (end (position_of state.engine)).board.entries) (word_line (filling_name Limit)) (word_line (filling_name Filled)) (word_line (filling_name NoFill))
+    (nat_lt limit (due (position_of state.engine))) (found (position_of state.engine)) reply (record { width = refl; height = refl }) e
 
-autofill_size : (named : ℕ → Bool) (before after : Position) (filling : Filling) → IsAutofilled named before after filling → HasSizeOf before.grid after.grid
-autofill_size named before after Filled (entries, fills, left) = subst (λ (p : Position). HasSizeOf before.grid p.grid) (sym left) (record { width = refl; height = refl })
-autofill_size named before after NoFill (none, left) = subst (λ (p : Position). HasSizeOf before.grid p.grid) (sym left) (same_size before.grid)
-autofill_size named before after Limit left = subst (λ (p : Position). HasSizeOf before.grid p.grid) (sym left) (same_size before.grid)
+autofill_size : (named : ℕ → Bool) (before after : EngineState) (filling : Filling) → IsAutofilled named before after filling → HasSizeOf before.grid after.grid
+autofill_size named before after Filled (entries, fills, left) = subst (λ (p : EngineState). HasSizeOf before.grid p.grid) (sym left) (record { width = refl; height = refl })
+autofill_size named before after NoFill (none, left) = subst (λ (p : EngineState). HasSizeOf before.grid p.grid) (sym left) (same_size before.grid)
+autofill_size named before after Limit left = subst (λ (p : EngineState). HasSizeOf before.grid p.grid) (sym left) (same_size before.grid)
 
-autofilled_size : (state : State) (lights : List LightArg) (reply : Reply) → IsAutofillReply state (names_of lights) reply → HasSizeOf state.position.grid reply.state.position.grid
+autofilled_size : (state : State) (lights : List LightArg) (reply : Reply) → IsAutofillReply state (names_of lights) reply → HasSizeOf state.engine.grid reply.state.engine.grid
 autofilled_size state lights reply a =
-    subst (λ (r : Reply). HasSizeOf state.position.grid r.state.position.grid) (sym a.is) (autofill_size (is_named state.position (names_of lights)) state.position a.position a.filling a.done)
+    subst (λ (r : Reply). HasSizeOf state.engine.grid r.state.engine.grid) (sym a.is) (autofill_size (is_named state.engine (names_of lights)) state.engine a.engine a.filling a.done)
 
-best_size : (named : ℕ → Bool) (before after : Position) (best : Best) → IsBest named before after best → HasSizeOf before.grid after.grid
-best_size named before after (bests.Filled least bound) (filled, proved) = subst (λ (p : Position). HasSizeOf before.grid p.grid) (sym filled.holds) (record { width = refl; height = refl })
-best_size named before after bests.NoFill (none, left) = subst (λ (p : Position). HasSizeOf before.grid p.grid) (sym left) (same_size before.grid)
-best_size named before after (bests.Limit bound) (above, proved, left) = subst (λ (p : Position). HasSizeOf before.grid p.grid) (sym left) (same_size before.grid)
+best_size : (named : ℕ → Bool) (before after : EngineState) (best : Best) → IsBest named before after best → HasSizeOf before.grid after.grid
+best_size named before after (bests.Filled least bound) (filled, proved) = subst (λ (p : EngineState). HasSizeOf before.grid p.grid) (sym filled.holds) (record { width = refl; height = refl })
+best_size named before after bests.NoFill (none, left) = subst (λ (p : EngineState). HasSizeOf before.grid p.grid) (sym left) (same_size before.grid)
+best_size named before after (bests.Limit bound) (above, proved, left) = subst (λ (p : EngineState). HasSizeOf before.grid p.grid) (sym left) (same_size before.grid)
 
-best_filled_size : (state : State) (lights : List LightArg) (reply : Reply) → IsBestReply state (names_of lights) reply → HasSizeOf state.position.grid reply.state.position.grid
+best_filled_size : (state : State) (lights : List LightArg) (reply : Reply) → IsBestReply state (names_of lights) reply → HasSizeOf state.engine.grid reply.state.engine.grid
 best_filled_size state lights reply a =
-    subst (λ (r : Reply). HasSizeOf state.position.grid r.state.position.grid) (sym a.is) (best_size (is_named state.position (names_of lights)) state.position a.position a.best a.done)
+    subst (λ (r : Reply). HasSizeOf state.engine.grid r.state.engine.grid) (sym a.is) (best_size (is_named state.engine (names_of lights)) state.engine a.engine a.best a.done)
 
-search_size : (state : State) (command : Command) (reply : Reply) → kind_of command ≡ Search → (due : Result Reply Refusal) → IsDue state command due → due ≡ Ok reply → HasSizeOf state.position.grid reply.state.position.grid
+search_size : (state : State) (command : Command) (reply : Reply) → kind_of command ≡ Search → (due : Result Reply Refusal) → IsDue state command due → due ≡ Ok reply → HasSizeOf state.engine.grid reply.state.engine.grid
 search_size state (commands.Fill limit) reply e due owed is = fill_size state limit reply (owed ∙ is)
 search_size state (commands.Autofill limit seed lights) reply e due owed is = autofilled_size state lights reply (subst (λ (d : Result Reply Refusal). IsAutofillDue state (names_of lights) d) is owed)
 search_size state (commands.Best limit seed lights) reply e due owed is = best_filled_size state lights reply (subst (λ (d : Result Reply Refusal). IsBestDue state (names_of lights) d) is owed)
 search_size state other reply e due owed is = cc
 
 accepted_size : (state : State) (command : Command) (reply : Result Reply Refusal) (after : State) → kind_of command ≡ Search → Replies state command reply → Accepted ≡ step_of reply → after ≡ state_after state reply
-    → HasSizeOf state.position.grid after.position.grid
-accepted_size state command (Ok reply) after e (due, owed, fits) step is = subst (λ (s : State). HasSizeOf state.position.grid s.position.grid) (sym is) (search_size state command reply e due owed fits)
+    → HasSizeOf state.engine.grid after.engine.grid
+accepted_size state command (Ok reply) after e (due, owed, fits) step is = subst (λ (s : State). HasSizeOf state.engine.grid s.engine.grid) (sym is) (search_size state command reply e due owed fits)
 accepted_size state command (Err refusal) after e replies step is = cc
 
 parsed_size : (state after : State) (parsed : Result (Option Command) SyntaxFault) (answer : List ℕ) → kind_of_line parsed ≡ Search → AnswersParsed state parsed Accepted answer after
-    → HasSizeOf state.position.grid after.position.grid
+    → HasSizeOf state.engine.grid after.engine.grid
 parsed_size state after (Ok (Some command)) answer e (reply, replies, step, is, left) = accepted_size state command reply after e replies step left
 parsed_size state after (Ok None) answer e said = cc
 parsed_size state after (Err fault) answer e said = cc
 
 -- an accepted search keeps the size of the grid
 pub searched_size : (state after : State) (line answer : List ℕ) → kind_of_line (command_of line) ≡ Search → Answers state line Accepted answer after
-    → HasSizeOf state.position.grid after.position.grid
+    → HasSizeOf state.engine.grid after.engine.grid
 searched_size state after line answer e said = parsed_size state after (command_of line) answer e said
 
 -- what is written for a line is what is written for one of its kind

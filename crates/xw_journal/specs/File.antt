@@ -24,7 +24,7 @@ is_whole bytes = nat_eq (length (last_piece bytes)) 0
 abbrev pub form_of : List ℕ → Form
 form_of bytes = if is_part bytes then Begun else if has_first_line bytes then Named else if is_whole bytes then Whole else Cut
 
--- The lines of a file that are executed. A file with the first line may have been cut while it was written: a last line without an LF
--- and a last group without an end do not count. Any other file has all its lines.
+-- The lines of a file that are executed. A file with the first line may have been cut while it was written: a last
+-- line without an LF and a last group without an end do not count. Any other file has all its lines.
 abbrev pub kept_lines : List ℕ → List (List ℕ)
 kept_lines bytes = if has_first_line bytes then complete (ended_lines bytes) else lines_of bytes

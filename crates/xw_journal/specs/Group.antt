@@ -8,7 +8,7 @@ use Rattle.xw_answers.specs.Record.{command_lines}
 abbrev pub begin_line : List ℕ
 begin_line = codes "# xw begin"
 
--- the comment behind a group
+-- the comment after a group
 abbrev pub end_line : List ℕ
 end_line = codes "# xw end"
 
@@ -23,7 +23,7 @@ begins_group line = bytes_eq line begin_line
 abbrev pub ends_group : List ℕ → Bool
 ends_group line = bytes_eq line end_line
 
--- whether a group begins with this line, and none of the lines behind it ends a group
+-- whether a group begins with this line, and none of the lines after it ends a group
 abbrev pub is_open : List ℕ → List (List ℕ) → Bool
 is_open line behind = begins_group line && not (list_any ends_group behind)
 
@@ -32,7 +32,7 @@ abbrev pub complete : List (List ℕ) → List (List ℕ)
 complete [] = []
 complete (line ∷ lines) = if is_open line lines then [] else line ∷ complete lines
 
--- Where a group begins that has no end, after a line that begins at `from`: there is none after the end of a group.
+-- The start of the group that is still open after a line that starts at `from`; none if the line ends a group.
 abbrev pub begun_at : Option ℕ → ℕ → Option ℕ
 begun_at None from = Some from
 begun_at (Some begun) from = Some begun

@@ -1,4 +1,4 @@
--- What a journal holds of a session: lines that make its changes again.
+-- What a journal holds of a session: lines that replay its changes.
 use Rattle.std.specs.Prelude.{◌≡◌, ℕ, Bool, true, false, nat_eq, List, [], ◌∷◌, ◌++◌, map, flat_map, Option, Some, None, Result, Ok, if◌then◌else◌}
 use Rattle.xw_grid.specs.declared.cell.Cell.{Cell}
 use Rattle.xw_grid.specs.Grid.{Grid, cells, entry}
@@ -31,7 +31,7 @@ is_same_entry one other = false
 abbrev pub entered_at : Grid → Grid → Cell → List Command
 entered_at before after cell = if is_same_entry (entry before cell) (entry after cell) then [] else letter_commands cell (entry after cell)
 
--- the letters that one grid has and the other had not, in reading order, as commands
+-- the letters that are new in a grid, in reading order, as commands
 abbrev pub entered_commands : Grid → Grid → List Command
 entered_commands before after = flat_map (entered_at before after) (cells after)
 
@@ -47,7 +47,7 @@ pub record HasEntriesBefore (before after : Grid) (entries : List (Option ℕ)) 
 
 -- ---- what is written to the journal
 
--- the text that makes the change again: each line ends with an LF
+-- the text that replays the change: each line ends with an LF
 abbrev pub text_of_kind : Kind → List ℕ → Grid → Grid → List ℕ
 text_of_kind Query line before after = []
 text_of_kind Change line before after = line ++ 10 ∷ []
@@ -87,7 +87,8 @@ journal_events before line other after = []
 
 -- ---- a session with its journal
 
--- The state of the session, what was written to the journal, how often a write to it failed, and why the session stopped, if it did.
+-- The state of the session, what was written to the journal, how often a write to it failed, and why the session
+-- stopped, if it did.
 pub record JournaledState : Type 0 where
   pub state : State
   pub journal : List ℕ
@@ -97,7 +98,7 @@ pub record JournaledState : Type 0 where
 -- The line may get this answer, and its text is in the journal.
 pub record AnswersJournaled (old : JournaledState) (line : List ℕ) (step : Step) (answer : List ℕ) (new : JournaledState) : Type 0 where
   pub answers : Answers old.state line step answer new.state
-  pub journal : new.journal ≡ old.journal ++ journal_events old.state.position.grid line step new.state.position.grid
+  pub journal : new.journal ≡ old.journal ++ journal_events old.state.engine.grid line step new.state.engine.grid
   pub quiet : new.failures ≡ old.failures
   pub going : new.cause ≡ old.cause
 
@@ -105,7 +106,7 @@ pub record AnswersJournaled (old : JournaledState) (line : List ℕ) (step : Ste
 pub record IsUnjournaled (old : JournaledState) (line : List ℕ) (new : JournaledState) : Type 0 where
   pub answer : List ℕ
   pub answers : Answers old.state line Accepted answer new.state
-  pub journal : Begins old.journal new.journal (journal_events old.state.position.grid line Accepted new.state.position.grid)
+  pub journal : Begins old.journal new.journal (journal_events old.state.engine.grid line Accepted new.state.engine.grid)
   pub failed : HasFailed old.failures new.failures
 
 -- the answer of the line could not be kept in memory, and the journal is as it was

@@ -8,11 +8,11 @@ use xw_lines::run::next_lf;
 /// The comment before a group.
 pub const BEGIN: &[u8] = b"# xw begin";
 
-/// The comment behind a group.
+/// The comment after a group.
 pub const END: &[u8] = b"# xw end";
 
-/// Returns where a group begins that has no end, after one more line. `begun` is where one begins before this line, and `from` where
-/// this line begins.
+/// Returns the start of the group that is still open after a line, if there is one. `begun` is the start of the group
+/// that is open before the line, and `from` is the start of the line.
 fn open_after(begun: Option<usize>, from: usize, line: &[u8]) -> Option<usize>
     ensures { result ≡ open_behind begun from line.now }
 {

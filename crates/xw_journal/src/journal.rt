@@ -33,7 +33,7 @@ fn write_unless<J: Sink>(
     write_letter(journal, grid, cell)
 }
 
-/// Writes the letters that a grid has and had not before, as commands.
+/// Writes the letters that are new in a grid, as commands.
 fn write_entered<J: Sink>(journal: &mut J, before: &Entries, grid: &Grid) -> Result<(), WriteFailed>
     ensures { (was : AnyGrid) → HasEntriesBefore was grid.now before.now → Sends J.transcript J.failures journal.old journal.new result (command_lines (entered_commands was grid.now)) }
 {
@@ -44,7 +44,7 @@ fn write_entered<J: Sink>(journal: &mut J, before: &Entries, grid: &Grid) -> Res
     Ok(())
 }
 
-/// Whether a grid has letters that it had not before.
+/// Whether a grid has new letters.
 fn has_entered(before: &Entries, grid: &Grid) -> bool
     ensures none { (was : AnyGrid) → HasEntriesBefore was grid.now before.now → result ≡ false → entered_commands was grid.now ≡ [] }
     ensures some { (was : AnyGrid) → HasEntriesBefore was grid.now before.now → result ≡ true → entered_commands was grid.now ≢ [] }
@@ -58,7 +58,7 @@ fn has_entered(before: &Entries, grid: &Grid) -> bool
     false
 }
 
-/// Writes the letters that a grid has and had not before, as a group of commands, if there are any.
+/// Writes the letters that are new in a grid, as a group of commands, if there are any.
 fn write_group<J: Sink>(journal: &mut J, before: &Entries, grid: &Grid) -> Result<(), WriteFailed>
     ensures { (was : AnyGrid) → HasEntriesBefore was grid.now before.now → Sends J.transcript J.failures journal.old journal.new result (grouped (entered_commands was grid.now)) }
 {

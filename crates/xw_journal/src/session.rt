@@ -20,7 +20,8 @@ use xw_session::{Session, VecSink};
 /// The room for an answer that is allocated at the start: enough for the changed cells of a large grid.
 const ROOM: usize = 65536;
 
-/// A session and its journal. The text of each change is in the journal before the first byte of its answer is written.
+/// A session and its journal. The text of each change is in the journal before the first byte of its answer is
+/// written.
 #[derive(Drop)]
 pub struct JournaledSession<E: Feasible, J: Sink> {
     alloc: Global,
@@ -28,7 +29,7 @@ pub struct JournaledSession<E: Feasible, J: Sink> {
     journal: J,
     /// The entries before a search.
     before: Entries,
-    /// The answer of the line at hand.
+    /// The answer to the current line.
     answer: VecSink,
     cause: Option<Cause>,
 }
@@ -97,9 +98,9 @@ impl<E: Feasible, J: Sink + Drop> JournaledSession<E, J> {
 }
 
 impl<E: Searchable, J: Sink> JournaledSession<E, J> {
-    /// Reads lines until the reader ends. Writes the text of each change to the journal, and then the answer. Stops early if the
-    /// reader, the writer or the journal fails, or if an answer cannot be kept in memory. Returns `Memory`, before the first
-    /// read, if the line buffer cannot be allocated.
+    /// Reads lines until the reader ends. Writes the text of each change to the journal, and then the answer. Stops
+    /// early if the reader, the writer or the journal fails, or if an answer cannot be kept in memory. Returns
+    /// `Memory`, before the first read, if the line buffer cannot be allocated.
     pub fn run_lines<R: Source, W: Sink>(&mut self, source: &mut R, sink: &mut W) -> RunEnd
         ensures { IsRun AnswersJournaled StopsAtJournal R.transcript R.is_at_end R.failures W.transcript W.failures result
             self.old self.new source.old source.new sink.old sink.new }

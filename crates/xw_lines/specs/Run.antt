@@ -16,8 +16,8 @@ pub record Speaks {S : Type 0} (Answers : S → List ℕ → Step → List ℕ �
   pub spoken : Spoken Answers start lines out count state
   pub transcript-is : transcript ≡ begun ++ out
 
--- The output after `begun` is the flushed answers to the first lines of the text, and then what `Breaks` says of the next line, whose
--- answer was cut short. The state is the one after all these lines, including the last.
+-- The output after `begun` is the flushed answers to the first lines of the text, and then what `Breaks` says of the
+-- next line, whose answer was cut short. The state is the one after all these lines, including the last.
 pub record StopsIn {S : Type 0} (Answers : S → List ℕ → Step → List ℕ → S → Type 0) (Breaks : S → List ℕ → S → List ℕ → List ℕ → Type 0) (start : S) (text : List ℕ) (state : S) (begun transcript : List ℕ) : Type 0 where
   pub before : List (List ℕ)
   pub line : List ℕ
@@ -41,9 +41,10 @@ abbrev pub broken_end : AnswerFault → RunEnd
 broken_end faults.WriteFailed = WriteFailed
 broken_end faults.Stopped = Stopped
 
--- What a run did, by how it ended. The ghost functions of the reader are `read`, `is_at_end` and `read_failures`; those of the writer
--- are `written` and `write_failures`. Before the run, the line handler, the reader and the writer are `start`, `source` and `sink`;
--- after it they are `end`, `source'` and `sink'`. A run ends at the first read, write or flush that fails.
+-- What a run did, by how it ended. The ghost functions of the reader are `read`, `is_at_end` and `read_failures`;
+-- those of the writer are `written` and `write_failures`. Before the run, the line handler, the reader and the writer
+-- are `start`, `source` and `sink`; after it they are `end`, `source'` and `sink'`. A run ends at the first read,
+-- write or flush that fails.
 abbrev pub IsRun : {S R W : Type 0} → (S → List ℕ → Step → List ℕ → S → Type 0) → (S → List ℕ → S → List ℕ → List ℕ → Type 0) → (R → List ℕ) → (R → Bool) → (R → ℕ) → (W → List ℕ) → (W → ℕ)
     → RunEnd → S → S → R → R → W → W → Type 0
 -- The reader came to its end, and all lines are answered. No read failed, and no write.
@@ -64,7 +65,8 @@ IsRun Answers Stops read is_at_end read_failures written write_failures WriteFai
 IsRun Answers Stops read is_at_end read_failures written write_failures Stopped start end source source' sink sink' =
     (text : List ℕ) × (read source' ≡ read source ++ text) × StopsIn Answers Stops start text end (written sink) (written sink')
     × (read_failures source' ≡ read_failures source)
--- At least `u64::MAX` bytes were read, and the reader did not end. All complete lines are answered. No read failed, and no write.
+-- At least `u64::MAX` bytes were read, and the reader did not end. All complete lines are answered. No read failed,
+-- and no write.
 IsRun Answers Stops read is_at_end read_failures written write_failures Endless start end source source' sink sink' =
     (text : List ℕ) × (read source' ≡ read source ++ text) × (2 ^ 64 - 1 ≤ length text)
     × (count : ℕ) × Speaks Answers start (ended_lines text) count end (written sink) (written sink')

@@ -8,9 +8,9 @@ abbrev pub Sends : {S T E : Type 0} → (S → List ℕ) → (S → ℕ) → S �
 Sends transcript failures old new (Ok x) text = (transcript new ≡ transcript old ++ text) × (failures new ≡ failures old)
 Sends transcript failures old new (Err e) text = Begins (transcript old) (transcript new) text × HasFailed (failures old) (failures new)
 
--- The effect of a function that appends a text to a buffer, and may write the front of the buffer. Either nothing failed:
--- what was written and then the new buffer are the old buffer and then the text. Or the writer failed, and a prefix of
--- the old buffer and the text was written.
+-- The effect of a function that appends a text to a buffer, and may write the front of the buffer. Either nothing
+-- failed: what was written and then the new buffer are the old buffer and then the text. Or the writer failed, and a
+-- prefix of the old buffer and the text was written.
 abbrev pub Gathers : {S T E : Type 0} → (S → List ℕ) → (S → ℕ) → S → S → List ℕ → List ℕ → Result T E → List ℕ → Type 0
 Gathers transcript failures old new before after (Ok x) text = (out : List ℕ) × record {
   transcript : transcript new ≡ transcript old ++ out;

@@ -22,8 +22,8 @@ pub trait Source {
     // a read into a non-empty buffer returned 0
     ghost is_at_end: { Self → Bool };
 
-    /// Reads the next bytes into the front of the buffer and returns their count. Returns 0 only at the end, unless the
-    /// buffer is empty.
+    /// Reads the next bytes into the front of the buffer and returns their count. Returns 0 only at the end, unless
+    /// the buffer is empty.
     fn read(&mut self, buffer: &mut [u8]) -> Result<usize, DeviceFault>
         ensures bound { IfOk result (λ count. count ≤ length buffer.new) }
         ensures transcript { MatchResult result

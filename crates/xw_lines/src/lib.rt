@@ -1,4 +1,4 @@
-//! Answers lines from any reader on any writer.
+//! Reads lines from any reader, and writes their answers to any writer.
 #![tactic(auto)]
 
 pub mod device;

@@ -30,7 +30,7 @@ pub trait LineHandler {
     // transcript of the writer is then `new`, and was `old`.
     ghost stops: { Self → List ℕ → Self → List ℕ → List ℕ → Type 0 };
 
-    /// Writes the answer of a line. The line has no LF; `None` stands for a line longer than `LINE_LIMIT`. If the
+    /// Writes the answer to a line. The line has no LF; `None` stands for a line longer than `LINE_LIMIT`. If the
     /// writer fails, a prefix of the answer was written, and the effect of the line remains.
     fn handle<W: Sink>(&mut self, line: Option<&[u8]>, sink: &mut W) -> Result<Step, AnswerFault>
         ensures ok { IfOk result (λ outcome. Answered answers self.old (option_map (λ bytes. bytes.now) line.entry)
@@ -113,7 +113,7 @@ pub fn next_lf(bytes: &[u8], from: usize) -> Option<usize>
     }
 }
 
-/// Adds bytes to the buffered line, which then is complete, and answers it.
+/// Completes the buffered line with these bytes, and answers it.
 fn take_line<S: LineHandler, W: Sink>(
     handler: &mut S,
     piece: &mut LineBuffer,
@@ -195,9 +195,9 @@ fn broken(fault: AnswerFault) -> RunEnd
     }
 }
 
-/// Reads lines until the reader ends, and writes the answer of each. Each answer is flushed before the next one is
-/// started. Stops early if the reader or the writer fails, or if the line handler stops. Returns `Memory`, before the first read, if the line buffer
-/// cannot be allocated.
+/// Reads lines until the reader ends, and writes the answer to each. Flushes each answer before it starts the next
+/// one. Stops early if the reader or the writer fails, or if the line handler stops. Returns `Memory`, before the
+/// first read, if the line buffer cannot be allocated.
 pub fn run_lines<S: LineHandler, R: Source, W: Sink>(
     alloc: Global,
     handler: &mut S,

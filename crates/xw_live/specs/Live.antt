@@ -28,7 +28,7 @@ pub record IsDone (before now : Live) (action : Action) : Type 0 where
   pub cost : RoseWithinCost (state_of before) (state_of now) action before.spent now.spent
   pub risen : before.spent ≤ now.spent
 
--- nothing has changed, and no ticks were taken
+-- nothing has changed, and no tick was spent
 pub record IsAsBefore (before now : Live) : Type 0 where
   pub grid : now.grid ≡ before.grid
   pub words : now.bank.words ≡ before.bank.words

@@ -6,6 +6,7 @@ mod noted;
 mod placing;
 pub mod searching;
 mod settling;
+mod shape_edit;
 mod written;
 
 pub use live::Live;

@@ -12,8 +12,8 @@ use xw_net::change::Change;
 impl Live {
     ghost use Rattle.xw_live.specs.Live.{state_of, IsDone};
 
-    /// Places a known word in a light, both by index, and updates the answers. The ticks it takes are within the edit's
-    /// cost.
+    /// Places a known word in a light, both by index, and updates the answers. The ticks it takes are within the
+    /// edit's cost.
     pub fn place_known(&mut self, light: usize, index: usize)
         requires light { light < length (lights_of self.old.grid) }
         requires index { index < known_count (state_of self.old) light }

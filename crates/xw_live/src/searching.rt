@@ -4,9 +4,10 @@ ghost use Rattle.xw_live.specs.Engine.{IsKept, IsKept-prop};
 use crate::live::Live;
 use crate::settling::{keep_letters, try_settle};
 use crate::written::Written;
+use std::alloc::AllocError;
 use std::snapshot::Snapshot;
-use xw_feas::edit::{Edit, Refusal};
-use xw_feas::grid_edit::edit_letters;
+use xw_feas::edit::{EntryEdit, Refusal};
+use xw_feas::grid_edit::edit_entries;
 use xw_feas::searchable::Searchable;
 use xw_grid::grid::Grid;
 use xw_letters::letter::Letter;
@@ -24,33 +25,37 @@ pub struct Saved {
     ghost kept: { IsKept (record { grid = grid; words = bank.value.words }) net } by { IsKept-prop (record { grid = grid; words = bank.value.words }) net },
 }
 
+/// Whether an edit enters one letter. A search by letters fills the lights that die first early, so the order of
+/// stripping matters to it. A search by words uses no such hint.
+fn is_letter(edit: &EntryEdit<'_>) -> bool {
+    matches!(*edit, EntryEdit::Set(..))
+}
+
 impl Live {
-    ghost use Rattle.std.specs.Prelude.{◌≡◌, ◌≤◌, true, false};
-    ghost use Rattle.xw_feas.specs.State.{is_of_letters, action_of};
+    ghost use Rattle.std.specs.Prelude.{◌≡◌, ◌≤◌};
+    ghost use Rattle.xw_feas.specs.State.{entry_action};
     ghost use Rattle.xw_feas.specs.Trying.{IsTried};
-    ghost use Rattle.xw_live.specs.Idle.{is_list};
     ghost use Rattle.xw_live.specs.Live.{state_of};
     ghost use Rattle.xw_live.specs.Saved.{saved_state};
 
-    /// Tries an edit that keeps the lights and the dictionary, except for `Write`: it stops at the first watched light that
-    /// dies, and copies the state back from `mark`.
-    fn try_letters(
+    /// Tries an edit of entries. Stops at the first watched light that dies, and then copies the state back from
+    /// `mark`.
+    fn try_entries(
         &mut self,
-        edit: &Edit<'_>,
+        edit: &EntryEdit<'_>,
         watched: &[bool],
         mark: &Saved,
     ) -> Result<Option<usize>, Refusal>
-        requires letters { is_of_letters (action_of edit.now) ≡ true }
-        requires few { is_list (action_of edit.now) ≡ false }
-        requires marked { saved_state mark.now ≡ state_of self.old }
-        ensures tried { IsTried (state_of self.old) (action_of edit.now) watched.now result (state_of self.new) }
+        requires { saved_state mark.now ≡ state_of self.old }
+        ensures tried { IsTried (state_of self.old) (entry_action edit.now) watched.now result (state_of self.new) }
         ensures risen { self.old.spent ≤ self.new.spent }
     {
-        let written = Written::of(&self.grid, &self.lights, edit);
-        edit_letters(&mut self.grid, &self.lights, edit)?;
+        let written = Written::of_entries(&self.grid, &self.lights, edit);
+        edit_entries(&mut self.grid, &self.lights, edit)?;
         self.grid.well_formed();
         keep_letters(&mut self.before, &self.net);
         let change = Change::Letters(written.as_slice());
+        let in_turn = is_letter(edit);
         let (dead, spent) = try_settle(
             &mut self.net,
             self.spent,
@@ -59,6 +64,7 @@ impl Live {
             &self.lights,
             &self.bank,
             watched,
+            in_turn,
         );
         self.spent = spent;
         let Some(light) = dead else {
@@ -80,8 +86,11 @@ impl Searchable for Live {
 
     ghost saved = { λ snapshot. record { grid = snapshot.grid; words = snapshot.bank.value.words } };
 
-    fn snapshot(&self) -> Result<Saved, Refusal> {
-        let grid = self.grid.copy()?;
+    fn snapshot(&self) -> Result<Saved, AllocError> {
+        let grid = match self.grid.copy() {
+            Ok(grid) => grid,
+            Err(_) => return Err(AllocError),
+        };
         let net = self
             .net
             .copy(self.alloc, &self.grid, &self.lights, &self.bank)?;
@@ -115,15 +124,11 @@ impl Searchable for Live {
 
     fn try_edit(
         &mut self,
-        edit: &Edit<'_>,
+        edit: &EntryEdit<'_>,
         watched: &[bool],
         mark: &Saved,
     ) -> Result<Option<usize>, Refusal> {
-        if let Edit::Write(_) = *edit {
-            self.edit_counted(edit)?;
-            return Ok(None);
-        }
-        self.try_letters(edit, watched, mark)
+        self.try_entries(edit, watched, mark)
     }
 
     fn tally(&self, light: usize, position: usize, letter: Letter) -> usize {

@@ -5,21 +5,21 @@ ghost use Rattle.xw_words.specs.Dictionary.{Dictionary, add_answer, IsNew};
 ghost use Rattle.xw_grid.specs.Light.{lights_of};
 ghost use Rattle.xw_feas.specs.Board.{board_of};
 ghost use Rattle.xw_feas.specs.Rows.{grows};
-ghost use Rattle.xw_feas.specs.State.{State, Action, action_of, least_chosen};
+ghost use Rattle.xw_feas.specs.State.{State, Action, entry_action, least_chosen};
 ghost use Rattle.xw_feas.specs.WellFormed.{IsWellFormed};
 ghost use Rattle.xw_net.specs.Change.{before_of, cells_of, fields_of, IsChange, IsWordEdit};
 ghost use Rattle.xw_net.specs.Copy.{IsReusable};
 ghost use Rattle.xw_net.specs.Cost.{RoseWithinCost};
 ghost use Rattle.xw_net.specs.Filled.{IsStoppedAt};
 ghost use Rattle.xw_live.specs.Engine.{IsKept};
-ghost use Rattle.xw_live.specs.Idle.{is_symmetry, IsIdle};
+ghost use Rattle.xw_live.specs.Idle.{IsIdle};
 ghost use Rattle.xw_net.specs.Net.{StandsFor, StoodFor, IsSettledFor, IsAlike, known_counts, sets_of};
 ghost use Rattle.xw_net.specs.Room.{HasRoom};
 ghost use Rattle.xw_net.specs.Fit.{HasRoomBetween};
 ghost use Rattle.xw_net.specs.Update.{AreInside};
 
 use xw_feas::dictionary::{known_distinct, reserve_in};
-use xw_feas::edit::{Edit, Refusal};
+use xw_feas::edit::{EntryEdit, Refusal};
 use xw_grid::grid::Grid;
 use xw_grid::lights::Lights;
 use xw_letters::letter_set::LetterSet;
@@ -61,8 +61,8 @@ pub fn settle(
     rows.spent()
 }
 
-/// Updates a net as `settle` does, but stops at the first watched light that has no feasible word after the change, and
-/// returns it. Also returns the ticks so far.
+/// Updates a net as `settle` does, but stops at the first watched light that has no feasible word after the change,
+/// and returns it. Also returns the ticks so far. See `Net::try_settle` for `in_turn`.
 pub fn try_settle(
     net: &mut Net,
     spent: u64,
@@ -71,6 +71,7 @@ pub fn try_settle(
     lights: &Lights,
     bank: &Bank,
     watched: &[bool],
+    in_turn: bool,
 ) -> (Option<usize>, u64)
     requires lights { lights.now ≡ lights_of grid.now }
     requires inside { AreInside grid.now (cells_of change.now) }
@@ -92,7 +93,7 @@ pub fn try_settle(
 {
     known_distinct(bank);
     let mut reads = Counted::new(bank, spent);
-    let dead = net.try_settle(&mut reads, change, grid, lights, watched);
+    let dead = net.try_settle(&mut reads, change, grid, lights, watched, in_turn);
     (dead, reads.spent())
 }
 
@@ -155,19 +156,17 @@ pub fn keep_letters(before: &mut Vec<LetterSet>, net: &Net)
     before.as_mut_slice().copy_from_slice(net.letters());
 }
 
-/// Whether an edit keeps the lights and all entries, so that no answer changes.
-pub fn is_idle(grid: &Grid, edit: &Edit<'_>) -> bool
-    ensures idle { IsTrue result → IsIdle grid.now (action_of edit.now) }
-    ensures symmetry { is_symmetry (action_of edit.now) ≡ true → IsTrue result }
+/// Whether an edit keeps all entries, so that no answer changes.
+pub fn is_idle(grid: &Grid, edit: &EntryEdit<'_>) -> bool
+    ensures { IsTrue result → IsIdle grid.now (entry_action edit.now) }
 {
     match *edit {
-        Edit::Set(cell, letter) => match grid.entry(cell) {
+        EntryEdit::Set(cell, letter) => match grid.entry(cell) {
             Some(entered) => entered.byte() == letter.byte(),
             None => false,
         },
-        Edit::Clear(cell) => grid.entry(cell).is_none(),
-        Edit::Symmetry(_) => true,
-        _ => false,
+        EntryEdit::Clear(cell) => grid.entry(cell).is_none(),
+        EntryEdit::Place(..) => false,
     }
 }
 

@@ -6,6 +6,7 @@ pub mod HeldWords
 pub mod WordsByNumber
 pub mod RemovedLetters
 pub mod FoundSupports
+pub mod KeptSupports
 pub mod EndOfStripping
 pub mod LeftByStripping
 pub mod EmptiedCells

@@ -7,17 +7,14 @@ pub mod Support
 pub mod Room
 pub mod Nets
 pub mod Renumber
-pub mod Blank
 pub mod Base
 pub mod Worklist
 pub mod Spread
 pub mod Brought
 pub mod Filled
-pub mod Chain
 pub mod Steps
 pub mod Begin
 pub mod Gone
-pub mod Forget
 pub mod Opened
 pub mod Fit
 pub mod Change
@@ -31,3 +28,4 @@ pub mod Cost
 pub mod Refill
 pub mod RegionLaws
 pub mod Settling
+pub mod Inner

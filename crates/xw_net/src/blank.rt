@@ -10,7 +10,7 @@ use xw_words::bank::Bank;
 impl Net {
     ghost use Rattle.std.specs.Prelude.{◌≡◌, length, IfOk};
     ghost use Rattle.xw_words.specs.Dictionary.{row as words_of};
-    ghost use Rattle.xw_net.specs.Blank.{IsBlank};
+    ghost use Rattle.xw_net.specs.Inner.Blank.{IsBlank};
     ghost use Rattle.xw_net.specs.Room.{counts_of, HasRoom};
 
     /// A net for a grid and a dictionary, with no words and no letters.

@@ -3,12 +3,11 @@ ghost use Rattle.std.specs.Prelude.{◌≡◌, ℕ, ◌<◌, ◌≤◌, true, fa
 ghost use Rattle.xw_net.specs.Copy.{entries_in, AreFirstAsLong, AreBaseRowsAlike, AreRowsCopied};
 
 use crate::net::Net;
-use std::alloc::Global;
+use crate::sparse::copy_row;
+use std::alloc::{AllocError, Global};
 use xw_bits::bit_row::BitRow;
 use xw_feas::board::{Board, Cells};
 use xw_feas::dictionary::known_distinct;
-use xw_feas::edit::Refusal;
-use xw_grid::fault::GridFault;
 use xw_grid::grid::Grid;
 use xw_grid::lights::Lights;
 use xw_words::bank::Bank;
@@ -22,7 +21,7 @@ fn copy_rows(rows: &mut [BitRow], from: &[BitRow], count: usize)
 {
     for light in 0..count {
         let row = &mut rows[light];
-        row.copy_from(&from[light]);
+        copy_row(row, &from[light]);
     }
 }
 
@@ -66,7 +65,7 @@ fn copy_base(
             continue;
         }
         let row = &mut rows[light];
-        row.copy_from(&from[light]);
+        copy_row(row, &from[light]);
     }
 }
 
@@ -81,7 +80,7 @@ fn copy_flags(flags: &mut [bool], from: &[bool], count: usize)
 }
 
 impl Net {
-    ghost use Rattle.std.specs.Prelude.{◌≡◌, false, is_some, IfOk, IfErr};
+    ghost use Rattle.std.specs.Prelude.{◌≡◌, false, is_some, IfOk};
     ghost use Rattle.xw_grid.specs.Light.{lights_of};
     ghost use Rattle.xw_feas.specs.Board.{board_of};
     ghost use Rattle.xw_net.specs.Brought.{IsBase};
@@ -144,25 +143,20 @@ impl Net {
         self.copy_arrays(net, before, after, lights, true);
     }
 
-    /// A copy of the net, which stands for this grid and dictionary. Returns `Memory` if an
-    /// allocation fails.
+    /// A copy of the net, which stands for this grid and dictionary.
     pub fn copy(
         &self,
         alloc: Global,
         grid: &Grid,
         lights: &Lights,
         bank: &Bank,
-    ) -> Result<Net, Refusal>
+    ) -> Result<Net, AllocError>
         requires lights { lights.now ≡ lights_of grid.now }
         requires settled { ∥ IsSettledFor (state_of grid.now bank.now.words) self.now ∥₁ }
         ensures copied { IfOk result (λ net. IsCopy lights.now self.now net) }
         ensures none_waits { IfOk result (λ net. is_some net.spare ≡ false) }
-        ensures err { IfErr result (λ refusal. refusal ≡ Refusal.Grid GridFault.Memory) }
     {
-        let mut net = match Net::blank(alloc, grid, lights, bank) {
-            Ok(net) => net,
-            Err(_) => return Err(Refusal::Grid(GridFault::Memory)),
-        };
+        let mut net = Net::blank(alloc, grid, lights, bank)?;
         grid.well_formed();
         known_distinct(bank);
         net.copy_arrays(self, grid, grid, lights, false);

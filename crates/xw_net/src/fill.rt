@@ -7,7 +7,7 @@ ghost use Rattle.xw_net.specs.Marks.{AreByCell};
 
 use crate::base::read_marked;
 use crate::net::Net;
-use crate::room::NOWHERE;
+use crate::room::NO_WORD;
 use crate::seeds::mark_all;
 use std::alloc::Global;
 use xw_feas::board::{Board, allowed};
@@ -41,7 +41,7 @@ impl Net {
     ghost use Rattle.xw_feas.specs.WellFormed.{HasLetterEntries};
     ghost use Rattle.xw_net.specs.Brought.{base_cost};
     ghost use Rattle.xw_net.specs.Copy.{IsReusable};
-    ghost use Rattle.xw_net.specs.Forget.{nowhere};
+    ghost use Rattle.xw_net.specs.Inner.Forget.{nowhere};
     ghost use Rattle.xw_net.specs.Marks.{IsSetting};
     ghost use Rattle.xw_net.specs.Filled.{AreLong, IsFresh, IsUnstripped, IsFilled};
     ghost use Rattle.xw_net.specs.Nets.{IsShaped, HasBits, IsQueue};
@@ -95,11 +95,11 @@ impl Net {
         ensures rest { self.new ≡ record self.old { held = self.new.held } }
         ensures held { self.new.held.items ≡ replicate (vec_len self.old.held) nowhere }
     {
-        self.held.as_mut_slice().fill(NOWHERE);
+        self.held.as_mut_slice().fill(NO_WORD);
     }
 
     /// Computes the feasible words and letters anew, for the same lights, after the active words
-    /// changed. The numbers of known words are those of before. It allocates nothing.
+    /// changed. The numbers of known words are unchanged. It allocates nothing.
     pub fn refill<R: Rows>(&mut self, rows: &mut R, grid: &Grid, lights: &Lights)
         requires lights { lights.now ≡ lights_of grid.now }
         requires long { AreLong (board_of grid.now) (R.entries rows.old) }
@@ -126,10 +126,7 @@ impl Net {
         ensures none_waits { IfOk result (λ net. is_some net.spare ≡ false) }
         ensures err { IfErr result (λ refusal. refusal ≡ Refusal.Grid GridFault.Memory) }
     {
-        let mut net = match Net::blank(alloc, grid, lights, bank) {
-            Ok(net) => net,
-            Err(_) => return Err(Refusal::Grid(GridFault::Memory)),
-        };
+        let mut net = Net::blank(alloc, grid, lights, bank)?;
         grid.well_formed();
         known_distinct(bank);
         let mut rows = Counted::new(bank, 0);

@@ -6,18 +6,18 @@ ghost use Rattle.xw_feas.specs.Flags.{set_has};
 ghost use Rattle.xw_net.specs.Marks.{slot_at, AreSlotsApart, AreBySlot, AreHeld, HasFewCells};
 ghost use Rattle.xw_net.specs.Change.{before_of, fields_of};
 ghost use Rattle.xw_net.specs.Renumber.{same_before};
-ghost use Rattle.xw_net.specs.Forget.{cut, lose, lost_from as lost_from_of, lost_at, nowhere, ChangesHeld, KeepsHeld, KeepsFewer, ForgetNone, Forgets};
+ghost use Rattle.xw_net.specs.Inner.Forget.{cut, lose, lost_from as lost_from_of, lost_at, nowhere, ChangesHeld, KeepsHeld, KeepsFewer, ForgetNone, Forgets};
 
 use crate::change::Change;
 use crate::position::position_of;
-use crate::room::NOWHERE;
+use crate::room::NO_WORD;
 use xw_feas::board::Board;
 use xw_grid::lights::Lights;
 use xw_letters::letter_set::LetterSet;
 use xw_words::rows::Rows;
 
 /// Forgets the supports held at a slot whose index is at least `first`.
-fn forget_slot(slot: usize, first: usize, held: &mut [usize])
+fn forget_slot(slot: usize, first: usize, held: &mut [u32])
     requires { 26 * slot + 26 ≤ length held.old }
     ensures len { length held.new ≡ length held.old }
     ensures here { (number : ℕ) → number < 26 → slice_index held.new (26 * slot + number) ≡ cut first (slice_index held.old (26 * slot + number)) }
@@ -25,19 +25,19 @@ fn forget_slot(slot: usize, first: usize, held: &mut [usize])
 {
     for number in 0..26 {
         let at = 26 * slot + number;
-        if first <= held[at] {
-            held[at] = NOWHERE;
+        if first <= held[at] as usize {
+            held[at] = NO_WORD;
         }
     }
 }
 
 /// Forgets the supports held at the slots of a light whose index is at least `first`, and clears
-/// its pending letters. Does nothing if `first` is `NOWHERE`.
+/// its pending letters. Does nothing if `first` is `NO_WORD`.
 fn forget_light(
     board: &Board<'_>,
     light: usize,
     first: usize,
-    held: &mut [usize],
+    held: &mut [u32],
     pending: &mut [LetterSet],
 )
     requires few { HasFewCells board.now }
@@ -52,7 +52,7 @@ fn forget_light(
     ensures less { KeepsFewer pending.old pending.new }
     ensures cleared { (position letter : ℕ) → first < nowhere → position < length (light_at board.now light) → set_has pending.new (slot_at board.now light position) letter ≡ false }
 {
-    if first >= NOWHERE {
+    if first >= NO_WORD as usize {
         return;
     }
     for position in 0..board.light(light).len() {
@@ -63,7 +63,7 @@ fn forget_light(
 }
 
 /// The least index of a support that a light has to forget: 0 for a new light, the index of the
-/// changed word if that is the last known word of the light's length, and else `NOWHERE`.
+/// changed word if that is the last known word of the light's length, and else `NO_WORD`.
 fn lost_from(word: Option<(usize, usize)>, has_stayed: bool, size: usize, known: usize) -> usize
     ensures { (same : Option ℕ) → has_stayed ≡ is_some same → result ≡ lost_from_of word same size known }
 {
@@ -72,7 +72,7 @@ fn lost_from(word: Option<(usize, usize)>, has_stayed: bool, size: usize, known:
     }
     match word {
         Some((len, index)) if len == size && (known <= index || known - 1 == index) => index,
-        _ => NOWHERE,
+        _ => NO_WORD as usize,
     }
 }
 
@@ -136,7 +136,7 @@ pub(crate) fn forget_lights<R: Rows>(
     board: &Board<'_>,
     lights: &Lights,
     change: &Change<'_>,
-    held: &mut [usize],
+    held: &mut [u32],
     pending: &mut [LetterSet],
 )
     requires lights { length lights.now ≡ length board.now.lights }

@@ -27,6 +27,7 @@ mod room;
 mod seeds;
 mod settle;
 pub mod sizes;
+mod sparse;
 mod spread;
 mod support;
 mod tally;

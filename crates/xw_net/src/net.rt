@@ -6,7 +6,7 @@ ghost use Rattle.xw_feas.specs.Board.{light_at};
 
 use crate::position::{Position, position_of, side};
 use crate::room::{NOWHERE, Spare};
-use crate::support::{find_support, strike_row};
+use crate::support::{find_support, next_lost, strike_row};
 use crate::worklist::Worklist;
 use std::alloc::Global;
 use xw_bits::bit_row::BitRow;
@@ -14,6 +14,10 @@ use xw_feas::board::Board;
 use xw_letters::letter::Letter;
 use xw_letters::letter_set::LetterSet;
 use xw_words::rows::Rows;
+
+/// The most queued lights that are compared to find the one with the fewest words. In a grid with
+/// more, comparing all of them would take longer than stripping.
+const MOST_COMPARED: usize = 128;
 
 /// The words of each light and the letters of each cell, with the state of the algorithm that
 /// updates them.
@@ -33,8 +37,8 @@ pub struct Net {
     /// For each cell, its letters in the net.
     pub(crate) letters: Vec<LetterSet>,
     /// For each slot and letter, the index of the known word last found to support the letter;
-    /// `NOWHERE` if there is none.
-    pub(crate) held: Vec<usize>,
+    /// `NO_WORD` if there is none.
+    pub(crate) held: Vec<u32>,
     /// For each slot, the letters for which words before the held one may have come back. Their
     /// next search starts at the first word.
     pub(crate) restart: Vec<LetterSet>,
@@ -65,12 +69,13 @@ fn with_all(set: LetterSet, more: LetterSet) -> LetterSet
 }
 
 impl Net {
-    ghost use Rattle.std.specs.Prelude.{◌≡◌, ℕ, ◌+◌, ◌-◌, ◌*◌, ◌<◌, ◌≤◌, true, false, not, ◌||◌, ◌&&◌, ◌==◌, length, slice_index_or, IfSome, IfNone};
+    ghost use Rattle.std.specs.Prelude.{◌≡◌, ℕ, ◌+◌, ◌-◌, ◌*◌, ◌<◌, ◌≤◌, true, false, not, ◌||◌, ◌&&◌, ◌==◌, length, slice_index, slice_index_or, IfSome, IfNone};
     ghost use Rattle.xw_letters.specs.Letter.{IsLetter};
     ghost use Rattle.xw_letters.specs.LetterSet.{has};
     ghost use Rattle.xw_feas.specs.Board.{light_at};
     ghost use Rattle.xw_net.specs.Marks.{side_of, IsPositionIn, Drops, LeavesPending, cell_at, slot_at};
-    ghost use Rattle.xw_net.specs.Nets.{marks_of, letter_stands, pending_in, queued_in, IsShaped, IsLeft, IsThere, IsQueue, Waits, left_of};
+    ghost use Rattle.xw_net.specs.Inner.Lost.{IsLost};
+    ghost use Rattle.xw_net.specs.Nets.{bits_for, marks_of, letter_stands, pending_in, queued_in, IsShaped, IsLeft, IsThere, IsQueue, Waits, left_of};
     ghost use Rattle.xw_net.specs.Steps.{IsQueuedToo, IsCheck, IsStruck, StandFewer, OthersStand, IsLetterHeld, IsStruckFrom, IsLeftPending, IsStrippable, IsStep, WaitMore, PendLess, IsCleared, PendAtSlots, ArePositionHeld, AreLightHeld, KeepSupports, KeepsHolding, StepsOn, StrikesOn, ChecksOn, FillsNet, StripsWithin, IsEmptied, Dies, StandsOnBoard};
     ghost use Rattle.xw_net.specs.Worklist.{is_waiting};
 
@@ -215,8 +220,8 @@ impl Net {
         }
     }
 
-    /// Checks one letter of a cell: if its support is gone, it looks for another, and removes the
-    /// letter if there is none.
+    /// Checks one letter of a cell whose support is gone: looks for another, and removes the letter
+    /// if there is none.
     fn keep_letter<R: Rows>(
         &mut self,
         rows: &mut R,
@@ -229,6 +234,7 @@ impl Net {
         requires there { IsThere board.now here }
         requires stands { letter_stands self.old here.cell letter ≡ true }
         requires open { slice_index_or self.old.entered.items here.light false ≡ false }
+        requires lost { IsLost (bits_for self.old here.light) (slice_index self.old.held.items (26 * here.slot + (letter - 65))) }
         ensures entries { R.entries rows.new ≡ R.entries rows.old }
         ensures risen { R.ticks rows.old ≤ R.ticks rows.new }
         ensures step { IsStep board.now (R.entries rows.old) self.old self.new }
@@ -246,7 +252,7 @@ impl Net {
         }
     }
 
-    /// Checks each letter at a position. If the light has no word left, all go at once.
+    /// Checks each letter at a position whose held word is gone. If the light has no word left, all go at once.
     fn keep_position<R: Rows>(
         &mut self,
         rows: &mut R,
@@ -275,7 +281,7 @@ impl Net {
             }
         }
         let mut from = 0;
-        while let Some(number) = alive.next_index(from) {
+        while let Some(number) = next_lost(&self.rows[light], &self.held, here.slot, alive, from) {
             self.keep_letter(rows, board, here, Letter::at(number));
             from = number + 1;
         }
@@ -372,13 +378,44 @@ impl Net {
         }
     }
 
+    /// Where in the queue the light with the fewest words is, among the first `MOST_COMPARED`.
+    fn index_of_fewest(&self) -> usize {
+        let lights = self.queue.waiting();
+        let mut best = 0;
+        let mut fewest = usize::MAX;
+        for at in 0..lights.len().min(MOST_COMPARED) {
+            if let Some(row) = self.rows.get(lights[at]) {
+                let words = row.count();
+                if words < fewest {
+                    best = at;
+                    fewest = words;
+                }
+            }
+        }
+        best
+    }
+
+    /// Where in the queue the light to process next is; `last` is where the last one was. A light with few
+    /// words removes most letters, so it comes first, unless the lights are processed in turn. This decides
+    /// the order of stripping only, so the contract promises nothing.
+    fn index_of_next(&self, last: usize, in_turn: bool) -> usize {
+        if in_turn {
+            let next = last.saturating_add(1);
+            if next < self.queue.len() { next } else { 0 }
+        } else {
+            self.index_of_fewest()
+        }
+    }
+
     /// Strips the net: processes queued lights until the words and letters left support one
-    /// another. Stops at the first watched light without a word, and returns it.
+    /// another. Stops at the first watched light without a word, and returns it. `in_turn` decides in
+    /// which order, and so which light that is.
     pub(crate) fn strip_watching<R: Rows>(
         &mut self,
         rows: &mut R,
         board: &Board<'_>,
         watched: &[bool],
+        in_turn: bool,
     ) -> Option<usize>
         requires net { IsStrippable board.now (R.entries rows.old) self.old }
         requires queue { IsQueue self.old }
@@ -393,13 +430,14 @@ impl Net {
         ensures stands { IfSome result (λ light. StandsOnBoard board.now (R.entries rows.old) self.old self.new) }
     {
         self.emptied = NOWHERE;
-        let mut turn = 0;
-        while let Some(light) = self.queue.take_turn(&mut turn) {
+        let mut at = self.index_of_next(NOWHERE, in_turn);
+        while let Some(light) = self.queue.take_at(at) {
             if self.see_to(rows, board, light, watched) {
                 self.note_dead(light);
                 return Some(light);
             }
             self.note_emptied(board, light);
+            at = self.index_of_next(at, in_turn);
         }
         None
     }
@@ -414,6 +452,6 @@ impl Net {
         ensures filled { FillsNet board.now (R.entries rows.old) self.old self.new }
         ensures cost { StripsWithin board.now (R.entries rows.old) self.old (R.ticks rows.old) (R.ticks rows.new) }
     {
-        let _ = self.strip_watching(rows, board, &[]);
+        let _ = self.strip_watching(rows, board, &[], false);
     }
 }

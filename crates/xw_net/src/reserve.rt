@@ -48,39 +48,29 @@ impl Net {
     }
 
     /// Reserves spare arrays for these lights. The next `settle` takes them.
-    fn reserve_shape(&mut self, lights: &Lights, bank: &Bank) -> Result<(), Refusal>
+    fn reserve_shape(&mut self, lights: &Lights, bank: &Bank) -> Result<(), AllocError>
         ensures room { OnOk result (HasRoomFor lights.now (known_counts bank.now.words) self.new) }
         ensures waits { OnOk result (is_some self.new.spare ≡ true) }
-        ensures err { IfErr result (λ refusal. refusal ≡ Refusal.Grid GridFault.Memory) }
         ensures same { IsAlike self.old self.new }
         ensures spare { OnErr result (self.new.spare ≡ self.old.spare) }
     {
         let alloc = self.alloc;
-        match self.reserve_lights(alloc, lights, bank) {
-            Ok(spare) => {
-                self.spare = Some(spare);
-                Ok(())
-            }
-            Err(_) => Err(Refusal::Grid(GridFault::Memory)),
-        }
+        let spare = self.reserve_lights(alloc, lights, bank)?;
+        self.spare = Some(spare);
+        Ok(())
     }
 
     /// Reserves room for one more word of length `len`, and drops any spare arrays.
-    fn reserve_length(&mut self, lights: &Lights, bank: &Bank, len: usize) -> Result<(), Refusal>
+    fn reserve_length(&mut self, lights: &Lights, bank: &Bank, len: usize) -> Result<(), AllocError>
         requires { StandsFor lights.now self.old }
         ensures room { OnOk result (HasRoomFor lights.now (with_word len (known_counts bank.now.words)) self.new) }
         ensures none_waits { OnOk result (is_some self.new.spare ≡ false) }
-        ensures err { IfErr result (λ refusal. refusal ≡ Refusal.Word WordFault.Memory) }
         ensures same { IsAlike self.old self.new }
         ensures spare { OnErr result (self.new.spare ≡ self.old.spare) }
     {
-        match self.reserve_word(lights, bank, len) {
-            Ok(()) => {
-                self.spare = None;
-                Ok(())
-            }
-            Err(_) => Err(Refusal::Word(WordFault::Memory)),
-        }
+        self.reserve_word(lights, bank, len)?;
+        self.spare = None;
+        Ok(())
     }
 
     /// Reserves the memory for an edit, so that `settle` cannot fail. Without `len` it reserves
@@ -105,8 +95,11 @@ impl Net {
         ensures spare { OnErr result (self.new.spare ≡ self.old.spare) }
     {
         match len {
-            None => self.reserve_shape(lights, bank),
-            Some(word_len) => self.reserve_length(lights, bank, word_len),
+            None => self.reserve_shape(lights, bank)?,
+            Some(word_len) => self
+                .reserve_length(lights, bank, word_len)
+                .map_err(|_| Refusal::Word(WordFault::Memory))?,
         }
+        Ok(())
     }
 }

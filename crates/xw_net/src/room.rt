@@ -9,8 +9,12 @@ use xw_grid::lights::Lights;
 use xw_letters::letter_set::LetterSet;
 use xw_words::bank::Bank;
 
-/// Stands for the index of a word if there is no such word.
+/// Stands for the index of a light if there is no such light.
 pub(crate) const NOWHERE: usize = usize::MAX;
+
+/// Stands for the index of a word in the lists of supports if there is no such word. These lists are most of a net, so they
+/// have 32 bits for each index: a length has at most 1,048,576 known words.
+pub(crate) const NO_WORD: u32 = u32::MAX;
 
 /// The most chunks of 64 bits that a row takes at once. No row of words comes near it.
 const MOST_CHUNKS: usize = 1 << 40;
@@ -92,17 +96,6 @@ pub(crate) fn fill_row(row: &mut BitRow, bits: usize)
     }
 }
 
-/// A row of `bits` clear bits.
-fn make_row(alloc: Global, bits: usize) -> Result<BitRow, AllocError>
-    requires { bits < 2 ^ 57 }
-    ensures bits { IfOk result (λ row. row.bits ≡ replicate bits false) }
-    ensures room { IfOk result (λ row. bits ≤ row.room) }
-{
-    let mut row = make_empty_row(alloc, bits)?;
-    fill_row(&mut row, bits);
-    Ok(row)
-}
-
 /// For each light a row with a clear bit for each known word of its length.
 pub(crate) fn make_rows(
     alloc: Global,
@@ -114,7 +107,7 @@ pub(crate) fn make_rows(
     let mut rows = Vec::new(alloc);
     for light in 0..lights.len() {
         let bits = known(bank, size_at(lights, light));
-        rows.push(make_row(alloc, bits)?)?;
+        rows.push(BitRow::clear_of(alloc, bits)?)?;
     }
     Ok(rows)
 }
@@ -145,11 +138,11 @@ pub(crate) fn make_sets(alloc: Global, count: usize) -> Result<Vec<LetterSet>, A
     vec![in alloc; LetterSet::new(); count]
 }
 
-/// `count` entries of `NOWHERE`.
-pub(crate) fn make_held(alloc: Global, count: usize) -> Result<Vec<usize>, AllocError>
-    ensures { IfOk result (λ held. held.items ≡ replicate count (2 ^ 64 - 1)) }
+/// `count` entries of `NO_WORD`.
+pub(crate) fn make_held(alloc: Global, count: usize) -> Result<Vec<u32>, AllocError>
+    ensures { IfOk result (λ held. held.items ≡ replicate count (2 ^ 32 - 1)) }
 {
-    vec![in alloc; NOWHERE; count]
+    vec![in alloc; NO_WORD; count]
 }
 
 /// Reserves room in each light's row for the known words, and for one more of length `grown`.

@@ -218,6 +218,7 @@ impl Net {
         grid: &Grid,
         lights: &Lights,
         watched: &[bool],
+        in_turn: bool,
     ) -> Option<usize>
         requires lights { lights.now ≡ lights_of grid.now }
         requires shaped { IsShaped (board_of grid.now) self.old }
@@ -232,14 +233,15 @@ impl Net {
         ensures watched { IfSome result (λ light. slice_index_or watched.now light false ≡ true) }
     {
         let board = Board::new(grid, lights);
-        let Some(dead) = self.strip_watching(rows, &board, watched) else {
+        let Some(dead) = self.strip_watching(rows, &board, watched, in_turn) else {
             return None;
         };
         self.halt();
         Some(dead)
     }
     /// Updates the net as `settle` does, but stops at the first watched light that has no feasible word after the edit, and
-    /// returns it. The net is not settled then: copy another net over it.
+    /// returns it. The net is not settled then: copy another net over it. Lights with few words are stripped first; with
+    /// `in_turn`, those that were queued first are, so that the light returned tells more about the change.
     pub fn try_settle<R: Rows>(
         &mut self,
         rows: &mut R,
@@ -247,6 +249,7 @@ impl Net {
         grid: &Grid,
         lights: &Lights,
         watched: &[bool],
+        in_turn: bool,
     ) -> Option<usize>
         requires lights { lights.now ≡ lights_of grid.now }
         requires inside { AreInside grid.now (cells_of change.now) }
@@ -263,7 +266,7 @@ impl Net {
         ensures watched { IfSome result (λ light. slice_index_or watched.now light false ≡ true) }
     {
         self.revive(rows, change, grid, lights);
-        let stop = self.try_strip(rows, grid, lights, watched);
+        let stop = self.try_strip(rows, grid, lights, watched, in_turn);
         if stop.is_none() {
             self.keep_counts();
         }

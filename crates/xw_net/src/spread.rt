@@ -11,6 +11,7 @@ ghost use Rattle.xw_net.specs.Worklist.{is_marked, HasSeeds, Grows, MarksAll, Ma
 
 use crate::net::Net;
 use crate::position::position_of;
+use crate::sparse::copy_row;
 use crate::worklist::Worklist;
 use xw_bits::bit_row::BitRow;
 use xw_feas::board::{Board, allowed, has_all_entries};
@@ -121,7 +122,7 @@ fn bring_row(base: &[BitRow], light: usize, rows: &mut [BitRow])
     ensures others { OtherRowsStay light rows.old rows.new }
     ensures row_room { KeepRoom rows.old rows.new }
 {
-    rows[light].copy_from(&base[light]);
+    copy_row(&mut rows[light], &base[light]);
 }
 
 /// Puts all base words of a light back, and queues the light.
@@ -196,7 +197,7 @@ impl Net {
     ghost use Rattle.xw_words.specs.Dictionary.{Entry};
     ghost use Rattle.xw_feas.specs.Board.{Board as BoardOfIndices};
     ghost use Rattle.xw_net.specs.Brought.{HasBase};
-    ghost use Rattle.xw_net.specs.Chain.{BringsBack, RevivesChain, CoversFeasible, ReadiesChain, StaysInRegion};
+    ghost use Rattle.xw_net.specs.Inner.Chain.{BringsBack, RevivesChain, CoversFeasible, ReadiesChain, StaysInRegion};
     ghost use Rattle.xw_net.specs.Nets.{letter_stands, IsShaped, IsChained, HasBits, IsQueue};
     ghost use Rattle.xw_net.specs.Room.{KeepRoom};
     ghost use Rattle.xw_net.specs.Spread.{Reaches};

@@ -1,11 +1,13 @@
 //! Finds words that support a letter at a position of a light.
-ghost use Rattle.std.specs.Prelude.{◌≡◌, ℕ, ◌+◌, ◌-◌, ◌*◌, ◌/◌, ◌^◌, ◌<◌, ◌≤◌, true, false, ◌&&◌, length, slice_index_or, IfSome, IfNone, MatchOption, if◌then◌else◌};
+ghost use Rattle.std.specs.Prelude.{◌≡◌, ℕ, ◌+◌, ◌-◌, ◌*◌, ◌/◌, ◌^◌, ◌<◌, ◌≤◌, true, false, ◌&&◌, length, slice_index, slice_index_or, IfSome, IfNone, MatchOption, if◌then◌else◌};
 ghost use Rattle.xw_letters.specs.Letter.{IsLetter};
 ghost use Rattle.xw_letters.specs.LetterSet.{has};
+ghost use Rattle.xw_net.specs.Inner.Lost.{IsInRow, IsLost, AreInRow};
 ghost use Rattle.xw_net.specs.Region.{chunks_of};
 ghost use Rattle.xw_net.specs.Support.{holds, supports, letter_count, Finds, StrikesRow, NoneSupports};
 
 use crate::position::Position;
+use crate::room::NO_WORD;
 use xw_bits::bit_row::BitRow;
 use xw_letters::letter::Letter;
 use xw_letters::letter_set::LetterSet;
@@ -84,53 +86,78 @@ pub(crate) fn strike_row<R: Rows>(
     row.keep_count();
 }
 
-/// The chunk where the search for another support starts; `None` if the held one is still in the
-/// row.
-fn search_start(row: &BitRow, held: usize, is_new: bool) -> Option<usize>
-    ensures stands { IfNone result ((held < length row.now.bits) × (slice_index_or row.now.bits held false ≡ true)) }
-    ensures gone { IfSome result (λ _. held < length row.now.bits → slice_index_or row.now.bits held false ≡ false) }
-    ensures known { IfSome result (λ from. held < length row.now.bits → is_new ≡ false → from ≡ held / 64) }
-    ensures past { IfSome result (λ from. length row.now.bits ≤ held → from ≡ 0) }
-    ensures start { IfSome result (λ from. is_new ≡ true → from ≡ 0) }
+/// Whether the row has a word; its index may be past the end of the row.
+fn is_in(row: &BitRow, word: usize) -> bool
+    ensures there { result ≡ true → IsInRow row.now.bits word }
+    ensures lost { result ≡ false → IsLost row.now.bits word }
 {
-    if held >= row.len() {
-        Some(0)
-    } else if row.has(held) {
-        None
-    } else if is_new {
-        Some(0)
+    word < row.len() && row.has(word)
+}
+
+/// The first letter of a set, by its index in the alphabet from `from` on, whose held word is not in the row. Most letters
+/// keep their support, so stripping looks at them here and no further.
+pub(crate) fn next_lost(
+    row: &BitRow,
+    held: &[u32],
+    slot: usize,
+    letters: LetterSet,
+    from: u32,
+) -> Option<u32>
+    requires { 26 * slot + 26 ≤ length held.now }
+    ensures set { IfSome result (λ index. (from ≤ index) × (index < 26) × (has letters (65 + index) ≡ true)) }
+    ensures lost { IfSome result (λ index. IsLost row.now.bits (slice_index held.now (26 * slot + index))) }
+    ensures passed { IfSome result (AreInRow row.now.bits held.now slot letters from) }
+    ensures none { IfNone result (AreInRow row.now.bits held.now slot letters from 26) }
+{
+    let mut at = from;
+    while let Some(index) = letters.next_index(at) {
+        if !is_in(row, held[26 * slot + index as usize] as usize) {
+            return Some(index);
+        }
+        at = index + 1;
+    }
+    None
+}
+
+/// The chunk where the search for another support starts.
+fn search_start(row: &BitRow, held: usize, is_new: bool) -> usize
+    ensures known { held < length row.now.bits → is_new ≡ false → result ≡ held / 64 }
+    ensures past { length row.now.bits ≤ held → result ≡ 0 }
+    ensures start { is_new ≡ true → result ≡ 0 }
+{
+    if is_new || held >= row.len() {
+        0
     } else {
-        Some(held / 64)
+        held / 64
     }
 }
 
-/// Whether the letter has a support in the row. If the held one is gone, it searches for the next
-/// one and holds that.
+/// Whether a letter whose held word is not in the row has another support there, which it then holds. No row of words has so
+/// many that an index does not fit.
 pub(crate) fn find_support<R: Rows>(
     rows: &mut R,
     row: &BitRow,
     here: Position,
     letter: Letter,
-    held: &mut [usize],
+    held: &mut [u32],
     restart: &mut [LetterSet],
 ) -> bool
     requires letter { IsLetter letter }
     requires held { 26 * here.slot + (letter - 65) < length held.old }
     requires restart { here.slot < length restart.old }
     requires small { length held.old < 2 ^ 63 }
+    requires lost { IsLost row.now.bits (slice_index held.old (26 * here.slot + (letter - 65))) }
     ensures entries { R.entries rows.new ≡ R.entries rows.old }
     ensures risen { R.ticks rows.old ≤ R.ticks rows.new }
     ensures held { length held.new ≡ length held.old }
     ensures restart { length restart.new ≡ length restart.old }
-    ensures finds { Finds row.now.bits (R.entries rows.old here.len) here.position here.slot letter (holds held.old restart.old) (holds held.new restart.new) result (R.ticks rows.new - R.ticks rows.old) }
+    ensures finds { length row.now.bits < 2 ^ 32 → Finds row.now.bits (R.entries rows.old here.len) here.position here.slot letter (holds held.old restart.old) (holds held.new restart.new) result (R.ticks rows.new - R.ticks rows.old) }
 {
     let at = 26 * here.slot + (letter.byte() - b'A') as usize;
-    let Some(from) = search_start(row, held[at], restart[here.slot].has(letter)) else {
-        return true;
-    };
+    let from = search_start(row, held[at] as usize, restart[here.slot].has(letter));
     match first_support(rows, row, here.len, here.position, letter, from) {
         Some(word) => {
-            held[at] = word;
+            held[at] = word.min(NO_WORD as usize) as u32;
             restart[here.slot].remove(letter);
             true
         }

@@ -71,9 +71,16 @@ impl Worklist {
         self.lights.pop()
     }
 
-    /// Takes a light, which stays marked. `turn` moves through the list from start to end and over
-    /// again, so a light that is inserted late waits for the earlier ones.
-    pub(crate) fn take_turn(&mut self, turn: &mut usize) -> Option<usize>
+    /// The lights that wait.
+    pub(crate) fn waiting(&self) -> &[usize]
+        ensures { result.now ≡ self.now.lights }
+    {
+        &self.lights
+    }
+
+    /// Takes the light at index `at` of the list, or the first one if the list is not that long. It
+    /// stays marked.
+    pub(crate) fn take_at(&mut self, at: usize) -> Option<usize>
         ensures taken { IfSome result (λ light. IsPermutation self.old.lights (light ∷ self.new.lights)) }
         ensures marked { IfSome result (λ light. is_marked self.old.marks light ≡ true) }
         ensures within { IfSome result (λ light. light < length self.old.marks) }
@@ -82,7 +89,7 @@ impl Worklist {
         ensures left { IfNone result (self.new.lights ≡ []) }
         ensures rest { self.new ≡ record self.old { lights = self.new.lights } }
     {
-        take_turn_of(&mut self.lights, turn)
+        take_from(&mut self.lights, at)
     }
 
     /// Unmarks a light that was taken.
@@ -137,8 +144,8 @@ impl Worklist {
     }
 }
 
-/// Takes the light at `turn`, or the first one if that is past the end, and moves `turn` on.
-fn take_turn_of(lights: &mut Vec<usize>, turn: &mut usize) -> Option<usize>
+/// Takes the light at index `at`, or the first one if there are not that many.
+fn take_from(lights: &mut Vec<usize>, at: usize) -> Option<usize>
     ensures taken { IfSome result (λ light. IsPermutation lights.old.items (light ∷ lights.new.items)) }
     ensures none { IfNone result (lights.old.items ≡ []) }
     ensures left { IfNone result (lights.new.items ≡ []) }
@@ -147,10 +154,10 @@ fn take_turn_of(lights: &mut Vec<usize>, turn: &mut usize) -> Option<usize>
     if lights.is_empty() {
         return None;
     }
-    if *turn >= lights.len() {
-        *turn = 0;
+    let mut from = at;
+    if from >= lights.len() {
+        from = 0;
     }
-    let light = lights.swap_remove(*turn);
-    *turn += 1;
+    let light = lights.swap_remove(from);
     Some(light)
 }

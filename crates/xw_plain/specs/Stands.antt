@@ -1,4 +1,5 @@
--- What stands: the flags for the words of lights, the sets of letters for cells.
+-- What stands while words and letters without support are removed: flags for the words of lights, and sets of letters
+-- for cells.
 use Rattle.std.specs.Prelude.{ℕ, Bool, false, ◌&&◌, ◌==◌, ◌↔◌, List, [], IsTrue, slice_index, slice_index_or}
 use Rattle.xw_words.specs.Dictionary.{Dictionary}
 use Rattle.xw_feas.specs.AnswersOf.{answers_of}

@@ -2,7 +2,7 @@
 ghost use Rattle.std.specs.Prelude.{◌≡◌, ◌+◌, ◌<◌, length, [], None, Some, true, map, IfOk, IfErr, OnOk, OnErr, IsOkUnless, Ok, Err, if◌then◌else◌};
 ghost use Rattle.xw_letters.specs.Letter.{folded};
 ghost use Rattle.xw_words.specs.Dictionary.{add_answer, with_least, IsNew, IsDictionary};
-ghost use Rattle.xw_grid.specs.Edit.{toggle_block as block_toggled, toggle_bar as bar_toggled};
+ghost use Rattle.xw_grid.specs.Edit.{toggle_block as block_toggled, toggle_bar as bar_toggled, set_symmetry as symmetry_set};
 ghost use Rattle.xw_grid.specs.EditLaws.{SameShape};
 ghost use Rattle.xw_grid.specs.Light.{lights_of};
 ghost use Rattle.xw_feas.specs.AnswersOf.{answers_of};
@@ -19,7 +19,7 @@ ghost use Rattle.xw_feas.specs.Single.{IsExact-prop, IsWellFormed-prop};
 ghost use Rattle.xw_feas.specs.Standing.{HasRows};
 ghost use Rattle.xw_feas.specs.WellFormed.{IsWellFormed};
 ghost use Rattle.xw_plain.specs.Stands.{AreAnswered, AreAnswered-prop};
-ghost use Rattle.xw_feas.specs.State.{after, grid_after, is_of_letters, action_of, symmetry_chosen, letter_set, cell_cleared, word_placed, word_added, word_struck, least_chosen, block_toggled as toggle_of_block, bar_toggled as toggle_of_bar, IsRefused, place_word, add_word, strike_word};
+ghost use Rattle.xw_feas.specs.State.{after, grid_after, action_of, entry_action, symmetry_chosen, letter_set, cell_cleared, word_placed, word_added, word_struck, least_chosen, block_toggled as toggle_of_block, bar_toggled as toggle_of_bar, IsRefused, place_word, add_word, strike_word, write_list};
 
 use crate::flags::Flags;
 use crate::rows::{make_grid_rows, make_grown_rows};
@@ -29,13 +29,15 @@ use xw_feas::arrays::make_grid_sets;
 use xw_feas::board::{Board, has_all_entries};
 use xw_feas::changed::Changed;
 use xw_feas::dictionary::{add_in, known_distinct, limit_in, reserve_in, return_in, strike_in};
-use xw_feas::edit::{Edit, Found, Refusal};
+use xw_feas::edit::{Edit, EntryEdit, Found, Refusal};
 use xw_feas::feasible::Feasible;
-use xw_feas::grid_edit::{edit_letters, with_bar, with_block};
-use xw_grid::cell::{Cell, LightName, Side};
+use xw_feas::grid_edit::{edit_entries, with_bar, with_block};
+use xw_feas::write::write;
+use xw_grid::cell::{Cell, LightName, Side, Symmetry};
 use xw_grid::fault::GridFault;
 use xw_grid::grid::Grid;
 use xw_grid::lights::Lights;
+use xw_letters::letter::Letter;
 use xw_letters::letter_set::LetterSet;
 use xw_words::WordFault;
 use xw_words::bank::{Added, Bank};
@@ -150,16 +152,55 @@ impl Plain {
         }
     }
 
-    /// Applies an edit that keeps the lights and the dictionary.
-    fn edit_grid(&mut self, edit: &Edit<'_>) -> Result<(), Refusal>
-        requires { is_of_letters (action_of edit.now) ≡ true }
-        ensures ok { OnOk result (grid_after self.old.grid (action_of edit.now) ≡ Ok self.new.grid) }
-        ensures refused { IfErr result (λ refusal. grid_after self.old.grid (action_of edit.now) ≡ Err refusal) }
+    /// Applies an edit of entries.
+    fn edit_entries(&mut self, edit: &EntryEdit<'_>) -> Result<(), Refusal>
+        ensures ok { OnOk result (grid_after self.old.grid (entry_action edit.now) ≡ Ok self.new.grid) }
+        ensures refused { IfErr result (λ refusal. grid_after self.old.grid (entry_action edit.now) ≡ Err refusal) }
         ensures words { self.new.bank.words ≡ self.old.bank.words }
         ensures before { OnOk result (self.new.before.items ≡ self.old.letters.items) }
         ensures unchanged { OnErr result (self.new ≡ self.old) }
     {
-        edit_letters(&mut self.grid, &self.lights, edit)?;
+        edit_entries(&mut self.grid, &self.lights, edit)?;
+        settle_anew(
+            &self.grid,
+            &self.lights,
+            &self.bank,
+            &mut self.words,
+            &mut self.letters,
+            &mut self.before,
+        );
+        Ok(())
+    }
+
+    /// Writes a list of cells.
+    fn write(&mut self, list: &[(Cell, Option<Letter>)]) -> Result<(), GridFault>
+        ensures ok { OnOk result (write_list list.now self.old.grid ≡ Ok self.new.grid) }
+        ensures refused { IfErr result (λ fault. write_list list.now self.old.grid ≡ Err fault) }
+        ensures words { self.new.bank.words ≡ self.old.bank.words }
+        ensures before { OnOk result (self.new.before.items ≡ self.old.letters.items) }
+        ensures unchanged { OnErr result (self.new ≡ self.old) }
+    {
+        write(&mut self.grid, list)?;
+        settle_anew(
+            &self.grid,
+            &self.lights,
+            &self.bank,
+            &mut self.words,
+            &mut self.letters,
+            &mut self.before,
+        );
+        Ok(())
+    }
+
+    /// Sets the symmetry.
+    fn set_symmetry(&mut self, kind: Symmetry) -> Result<(), GridFault>
+        ensures ok { OnOk result (symmetry_set self.old.grid kind ≡ Ok self.new.grid) }
+        ensures refused { IfErr result (λ fault. symmetry_set self.old.grid kind ≡ Err fault) }
+        ensures words { self.new.bank.words ≡ self.old.bank.words }
+        ensures before { OnOk result (self.new.before.items ≡ self.old.letters.items) }
+        ensures unchanged { OnErr result (self.new ≡ self.old) }
+    {
+        self.grid.set_symmetry(kind)?;
         settle_anew(
             &self.grid,
             &self.lights,
@@ -343,7 +384,11 @@ impl Plain {
             Edit::Add(word, grade) => self.add(word, grade)?,
             Edit::Strike(word) => self.strike(word)?,
             Edit::Least(grade) => self.limit(grade),
-            _ => self.edit_grid(edit)?,
+            Edit::Write(list) => self.write(list)?,
+            Edit::Symmetry(kind) => self.set_symmetry(kind)?,
+            Edit::Set(cell, letter) => self.edit_entries(&EntryEdit::Set(cell, letter))?,
+            Edit::Clear(cell) => self.edit_entries(&EntryEdit::Clear(cell))?,
+            Edit::Place(name, word) => self.edit_entries(&EntryEdit::Place(name, word))?,
         }
         Ok(())
     }

@@ -6,9 +6,9 @@ ghost use Rattle.xw_feas.specs.Choices.{choice_at, choices};
 ghost use Rattle.xw_plain.specs.Stands.{stands_with};
 
 use crate::plain::Plain;
+use std::alloc::AllocError;
 use std::snapshot::Snapshot;
 use xw_feas::board::Board;
-use xw_feas::edit::Refusal;
 use xw_feas::searchable::Searchable;
 use xw_grid::grid::Grid;
 use xw_letters::letter::Letter;
@@ -39,7 +39,7 @@ impl Plain {
         }
     }
 
-    /// 1 if a word of a light, by its index, is feasible and has the letter at a position, else 0.
+    /// 1 if a word of a light, by its index, is feasible and has the letter at a position; otherwise 0.
     fn count_choice(&self, light: usize, choice: usize, position: usize, letter: Letter) -> usize
         requires light { light < length (lights_of self.now.grid) }
         requires choice { choice < length (choices (board_of self.now.grid) self.now.bank.words (light_at (board_of self.now.grid) light)) }
@@ -61,9 +61,12 @@ impl Searchable for Plain {
 
     ghost saved = { λ snapshot. record { grid = snapshot.grid; words = snapshot.bank.value.words } };
 
-    fn snapshot(&self) -> Result<Saved, Refusal> {
+    fn snapshot(&self) -> Result<Saved, AllocError> {
         Ok(Saved {
-            grid: self.grid.copy()?,
+            grid: match self.grid.copy() {
+                Ok(grid) => grid,
+                Err(_) => return Err(AllocError),
+            },
             bank: Snapshot::of(&self.bank),
         })
     }

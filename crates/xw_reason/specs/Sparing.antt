@@ -1,4 +1,4 @@
--- Lists of written cells, and how far a search for a reason has come.
+-- Lists of written cells, and the progress of a search for a reason.
 use Rattle.std.specs.Prelude.{◌≡◌, ℕ, true, false, List, [], ◌∷◌, map, length, slice_set, All, Contains, Option, Some, None}
 use Rattle.xw_grid.specs.declared.cell.Cell.{Cell}
 use Rattle.xw_grid.specs.declared.cell.Square.TheVariants.{Open}

@@ -12,8 +12,8 @@ use xw_fill::scan::word_count;
 use xw_grid::cell::Cell;
 use xw_letters::letter::Letter;
 
-/// Empties a cell if it has an entry that can be spared: without it, the light still has no feasible word. Returns whether
-/// the cell was emptied.
+/// Empties a cell if it has an entry that can be spared: without it, the light still has no feasible word. Returns
+/// whether the cell was emptied.
 fn spare<E: Feasible>(engine: &mut E, light: usize, cell: Cell) -> bool
     requires light { light < light_count (position_of (E.state engine.old)) }
     requires open { is_open (E.state engine.old).grid cell ≡ true }

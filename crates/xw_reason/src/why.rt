@@ -56,8 +56,8 @@ impl Room {
     }
 }
 
-/// Leaves just a reason in the grid. The two lists are those of `Room`. Empties the grid, writes back the nearest entries
-/// until they leave the light no feasible word, and then leaves out those that can be spared.
+/// Leaves just a reason in the grid. The two lists are those of `Room`. Empties the grid, writes back the nearest
+/// entries until they leave the light no feasible word, and then leaves out those that can be spared.
 fn leave_reason<E: Feasible>(
     engine: &mut E,
     light: usize,
@@ -99,9 +99,9 @@ fn find<E: Feasible>(engine: &mut E, light: usize, room: &mut Room)
     write(engine, &room.entered);
 }
 
-/// Returns a reason why a light has no feasible word: for each cell in reading order the entry that it has in the reason,
-/// if any. With these entries alone the light has no feasible word, and with any one of them emptied it has some. There
-/// is no entry if the light has no feasible word even in the empty grid. The engine is left as it was.
+/// Returns a reason why a light has no feasible word: for each cell in reading order the entry that it has in the
+/// reason, if any. With these entries alone the light has no feasible word, and with any one of them emptied it has
+/// some. There is no entry if the light has no feasible word even in the empty grid. The engine is left as it was.
 ///
 /// Entries far from the light are left out first. Returns `NoLight`, then `Alive`, then `Memory`.
 pub fn reason<E: Feasible>(

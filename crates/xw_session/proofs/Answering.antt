@@ -17,20 +17,28 @@ use Rattle.xw_commands.specs.declared.command.Command.{Command}
 use Rattle.xw_answers.specs.declared.refusal.Refusal.{Refusal}
 use Rattle.xw_answers.specs.declared.refusal.Refusal.TheVariants as refusals
 use Rattle.xw_session.specs.Reply.{Reply, shown, reply_to, want_of}
-use Rattle.xw_session.specs.Answer.{Answers, IsReply, IsDue, AnswersBy, AnswersTo, AnswersParsed, AnswersParsedBy, Edits, reply_of, text_of, step_of}
+use Rattle.xw_session.specs.Answer.{Answers, IsReply, IsReplyTo, IsDue, AnswersBy, AnswersTo, AnswersParsed, AnswersParsedBy, Edits, reply_of, text_of, step_of}
+
+pub only_due : (reply due : Result Reply Refusal) → Some reply ≡ Some due → reply ≡ due
+only_due reply due is = cc
+
+only_reply : (found : Option (Result Reply Refusal)) (want : Option Refusal) (reply : Result Reply Refusal) → IsReplyTo found want reply
+    → (due : Result Reply Refusal) × (found ≡ Some due) × IsReply due want reply
+only_reply None want reply fits = absurd fits
+only_reply (Some due) want reply fits = (due, refl, fits)
 
 -- a command was executed or refused, and then its answer was written
 pub edit_answers : {S E T : Type 0} (transcript : S → List ℕ) (failures : S → ℕ) (state after : State) (command : Command) (done : Result T Refusal) (result : Result Step E) (old new : S)
-    → IsDue state command (reply_to state command) → Edits state command done after
+    → ((due : Result Reply Refusal) → reply_to state command ≡ Some due → IsDue state command due) → Edits state command done after
     → ((g : State) → Sends transcript failures old new result (text_of (reply_of done g)))
     → ((g : State) → IfOk result (λ o. o ≡ step_of (reply_of done g)))
     → AnswersTo transcript failures state command result after old new
-edit_answers transcript failures state after command done result old new is edits sends outcome = (
-  reply_to state command,
-  is,
+edit_answers transcript failures state after command done result old new is edits sends outcome = let only = only_reply (reply_to state command) (want_of state command) (reply_of done after) edits.0 in (
+  only.0,
+  is only.0 only.1,
   record {
     reply = reply_of done after;
-    fits = edits.0;
+    fits = only.2;
     effect = edits.1;
     sends = sends after;
     step = outcome after;

@@ -5,7 +5,7 @@ use Rattle.std.proofs.lemmas.Bool.{false≢true}
 use Rattle.xw_grid.specs.declared.cell.LightName.{LightName}
 use Rattle.xw_grid.specs.Light.{lights_of, index_named}
 use Rattle.xw_commands.specs.declared.command.LightArg.{LightArg}
-use Rattle.xw_feas.specs.State.{State as Position}
+use Rattle.xw_feas.specs.State.{State as EngineState}
 use Rattle.xw_feas.specs.declared.edit.Refusal.{Refusal as EditRefusal}
 use Rattle.xw_fill.specs.declared.search.Filling.{Filling}
 use Rattle.xw_fill.specs.declared.search.Filling.TheVariants as fillings
@@ -31,35 +31,35 @@ module _ {X : Type 0} (P : X → Type 0) (x : X) (xs : List X) where
   with_head head tail zero d below = head
   with_head head tail (suc k) d below = tail k d (omega (arith, below))
 
-module _ (position : Position) where
+module _ (engine : EngineState) where
   -- the light of a command is in the grid
   abbrev is_there : LightArg → Bool
-  is_there named = is_some (index_named (lights_of position.grid) (name_of_light named))
+  is_there named = is_some (index_named (lights_of engine.grid) (name_of_light named))
 
   -- all these lights are in the grid if the remaining ones are
   pub record AreLeft (lights left : List LightArg) : Type 0 where
-    pub all : AreLights position (names_of left) → AreLights position (names_of lights)
-    pub some : AreLights position (names_of lights) → AreLights position (names_of left)
+    pub all : AreLights engine (names_of left) → AreLights engine (names_of lights)
+    pub some : AreLights engine (names_of lights) → AreLights engine (names_of left)
 
   pub all_left : (lights : List LightArg) → AreLeft lights lights
   all_left lights = record { all = λ are. are; some = λ are. are }
 
   abbrev pub IsLight : LightName → Type 0
-  IsLight name = is_some (index_named (lights_of position.grid) name) ≡ true
+  IsLight name = is_some (index_named (lights_of engine.grid) name) ≡ true
 
   pub one_known : (lights left rest : List LightArg) (named : LightArg) → AreLeft lights left → left ≡ named ∷ rest → is_there named ≡ true → AreLeft lights rest
   one_known lights left rest named are is there = record {
-    all = λ known. are.all (subst (λ ls. AreLights position (names_of ls)) (sym is) (with_head IsLight (name_of_light named) (names_of rest) there known));
-    some = λ known. tail_of IsLight (name_of_light named) (names_of rest) (subst (λ ls. AreLights position (names_of ls)) is (are.some known));
+    all = λ known. are.all (subst (λ ls. AreLights engine (names_of ls)) (sym is) (with_head IsLight (name_of_light named) (names_of rest) there known));
+    some = λ known. tail_of IsLight (name_of_light named) (names_of rest) (subst (λ ls. AreLights engine (names_of ls)) is (are.some known));
   }
 
-  pub one_unknown : (lights left rest : List LightArg) (named : LightArg) → AreLeft lights left → left ≡ named ∷ rest → is_there named ≡ false → AreLights position (names_of lights) → ⊥
+  pub one_unknown : (lights left rest : List LightArg) (named : LightArg) → AreLeft lights left → left ≡ named ∷ rest → is_there named ≡ false → AreLights engine (names_of lights) → ⊥
   one_unknown lights left rest named are is missing known =
-      let there = head_of IsLight (name_of_light named) (names_of rest) (subst (λ ls. AreLights position (names_of ls)) is (are.some known)) in
+      let there = head_of IsLight (name_of_light named) (names_of rest) (subst (λ ls. AreLights engine (names_of ls)) is (are.some known)) in
       absurd (false≢true (sym missing ∙ there))
 
-  pub all_known : (lights left : List LightArg) → AreLeft lights left → left ≡ [] → AreLights position (names_of lights)
-  all_known lights left are none = are.all (subst (λ ls. AreLights position (names_of ls)) (sym none) (λ k d below. absurd (omega (arith, below))))
+  pub all_known : (lights left : List LightArg) → AreLeft lights left → left ≡ [] → AreLights engine (names_of lights)
+  all_known lights left are none = are.all (subst (λ ls. AreLights engine (names_of ls)) (sym none) (λ k d below. absurd (omega (arith, below))))
 
 -- ---- results of calls
 
@@ -87,19 +87,19 @@ one_named lights left rest named name names so_far is same =
 
 -- ---- replies
 
-module _ (state : State) (names : List LightName) (there : AreLights state.position names) (now : Position) where
+module _ (state : State) (names : List LightName) (there : AreLights state.engine names) (now : EngineState) where
   -- a search for a fill gives an allowed reply
-  pub autofill_fits : (result : Result Filling EditRefusal) → IfOk result (IsAutofilled (is_named state.position names) state.position now) → IfErr result (IsRefusal state.position names)
-      → (due : Result Reply Refusal) × IsAutofillDue state names due × IsReply due (Some grid_memory) (fill_reply result (record state { position = now }))
+  pub autofill_fits : (result : Result Filling EditRefusal) → IfOk result (IsAutofilled (is_named state.engine names) state.engine now) → IfErr result (IsRefusal state.engine names)
+      → (due : Result Reply Refusal) × IsAutofillDue state names due × IsReply due (Some grid_memory) (fill_reply result (record state { engine = now }))
   autofill_fits (Ok filling) done refusal =
-      (Ok (record { lines = word_line (filling_name filling); state = record state { position = now } }), record { lights = there; filling = filling; position = now; done = done; is = refl }, refl)
+      (Ok (record { lines = word_line (filling_name filling); state = record state { engine = now } }), record { lights = there; filling = filling; engine = now; done = done; is = refl }, refl)
   autofill_fits (Err refusal) done (inl none) = absurd (none.1 there)
   autofill_fits (Err refusal) done (inr memory) = (
     Ok (record { lines = word_line (filling_name fillings.Limit); state = state }),
-    record { lights = there; filling = fillings.Limit; position = state.position; done = refl; is = refl },
+    record { lights = there; filling = fillings.Limit; engine = state.engine; done = refl; is = refl },
     inr (refl, ap (λ r. Some (refusal_of r)) (sym memory)),
   )
 
-  pub autofill_effect : (result : Result Filling EditRefusal) → OnErr result (now ≡ state.position) → record state { position = now } ≡ state_after state (fill_reply result (record state { position = now }))
+  pub autofill_effect : (result : Result Filling EditRefusal) → OnErr result (now ≡ state.engine) → record state { engine = now } ≡ state_after state (fill_reply result (record state { engine = now }))
   autofill_effect (Ok filling) same = refl
-  autofill_effect (Err refusal) same = ap (λ (p : Position). record state { position = p }) same
+  autofill_effect (Err refusal) same = ap (λ (p : EngineState). record state { engine = p }) same

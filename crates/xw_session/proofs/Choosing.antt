@@ -115,5 +115,5 @@ module _ (state : State) (light : ℕ) (bytes : List ℕ) where
       ap known_index e ∙ sym (ap (λ bad. spelled_index state light bad bytes) letters ∙ ap (λ b. cond b (known_index (index_of_word state.words (map folded bytes))) (Err refusals.PlaceLength)) same)
 
 -- the reply, by the light and the index
-pub weighed_by : (state : Session) (light most : ℕ) (first : Option (List ℕ)) (found : Option ℕ) (from : Result (Option ℕ) Refusal) → found ≡ Some light → from ≡ first_index state.position light first → weighed state found most first ≡ weighed_from state light most from
+pub weighed_by : (state : Session) (light most : ℕ) (first : Option (List ℕ)) (found : Option ℕ) (from : Result (Option ℕ) Refusal) → found ≡ Some light → from ≡ first_index state.engine light first → weighed state found most first ≡ weighed_from state light most from
 weighed_by state light most first found from is e = ap (λ f. weighed state f most first) is ∙ ap (weighed_from state light most) (sym e)

@@ -19,7 +19,7 @@ use Rattle.xw_lines.specs.Cut.{lines_of}
 use Rattle.xw_commands.specs.Command.{command_of}
 use Rattle.xw_session.specs.Redrawn.{Redraws, AreDrawn, IsDrawn, IsRedrawn}
 use Rattle.xw_lines.specs.declared.outcome.Step.TheVariants.{Accepted, Refused}
-use Rattle.xw_session.specs.Reply.{Reply, reply_to, moved, watch_lines, with_letter}
+use Rattle.xw_session.specs.Reply.{Reply, moved, watch_lines, with_letter}
 use Rattle.xw_session.specs.Answer.{AnswersParsed, IsDue, text_of}
 use Rattle.xw_session.specs.Resuming.{AreDone, IsDone, command_fault, parsed_fault}
 
@@ -98,38 +98,31 @@ made-of old new action other is made = let same : action ≡ other = cc in ap (g
 
 -- the state with another grid
 abbrev pub redrawn : State → Grid → State
-redrawn state grid = record state { position = record state.position { grid = grid } }
+redrawn state grid = record state { engine = record state.engine { grid = grid } }
 
 -- the reply to a command that changes nothing but the grid
 abbrev redrawn_reply : State → Grid → Reply
-redrawn_reply state grid = record { lines = watch_lines state (record state.position { grid = grid }); state = redrawn state grid }
+redrawn_reply state grid = record { lines = watch_lines state (record state.engine { grid = grid }); state = redrawn state grid }
 
 -- a letter is set
-set-is : (state : State) (grid : Grid) (spot : CellArg) (entry : Option ℕ) (action : Action) → option_map (letter_set (cell_of spot)) entry ≡ Some action → grid_after state.position.grid action ≡ Ok grid
+set-is : (state : State) (grid : Grid) (spot : CellArg) (entry : Option ℕ) (action : Action) → option_map (letter_set (cell_of spot)) entry ≡ Some action → grid_after state.engine.grid action ≡ Ok grid
     → with_letter state spot entry ≡ Ok (redrawn_reply state grid)
 set-is state grid spot None action is made = absurd (none-some action is)
 set-is state grid spot (Some letter) action is made =
-    ap (λ result. moved state (with_grid state.position result)) (made-of state.position.grid grid (letter_set (cell_of spot) letter) action is made)
+    ap (λ result. moved state (with_grid state.engine result)) (made-of state.engine.grid grid (letter_set (cell_of spot) letter) action is made)
 
 -- such a command is accepted, and changes nothing but the grid
-redrawn-is : (state : State) (grid : Grid) (command : Command) → Redraws command state.position.grid grid → reply_to state command ≡ Ok (redrawn_reply state grid)
-redrawn-is state grid (commands.Symmetry kind) draws =
-    ap (λ result. moved state (with_grid state.position result)) (made-of state.position.grid grid (symmetry_chosen kind) draws.action draws.is draws.made)
-redrawn-is state grid (commands.Set spot letter) draws = set-is state grid spot (letter_of letter) draws.action draws.is draws.made
-redrawn-is state grid (commands.Clear spot) draws =
-    ap (λ result. moved state (with_grid state.position result)) (made-of state.position.grid grid (cell_cleared (cell_of spot)) draws.action draws.is draws.made)
-redrawn-is state grid (commands.Block spot) draws =
-    ap (λ result. moved state (with_grid state.position result)) (made-of state.position.grid grid (block_toggled (cell_of spot)) draws.action draws.is draws.made)
-redrawn-is state grid (commands.Bar spot side) draws =
-    ap (λ result. moved state (with_grid state.position result)) (made-of state.position.grid grid (bar_toggled (cell_of spot) side) draws.action draws.is draws.made)
-redrawn-is state grid other draws = absurd (none-some draws.action draws.is)
-
--- its reply is the only one
-due-is : (state : State) (old new : Grid) (command : Command) → Redraws command old new → IsDue state command (reply_to state command)
-due-is state old new (commands.Autofill limit seed lights) draws = absurd (none-some draws.action draws.is)
-due-is state old new (commands.Best limit seed lights) draws = absurd (none-some draws.action draws.is)
-due-is state old new (commands.Why named) draws = absurd (none-some draws.action draws.is)
-due-is state old new other draws = refl
+redrawn-due : (state : State) (grid : Grid) (command : Command) → Redraws command state.engine.grid grid → IsDue state command (Ok (redrawn_reply state grid))
+redrawn-due state grid (commands.Symmetry kind) draws =
+    ap (λ result. moved state (with_grid state.engine result)) (made-of state.engine.grid grid (symmetry_chosen kind) draws.action draws.is draws.made)
+redrawn-due state grid (commands.Set spot letter) draws = set-is state grid spot (letter_of letter) draws.action draws.is draws.made
+redrawn-due state grid (commands.Clear spot) draws =
+    ap (λ result. moved state (with_grid state.engine result)) (made-of state.engine.grid grid (cell_cleared (cell_of spot)) draws.action draws.is draws.made)
+redrawn-due state grid (commands.Block spot) draws =
+    ap (λ result. moved state (with_grid state.engine result)) (made-of state.engine.grid grid (block_toggled (cell_of spot)) draws.action draws.is draws.made)
+redrawn-due state grid (commands.Bar spot side) draws =
+    ap (λ result. moved state (with_grid state.engine result)) (made-of state.engine.grid grid (bar_toggled (cell_of spot) side) draws.action draws.is draws.made)
+redrawn-due state grid other draws = absurd (none-some draws.action draws.is)
 
 -- it has no escape
 no-fault : (old new : Grid) (command : Command) → Redraws command old new → command_fault (Some command) ≡ None
@@ -140,28 +133,28 @@ accepted≢refused : Accepted ≢ Refused
 accepted≢refused same = cc
 
 -- a line with such a command is done
-redrawn-done : (state : State) (grid : Grid) (line : List ℕ) (command : Command) → command_of line ≡ Ok (Some command) → Redraws command state.position.grid grid
+redrawn-done : (state : State) (grid : Grid) (line : List ℕ) (command : Command) → command_of line ≡ Ok (Some command) → Redraws command state.engine.grid grid
     → IsDone state line None (redrawn state grid)
 redrawn-done state grid line command is draws =
     let reply = redrawn_reply state grid in
     let answers : AnswersParsed state (Ok (Some command)) Accepted (text_of (Ok reply)) (redrawn state grid) =
-    (Ok reply, (reply_to state command, due-is state state.position.grid grid command draws, redrawn-is state grid command draws), refl, refl, refl) in (
-      ap parsed_fault is ∙ no-fault state.position.grid grid command draws,
+    (Ok reply, (Ok reply, redrawn-due state grid command draws, refl), refl, refl, refl) in (
+      ap parsed_fault is ∙ no-fault state.engine.grid grid command draws,
       (Accepted, text_of (Ok reply), subst (λ parsed. AnswersParsed state parsed Accepted (text_of (Ok reply)) (redrawn state grid)) (sym is) answers, accepted≢refused),
     )
 
 -- lines with such commands are done
-pub all-redrawn : (lines : List (List ℕ)) (state : State) (grid : Grid) (file : List ℕ) (number : ℕ) → AreDrawn lines state.position.grid grid
+pub all-redrawn : (lines : List (List ℕ)) (state : State) (grid : Grid) (file : List ℕ) (number : ℕ) → AreDrawn lines state.engine.grid grid
     → AreDone file number state lines [] 0 (redrawn state grid)
 all-redrawn [] state grid file number same = (refl, refl, ap (redrawn state) same)
 all-redrawn (line ∷ lines) state grid file number (command, mid, is, draws, drawn) =
     (None, redrawn state mid, [], 0, redrawn-done state mid line command is draws, all-redrawn lines (redrawn state mid) grid file (number + 1) drawn, refl, refl)
 
 -- the engine got the grid after such lines
-pub redrawn-by : (text rest : List ℕ) (start shown end : State) (grid : Grid) (taken : ℕ) → shown ≡ start → end ≡ record shown { position = end.position } → end.position ≡ record shown.position { grid = grid }
-    → IsDrawn text shown.position.grid taken rest grid → IsRedrawn text start taken rest end
+pub redrawn-by : (text rest : List ℕ) (start shown end : State) (grid : Grid) (taken : ℕ) → shown ≡ start → end ≡ record shown { engine = end.engine } → end.engine ≡ record shown.engine { grid = grid }
+    → IsDrawn text shown.engine.grid taken rest grid → IsRedrawn text start taken rest end
 redrawn-by text rest start shown end grid taken view others same drawn =
-    let all : end ≡ redrawn shown grid = others ∙ ap (λ position. record shown { position = position }) same in
+    let all : end ≡ redrawn shown grid = others ∙ ap (λ engine. record shown { engine = engine }) same in
     let done : (file : List ℕ) (number : ℕ) → AreDone file number shown drawn.lines [] 0 end =
     λ file number. subst (λ next. AreDone file number shown drawn.lines [] 0 next) (sym all) (all-redrawn drawn.lines shown grid file number drawn.drawn) in
     record {

@@ -6,7 +6,7 @@ use Rattle.xw_letters.specs.LetterSet.{letters_in}
 use Rattle.xw_grid.specs.declared.cell.Cell.{Cell}
 use Rattle.xw_grid.specs.Grid.{is_inside, is_block, index_of, cell_at}
 use Rattle.xw_feas.specs.Board.{board_of}
-use Rattle.xw_feas.specs.State.{State as Position, Action, after}
+use Rattle.xw_feas.specs.State.{State as EngineState, Action, after}
 use Rattle.xw_feas.specs.Feasible.{Answers, AreAnswers}
 use Rattle.xw_feas.specs.Changes.{letters_of, changes, cells_that_differ}
 use Rattle.xw_feas.specs.Engine.{IsEdited}
@@ -33,38 +33,38 @@ use Rattle.xw_session.specs.Tally.{tally_line}
 use Rattle.xw_session.specs.Reply.{Reply, filling_name, changes_between, moved, want_of_action, lettered, tallied, shown, fill_tried, grid_memory}
 use Rattle.xw_session.specs.Answer.{IsReply, edit_reply, fill_reply, state_after}
 
-abbrev pub Knows : Position → Answers → Type 0
-Knows position answers = AreAnswers (board_of position.grid) position.words answers
+abbrev pub Knows : EngineState → Answers → Type 0
+Knows engine answers = AreAnswers (board_of engine.grid) engine.words answers
 
 -- the letters that an engine answers are the feasible ones
-letters_are : (position : Position) (answers : Answers) → Knows position answers → letters_of answers ≡ feasible_letters (position_of position)
-letters_are position answers exact = λ i. λ cell. answered_letters (position_of position) answers exact cell i
+letters_are : (engine : EngineState) (answers : Answers) → Knows engine answers → letters_of answers ≡ feasible_letters (position_of engine)
+letters_are engine answers exact = λ i. λ cell. answered_letters (position_of engine) answers exact cell i
 
-changes_are : (before now : Position) (a b : Answers) → Knows before a → Knows now b → changes now.grid a b ≡ changes_between before now
+changes_are : (before now : EngineState) (a b : Answers) → Knows before a → Knows now b → changes now.grid a b ≡ changes_between before now
 changes_are before now a b exact_before exact_now =
     ap (λ (letters : ℕ → List ℕ). map (λ index. (cell_at now.grid index, letters_of b index)) (cells_that_differ now.grid letters (letters_of b) 0)) (letters_are before a exact_before)
     ∙ ap (λ (letters : ℕ → List ℕ). map (λ index. (cell_at now.grid index, letters index)) (cells_that_differ now.grid (feasible_letters (position_of before)) letters 0)) (letters_are now b exact_now)
 
-may_move : (state : State) (r : Result Position EditRefusal) → IsOk r → IsOk (moved state r)
-may_move state (Ok position) is = is
+may_move : (state : State) (r : Result EngineState EditRefusal) → IsOk r → IsOk (moved state r)
+may_move state (Ok engine) is = is
 may_move state (Err refusal) is = is
 
 -- an edit of the engine gives an allowed reply
-pub edit_fits : (state : State) (now : Position) (a b : Answers) (action : Action) (result : Result Changed EditRefusal) → Knows state.position a → Knows now b → IsEdited state.position a action result now b
-    → IsReply (moved state (after state.position action)) (want_of_action state action) (edit_reply state.is_watched result (record state { position = now }))
+pub edit_fits : (state : State) (now : EngineState) (a b : Answers) (action : Action) (result : Result Changed EditRefusal) → Knows state.engine a → Knows now b → IsEdited state.engine a action result now b
+    → IsReply (moved state (after state.engine action)) (want_of_action state action) (edit_reply state.is_watched result (record state { engine = now }))
 edit_fits state now a b action (Ok changed) exact_before exact_now edited =
     ap (moved state) edited.state
-    ∙ ap (λ lines. Ok (record { lines = if state.is_watched then flat_map change_line lines else []; state = record state { position = now } })) (sym (changes_are state.position now a b exact_before exact_now) ∙ sym edited.changes)
+    ∙ ap (λ lines. Ok (record { lines = if state.is_watched then flat_map change_line lines else []; state = record state { engine = now } })) (sym (changes_are state.engine now a b exact_before exact_now) ∙ sym edited.changes)
 edit_fits state now a b action (Err refusal) exact_before exact_now edited =
     elim edited.rule [
       | inl is ↦ inl (ap (moved state) is)
-      | inr wants ↦ inr (may_move state (after state.position action) wants.0, ap (option_map refusal_of) wants.1)
+      | inr wants ↦ inr (may_move state (after state.engine action) wants.0, ap (option_map refusal_of) wants.1)
     ]
 
-pub edit_effect : (state : State) (now : Position) (a b : Answers) (action : Action) (result : Result Changed EditRefusal) → IsEdited state.position a action result now b
-    → record state { position = now } ≡ state_after state (edit_reply state.is_watched result (record state { position = now }))
+pub edit_effect : (state : State) (now : EngineState) (a b : Answers) (action : Action) (result : Result Changed EditRefusal) → IsEdited state.engine a action result now b
+    → record state { engine = now } ≡ state_after state (edit_reply state.is_watched result (record state { engine = now }))
 edit_effect state now a b action (Ok changed) edited = refl
-edit_effect state now a b action (Err refusal) edited = ap (λ (p : Position). record state { position = p }) edited.state
+edit_effect state now a b action (Err refusal) edited = ap (λ (p : EngineState). record state { engine = p }) edited.state
 
 -- ---- letters of a cell
 
@@ -75,28 +75,28 @@ judged true false good letters answer is = let same : good ≡ letters = cc in a
 judged true true good letters answer is = cc
 judged false blocks good letters answer is = cc
 
-pub lettered_is : (state : State) (answers : Answers) (cell : Cell) (set : ℕ) → Knows state.position answers
-    → cell_judged state.position.grid cell (letters_of answers (index_of state.position.grid cell)) ≡ Ok (letters_in set)
+pub lettered_is : (state : State) (answers : Answers) (cell : Cell) (set : ℕ) → Knows state.engine answers
+    → cell_judged state.engine.grid cell (letters_of answers (index_of state.engine.grid cell)) ≡ Ok (letters_in set)
     → lettered state cell ≡ shown state (letters_line (letters_in set))
 lettered_is state answers cell set exact is =
-    judged (is_inside state.position.grid cell) (is_block state.position.grid cell) _ _ (λ letters. shown state (letters_line letters))
-    (ap (cell_judged state.position.grid cell) (sym (answered_letters (position_of state.position) answers exact (index_of state.position.grid cell))) ∙ is)
+    judged (is_inside state.engine.grid cell) (is_block state.engine.grid cell) _ _ (λ letters. shown state (letters_line letters))
+    (ap (cell_judged state.engine.grid cell) (sym (answered_letters (position_of state.engine) answers exact (index_of state.engine.grid cell))) ∙ is)
 
-pub tallied_is : (state : State) (answers : Answers) (cell : Cell) (set : ℕ) → Knows state.position answers
-    → cell_judged state.position.grid cell (letters_of answers (index_of state.position.grid cell)) ≡ Ok (letters_in set)
-    → tallied state cell ≡ shown state (flat_map (tally_line state.position cell) (letters_in set))
+pub tallied_is : (state : State) (answers : Answers) (cell : Cell) (set : ℕ) → Knows state.engine answers
+    → cell_judged state.engine.grid cell (letters_of answers (index_of state.engine.grid cell)) ≡ Ok (letters_in set)
+    → tallied state cell ≡ shown state (flat_map (tally_line state.engine cell) (letters_in set))
 tallied_is state answers cell set exact is =
-    judged (is_inside state.position.grid cell) (is_block state.position.grid cell) _ _ (λ letters. shown state (flat_map (tally_line state.position cell) letters))
-    (ap (cell_judged state.position.grid cell) (sym (answered_letters (position_of state.position) answers exact (index_of state.position.grid cell))) ∙ is)
+    judged (is_inside state.engine.grid cell) (is_block state.engine.grid cell) _ _ (λ letters. shown state (flat_map (tally_line state.engine cell) letters))
+    (ap (cell_judged state.engine.grid cell) (sym (answered_letters (position_of state.engine) answers exact (index_of state.engine.grid cell))) ∙ is)
 
 -- ---- words of a light
 
-pub counted : (position : Position) (answers : Answers) (at : Option ℕ) (count : ℕ) (words : List (List ℕ)) → Knows position answers
+pub counted : (engine : EngineState) (answers : Answers) (at : Option ℕ) (count : ℕ) (words : List (List ℕ)) → Knows engine answers
     → Ok count ≡ on_light (λ light. length (words_of answers light)) at → Ok words ≡ on_light (words_of answers) at
-    → (light : ℕ) × (at ≡ Some light) × (count ≡ length (feasible_words (position_of position) light)) × (words ≡ feasible_words (position_of position) light)
-counted position answers None count words exact counts is = cc
-counted position answers (Some light) count words exact counts is =
-    let same = answered_words (position_of position) answers exact light in
+    → (light : ℕ) × (at ≡ Some light) × (count ≡ length (feasible_words (position_of engine) light)) × (words ≡ feasible_words (position_of engine) light)
+counted engine answers None count words exact counts is = cc
+counted engine answers (Some light) count words exact counts is =
+    let same = answered_words (position_of engine) answers exact light in
     let number : count ≡ length (words_of answers light) = cc in
     let all : words ≡ words_of answers light = cc in
     (light, refl, number ∙ ap length same, all ∙ same)
@@ -118,14 +118,14 @@ past : (limit n : ℕ) → limit < n → nat_lt limit n ≡ true
 past limit n h = grind (arith, nat_tests, h)
 
 -- a search for a fill gives an allowed reply
-pub fill_fits : (state : State) (now : Position) (limit : ℕ) (result : Result Filling EditRefusal) → IfOk result (IsFilling limit state.position now) → IfErr result (λ refusal. refusal ≡ edits.Grid grids.Memory)
-    → IsReply (fill_tried state limit) (Some grid_memory) (fill_reply result (record state { position = now }))
-fill_fits state now limit (Ok fillings.Filled) is memory = rw (within limit (due (position_of state.position)) is.0, is.1) (ap (λ (p : Position). Ok (record { lines = word_line (filling_name fillings.Filled); state = record state { position = p } })) (sym is.2))
-fill_fits state now limit (Ok fillings.NoFill) is memory = rw (within limit (due (position_of state.position)) is.0, is.1) (ap (λ (p : Position). Ok (record { lines = word_line (filling_name fillings.NoFill); state = record state { position = p } })) (sym is.2))
-fill_fits state now limit (Ok fillings.Limit) is memory = rw (past limit (due (position_of state.position)) is.0) (ap (λ (p : Position). Ok (record { lines = word_line (filling_name fillings.Limit); state = record state { position = p } })) (sym is.1))
-fill_fits state now limit (Err refusal) is memory = inr (fills (nat_lt limit (due (position_of state.position))) (found (position_of state.position)) _ _ _, ap (λ r. Some (refusal_of r)) (sym memory))
+pub fill_fits : (state : State) (now : EngineState) (limit : ℕ) (result : Result Filling EditRefusal) → IfOk result (IsFilling limit state.engine now) → IfErr result (λ refusal. refusal ≡ edits.Grid grids.Memory)
+    → IsReply (fill_tried state limit) (Some grid_memory) (fill_reply result (record state { engine = now }))
+fill_fits state now limit (Ok fillings.Filled) is memory = rw (within limit (due (position_of state.engine)) is.0, is.1) (ap (λ (p : EngineState). Ok (record { lines = word_line (filling_name fillings.Filled); state = record state { engine = p } })) (sym is.2))
+fill_fits state now limit (Ok fillings.NoFill) is memory = rw (within limit (due (position_of state.engine)) is.0, is.1) (ap (λ (p : EngineState). Ok (record { lines = word_line (filling_name fillings.NoFill); state = record state { engine = p } })) (sym is.2))
+fill_fits state now limit (Ok fillings.Limit) is memory = rw (past limit (due (position_of state.engine)) is.0) (ap (λ (p : EngineState). Ok (record { lines = word_line (filling_name fillings.Limit); state = record state { engine = p } })) (sym is.1))
+fill_fits state now limit (Err refusal) is memory = inr (fills (nat_lt limit (due (position_of state.engine))) (found (position_of state.engine)) _ _ _, ap (λ r. Some (refusal_of r)) (sym memory))
 
-pub fill_effect : {E : Type 0} (state : State) (old new : E) (position : E → Position) (result : Result Filling EditRefusal) → state.position ≡ position old → OnErr result (new ≡ old)
-    → record state { position = position new } ≡ state_after state (fill_reply result (record state { position = position new }))
-fill_effect state old new position (Ok filling) is same = refl
-fill_effect state old new position (Err refusal) is same = ap (λ (p : Position). record state { position = p }) (ap position same ∙ sym is)
+pub fill_effect : {E : Type 0} (state : State) (old new : E) (engine : E → EngineState) (result : Result Filling EditRefusal) → state.engine ≡ engine old → OnErr result (new ≡ old)
+    → record state { engine = engine new } ≡ state_after state (fill_reply result (record state { engine = engine new }))
+fill_effect state old new engine (Ok filling) is same = refl
+fill_effect state old new engine (Err refusal) is same = ap (λ (p : EngineState). record state { engine = p }) (ap engine same ∙ sym is)

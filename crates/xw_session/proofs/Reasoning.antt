@@ -16,8 +16,8 @@ use Rattle.xw_session.specs.Why.{entry_lines, IsWhyDue}
 use Rattle.xw_session.specs.Answer.{IsReply, why_reply, state_after}
 
 -- a search for a reason gives an allowed reply
-pub why_fits : (state : State) (name : LightName) (grid : Grid) (result : Result (Vec (Option ℕ) Global) NoReason) → grid ≡ state.position.grid
-    → IfOk result (λ entries. IsReasonOf state.position name entries.items) → IfErr result (IsRefused state.position name)
+pub why_fits : (state : State) (name : LightName) (grid : Grid) (result : Result (Vec (Option ℕ) Global) NoReason) → grid ≡ state.engine.grid
+    → IfOk result (λ entries. IsReasonOf state.engine name entries.items) → IfErr result (IsRefused state.engine name)
     → (due : Result Reply Refusal) × IsWhyDue state name due × IsReply due (Some grid_memory) (why_reply grid result state)
 why_fits state name grid (Ok entries) is done refused = (
   Ok (record { lines = entry_lines grid entries.items; state = state }),
@@ -27,8 +27,8 @@ why_fits state name grid (Ok entries) is done refused = (
 why_fits state name grid (Err reasons.NoLight) is done refused = (Err refusals.NoLight, inl (refl, refused), inl refl)
 why_fits state name grid (Err reasons.Alive) is done refused = (Err refusals.Alive, inr (refl, refused), inl refl)
 why_fits state name grid (Err reasons.Memory) is done refused =
-    let found = reason_exists (position_of state.position) refused.0 refused.2 in (
-      Ok (record { lines = entry_lines state.position.grid found.0; state = state }),
+    let found = reason_exists (position_of state.engine) refused.0 refused.2 in (
+      Ok (record { lines = entry_lines state.engine.grid found.0; state = state }),
       record { entries = found.0; reason = (refused.0, refused.1, found.1); is = refl },
       inr (refl, refl),
     )

@@ -13,7 +13,7 @@ use Rattle.xw_grid.specs.Light.{lights_of, no_light}
 use Rattle.xw_grid.proofs.LightLemmas.{inside_from_open}
 use Rattle.xw_feas.specs.declared.edit.Refusal.{Refusal as EditRefusal}
 use Rattle.xw_feas.specs.declared.edit.Refusal.TheVariants as edits
-use Rattle.xw_feas.specs.State.{State as Position}
+use Rattle.xw_feas.specs.State.{State as EngineState}
 use Rattle.xw_feas.specs.Feasible.{Answers}
 use Rattle.xw_feas.specs.Changes.{letters_of}
 use Rattle.xw_feas.specs.Queries.{cell_judged, words_of}
@@ -28,12 +28,12 @@ use Rattle.xw_session.proofs.Engine.{Knows}
 -- ---- lights
 
 -- the line of a light with its count of words is the specified one
-pub counted_line : (position : Position) (answers : Answers) (index : ℕ) (light : Light) (count : ℕ) → Knows position answers
-    → slice_get (lights_of position.grid) index ≡ Some light → count ≡ length (words_of answers index) → numbered_line light.name count ≡ count_line position index
-counted_line position answers index light count exact there is =
-    let found : get_or (lights_of position.grid) index no_light ≡ light = get_or_from_slice_get (lights_of position.grid) index light no_light there in
-    let same : count ≡ length (feasible_words (position_of position) index) = is ∙ ap length (answered_words (position_of position) answers exact index) in
-    ap (λ (l : Light). numbered_line l.name count) (sym found) ∙ ap (numbered_line (get_or (lights_of position.grid) index no_light).name) same
+pub counted_line : (engine : EngineState) (answers : Answers) (index : ℕ) (light : Light) (count : ℕ) → Knows engine answers
+    → slice_get (lights_of engine.grid) index ≡ Some light → count ≡ length (words_of answers index) → numbered_line light.name count ≡ count_line engine index
+counted_line engine answers index light count exact there is =
+    let found : get_or (lights_of engine.grid) index no_light ≡ light = get_or_from_slice_get (lights_of engine.grid) index light no_light there in
+    let same : count ≡ length (feasible_words (position_of engine) index) = is ∙ ap length (answered_words (position_of engine) answers exact index) in
+    ap (λ (l : Light). numbered_line l.name count) (sym found) ∙ ap (numbered_line (get_or (lights_of engine.grid) index no_light).name) same
 
 -- ---- cells
 
@@ -50,18 +50,18 @@ judged_open grid cell letters opened = judged (is_inside grid cell) (is_block gr
   judged true true a b = cc
   judged false blocks a b = cc
 
-pub told_letters : (position : Position) (answers : Answers) (cell : Cell) (set : ℕ) → Knows position answers → is_open position.grid cell ≡ true
-    → cell_judged position.grid cell (letters_of answers (index_of position.grid cell)) ≡ Ok (letters_in set)
-    → change_line (cell, letters_in set) ≡ letters_told position cell
-told_letters position answers cell set exact opened is =
-    let good = letters_of answers (index_of position.grid cell) in
-    let found : Ok good ≡ Ok (letters_in set) = sym (judged_open position.grid cell good opened) ∙ is in
+pub told_letters : (engine : EngineState) (answers : Answers) (cell : Cell) (set : ℕ) → Knows engine answers → is_open engine.grid cell ≡ true
+    → cell_judged engine.grid cell (letters_of answers (index_of engine.grid cell)) ≡ Ok (letters_in set)
+    → change_line (cell, letters_in set) ≡ letters_told engine cell
+told_letters engine answers cell set exact opened is =
+    let good = letters_of answers (index_of engine.grid cell) in
+    let found : Ok good ≡ Ok (letters_in set) = sym (judged_open engine.grid cell good opened) ∙ is in
     let same : letters_in set ≡ good = cc in
-    rw opened (ap (λ letters. change_line (cell, letters)) (same ∙ answered_letters (position_of position) answers exact (index_of position.grid cell)))
+    rw opened (ap (λ letters. change_line (cell, letters)) (same ∙ answered_letters (position_of engine) answers exact (index_of engine.grid cell)))
 
-pub never_untold : (position : Position) (answers : Answers) (cell : Cell) (refusal : EditRefusal) → is_open position.grid cell ≡ true
-    → cell_judged position.grid cell (letters_of answers (index_of position.grid cell)) ≡ Err refusal → ⊥
-never_untold position answers cell refusal opened is =
-    let good = letters_of answers (index_of position.grid cell) in
-    let found : Ok good ≡ Err refusal = sym (judged_open position.grid cell good opened) ∙ is in
+pub never_untold : (engine : EngineState) (answers : Answers) (cell : Cell) (refusal : EditRefusal) → is_open engine.grid cell ≡ true
+    → cell_judged engine.grid cell (letters_of answers (index_of engine.grid cell)) ≡ Err refusal → ⊥
+never_untold engine answers cell refusal opened is =
+    let good = letters_of answers (index_of engine.grid cell) in
+    let found : Ok good ≡ Err refusal = sym (judged_open engine.grid cell good opened) ∙ is in
     cc

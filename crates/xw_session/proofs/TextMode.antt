@@ -29,21 +29,21 @@ last_of_three true true x y z p q = cc
 last_of_three false b x y z p q = cc
 
 module _ (state : State) (putting : TextMode) (field : Field) (spelling : List ℕ) where
-  pub nul_due : is_some (text_spelled spelling) ≡ true → has_target state.position.grid (target_of field) ≡ true → has_nul spelling ≡ true
+  pub nul_due : is_some (text_spelled spelling) ≡ true → has_target state.engine.grid (target_of field) ≡ true → has_nul spelling ≡ true
       → put state putting field (text_spelled spelling) ≡ Err refusals.NulByte
   nul_due is targeted nul =
       let found = spelled_some (text_spelled spelling) is in
       ap (put state putting field) found.1
-      ∙ first_of_three (has_target state.position.grid (target_of field)) (has_nul found.0) _ _ _ targeted (nul_spelled false spelling found.0 found.1 ∙ nul)
+      ∙ first_of_three (has_target state.engine.grid (target_of field)) (has_nul found.0) _ _ _ targeted (nul_spelled false spelling found.0 found.1 ∙ nul)
 
-  pub put_due : is_some (text_spelled spelling) ≡ true → has_target state.position.grid (target_of field) ≡ true → has_nul spelling ≡ false
+  pub put_due : is_some (text_spelled spelling) ≡ true → has_target state.engine.grid (target_of field) ≡ true → has_nul spelling ≡ false
       → (piece : List ℕ) × (text_spelled spelling ≡ Some piece) × (put state putting field (text_spelled spelling) ≡ edited (with_piece state putting (target_of field) piece))
   put_due is targeted plain =
       let found = spelled_some (text_spelled spelling) is in (
         found.0,
         found.1,
         ap (put state putting field) found.1
-            ∙ last_of_three (has_target state.position.grid (target_of field)) (has_nul found.0) _ _ _ targeted (nul_spelled false spelling found.0 found.1 ∙ plain),
+            ∙ last_of_three (has_target state.engine.grid (target_of field)) (has_nul found.0) _ _ _ targeted (nul_spelled false spelling found.0 found.1 ∙ plain),
       )
 
 is_edited : (due : Result Reply Refusal) (state : State) → due ≡ edited state → IsOk due
@@ -55,7 +55,7 @@ wanted [] some = absurd (some refl)
 wanted (byte ∷ bytes) some = refl
 
 -- if a text is put, an allocation may fail
-pub memory_due : (state : State) (putting : TextMode) (field : Field) (spelling : List ℕ) → is_some (text_spelled spelling) ≡ true → has_target state.position.grid (target_of field) ≡ true → has_nul spelling ≡ false
+pub memory_due : (state : State) (putting : TextMode) (field : Field) (spelling : List ℕ) → is_some (text_spelled spelling) ≡ true → has_target state.engine.grid (target_of field) ≡ true → has_nul spelling ≡ false
     → (spelling ≡ [] → ⊥) → IsOk (put state putting field (text_spelled spelling)) × (want_of_text spelling ≡ Some grid_memory)
 memory_due state putting field spelling is targeted plain some =
     let due = put_due state putting field spelling is targeted plain in

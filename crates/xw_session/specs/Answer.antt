@@ -33,13 +33,17 @@ abbrev pub IsReply : Result Reply Refusal → Option Refusal → Result Reply Re
 IsReply due want (Ok reply) = due ≡ Ok reply
 IsReply due want (Err refusal) = (due ≡ Err refusal) ⊎ (IsOk due × (want ≡ Some refusal))
 
--- A reply that the command may get if no allocation fails. For autofill, best and why there can be more than one such
--- reply; for any other command there is exactly one.
+-- the reply is the only one
+abbrev pub IsOnly : Option (Result Reply Refusal) → Result Reply Refusal → Type 0
+IsOnly None due = ⊥
+IsOnly (Some reply) due = reply ≡ due
+
+-- A reply that the command may get if no allocation fails. A command that is no search, and `fill`, have exactly one.
 abbrev pub IsDue : State → Command → Result Reply Refusal → Type 0
 IsDue state (commands.Autofill limit seed lights) due = IsAutofillDue state (names_of lights) due
 IsDue state (commands.Best limit seed lights) due = IsBestDue state (names_of lights) due
 IsDue state (commands.Why named) due = IsWhyDue state (name_of_light named) due
-IsDue state other due = reply_to state other ≡ due
+IsDue state other due = IsOnly (reply_to state other) due
 
 -- a reply that the command may get
 abbrev pub Replies : State → Command → Result Reply Refusal → Type 0
@@ -69,7 +73,7 @@ pub record AnswersBy {S E : Type 0} (transcript : S → List ℕ) (failures : S 
 -- an edit of the grid or the dictionary was answered
 abbrev pub AnswersEdit : {S E : Type 0} → (S → List ℕ) → (S → ℕ) → State → Edit → Result Step E → State → S → S → Type 0
 AnswersEdit transcript failures state edit result left old new =
-    AnswersBy transcript failures state (moved state (after state.position (action_of edit))) (want_of_action state (action_of edit)) result left old new
+    AnswersBy transcript failures state (moved state (after state.engine (action_of edit))) (want_of_action state (action_of edit)) result left old new
 
 -- the command was answered
 abbrev pub AnswersTo : {S E : Type 0} → (S → List ℕ) → (S → ℕ) → State → Command → Result Step E → State → S → S → Type 0
@@ -80,7 +84,7 @@ AnswersTo transcript failures state command result after old new =
 
 -- the command stands for this edit of the engine, or is refused before any edit
 abbrev pub Asks : State → Command → Result Edit Refusal → Type 0
-Asks state command (Ok edit) = IsDue state command (moved state (after state.position (action_of edit))) × (want_of state command ≡ want_of_action state (action_of edit))
+Asks state command (Ok edit) = IsDue state command (moved state (after state.engine (action_of edit))) × (want_of state command ≡ want_of_action state (action_of edit))
 Asks state command (Err refusal) = IsDue state command (Err refusal)
 
 -- the result of a command without answer lines, as a reply
@@ -98,7 +102,7 @@ abbrev pub fill_reply : Result Filling EditRefusal → State → Result Reply Re
 fill_reply (Ok filling) state = Ok (record { lines = word_line (filling_name filling); state = state })
 fill_reply (Err refusal) state = Err (refusal_of refusal)
 
--- the result of a search for the best fill, as a reply that tells it
+-- the result of a search for the best fill, as a reply that reports it
 abbrev pub best_reply : Result Best EditRefusal → State → Result Reply Refusal
 best_reply (Ok best) state = Ok (record { lines = best_lines best; state = state })
 best_reply (Err refusal) state = Err (refusal_of refusal)
@@ -108,9 +112,14 @@ abbrev pub why_reply : Grid → Result (Vec (Option ℕ) Global) NoReason → St
 why_reply grid (Ok entries) state = Ok (record { lines = entry_lines grid entries.items; state = state })
 why_reply grid (Err refusal) state = Err (refusal_without_reason refusal)
 
+-- the only reply, or a failed allocation
+abbrev pub IsReplyTo : Option (Result Reply Refusal) → Option Refusal → Result Reply Refusal → Type 0
+IsReplyTo None want reply = ⊥
+IsReplyTo (Some due) want reply = IsReply due want reply
+
 -- A command with one allowed reply was executed or refused, and left the state that its reply has.
 abbrev pub Edits : {T : Type 0} → State → Command → Result T Refusal → State → Type 0
-Edits state command result after = IsReply (reply_to state command) (want_of state command) (reply_of result after) × (after ≡ state_after state (reply_of result after))
+Edits state command result after = IsReplyTo (reply_to state command) (want_of state command) (reply_of result after) × (after ≡ state_after state (reply_of result after))
 
 -- ---- lines
 

@@ -1,7 +1,7 @@
 -- What a session may answer to autofill, which has more than one allowed reply.
 use Rattle.std.specs.Prelude.{◌≡◌, List, map, Result, Ok, Err}
 use Rattle.xw_grid.specs.declared.cell.LightName.{LightName}
-use Rattle.xw_feas.specs.State.{State as Position}
+use Rattle.xw_feas.specs.State.{State as EngineState}
 use Rattle.xw_fill.specs.declared.search.Filling.{Filling}
 use Rattle.xw_fill.specs.NamedFill.{IsAutofilled, is_named, AreLights}
 use Rattle.xw_commands.specs.declared.command.LightArg.{LightArg}
@@ -14,16 +14,17 @@ use Rattle.xw_session.specs.Reply.{Reply, name_of_light, filling_name}
 abbrev pub names_of : List LightArg → List LightName
 names_of lights = map name_of_light lights
 
--- The reply to a search for a fill of the named lights: it names one way in which the search may end, and has a state that
--- this end may leave.
+-- The reply to a search for a fill of the named lights: it names one way in which the search may end, and has a state
+-- that this end may leave.
 pub record IsAutofillReply (state : State) (names : List LightName) (reply : Reply) : Type 0 where
-  pub lights : AreLights state.position names
+  pub lights : AreLights state.engine names
   pub filling : Filling
-  pub position : Position
-  pub done : IsAutofilled (is_named state.position names) state.position position filling
-  pub is : reply ≡ record { lines = word_line (filling_name filling); state = record state { position = position } }
+  pub engine : EngineState
+  pub done : IsAutofilled (is_named state.engine names) state.engine engine filling
+  pub is : reply ≡ record { lines = word_line (filling_name filling); state = record state { engine = engine } }
 
--- a reply that autofill may get if no allocation fails: such a reply, or NoLight if a name in the list is that of no light
+-- a reply that autofill may get if no allocation fails: such a reply, or NoLight if a name in the list belongs to no
+-- light
 abbrev pub IsAutofillDue : State → List LightName → Result Reply Refusal → Type 0
 IsAutofillDue state names (Ok reply) = IsAutofillReply state names reply
-IsAutofillDue state names (Err refusal) = (refusal ≡ refusals.NoLight) × ((AreLights state.position names) → ⊥)
+IsAutofillDue state names (Err refusal) = (refusal ≡ refusals.NoLight) × ((AreLights state.engine names) → ⊥)

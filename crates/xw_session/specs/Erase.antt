@@ -6,7 +6,7 @@ use Rattle.xw_grid.specs.declared.cell.Direction.TheVariants.{Across, Down}
 use Rattle.xw_grid.specs.declared.lights.Light.{Light}
 use Rattle.xw_grid.specs.Grid.{entry}
 use Rattle.xw_grid.specs.Light.{cells_of, lights_of, index_through}
-use Rattle.xw_feas.specs.State.{State as Position}
+use Rattle.xw_feas.specs.State.{State as EngineState}
 use Rattle.xw_fill.specs.Position.{position_of}
 use Rattle.xw_fill.specs.Search.{is_entered}
 
@@ -16,21 +16,21 @@ crossing Across = Down
 crossing Down = Across
 
 -- there is a light, and it is wholly entered
-abbrev pub is_complete : Position → Option ℕ → Bool
-is_complete position None = false
-is_complete position (Some light) = is_entered (position_of position) light
+abbrev pub is_complete : EngineState → Option ℕ → Bool
+is_complete engine None = false
+is_complete engine (Some light) = is_entered (position_of engine) light
 
 -- the light that crosses those of a direction at the cell is wholly entered
-abbrev pub is_held : Position → Direction → Cell → Bool
-is_held position direction cell = is_complete position (index_through (lights_of position.grid) (crossing direction) cell)
+abbrev pub is_held : EngineState → Direction → Cell → Bool
+is_held engine direction cell = is_complete engine (index_through (lights_of engine.grid) (crossing direction) cell)
 
 -- whether the cell is to be emptied: it has a letter, and no complete word crosses there if complete words are spared
-abbrev pub is_erased : Position → Bool → Direction → Cell → Bool
-is_erased position spares direction cell = is_some (entry position.grid cell) && not (spares && is_held position direction cell)
+abbrev pub is_erased : EngineState → Bool → Direction → Cell → Bool
+is_erased engine spares direction cell = is_some (entry engine.grid cell) && not (spares && is_held engine direction cell)
 
 -- the cells of a light that are to be emptied
-abbrev pub erased_if : Position → Bool → Light → List Cell
-erased_if position spares light = filter (is_erased position spares light.name.direction) (cells_of light)
+abbrev pub erased_if : EngineState → Bool → Light → List Cell
+erased_if engine spares light = filter (is_erased engine spares light.name.direction) (cells_of light)
 
 -- the first list, or the second if the first is empty
 abbrev pub or_else : List Cell → List Cell → List Cell
@@ -38,8 +38,8 @@ or_else [] others = others
 or_else (cell ∷ cells) others = cell ∷ cells
 
 -- the cells with a letter that belong to no complete crossing word; if there are none, all cells with a letter
-abbrev pub erased_cells : Position → Light → List Cell
-erased_cells position light = or_else (erased_if position true light) (erased_if position false light)
+abbrev pub erased_cells : EngineState → Light → List Cell
+erased_cells engine light = or_else (erased_if engine true light) (erased_if engine false light)
 
 -- each of the cells, with no letter
 abbrev pub emptied : List Cell → List (Cell × Option ℕ)

@@ -14,7 +14,7 @@ empty_puzzle = record { grid = blank 15 15; texts = record { title = []; author 
 -- the state in which a session begins
 abbrev pub opened_on : Dictionary → PuzzleShown → State
 opened_on words puzzle = record {
-  position = record { grid = puzzle.grid; words = words };
+  engine = record { grid = puzzle.grid; words = words };
   texts = puzzle.texts;
   clues = puzzle.clues;
   circles = puzzle.circles;
@@ -24,4 +24,4 @@ opened_on words puzzle = record {
 
 -- the puzzle of a session
 abbrev pub puzzle_of : State → PuzzleShown
-puzzle_of state = record { grid = state.position.grid; texts = state.texts; clues = state.clues; circles = state.circles }
+puzzle_of state = record { grid = state.engine.grid; texts = state.texts; clues = state.clues; circles = state.circles }

@@ -14,15 +14,15 @@ use Rattle.xw_session.specs.Put.{text_of_field}
 use Rattle.xw_session.specs.State.{State}
 
 abbrev pub section_commands : State → Section → List Command
-section_commands state sections.Words = word_commands state.begun state.position.words
-section_commands state sections.Size = Size state.position.grid.width state.position.grid.height ∷ []
-section_commands state (sections.Cells part) = part_commands state.position.grid state.clues state.circles part
-section_commands state sections.Symmetry = Turn state.position.grid.symmetry ∷ []
+section_commands state sections.Words = word_commands state.begun state.engine.words
+section_commands state sections.Size = Size state.engine.grid.width state.engine.grid.height ∷ []
+section_commands state (sections.Cells part) = part_commands state.engine.grid state.clues state.circles part
+section_commands state sections.Symmetry = Turn state.engine.grid.symmetry ∷ []
 section_commands state (sections.Text name) = text_commands (fields.Text name) (text_of_field state.texts name)
 section_commands state sections.Watch = Watch state.is_watched ∷ []
 
--- The order matters. Setting the size removes clues, circles, bars and the symmetry. Circles come before the blocks, while
--- every cell is open. Letters come after the blocks, and the symmetry after all blocks and bars.
+-- The order matters. Setting the size removes clues, circles, bars and the symmetry. Circles come before the blocks,
+-- while every cell is open. Letters come after the blocks, and the symmetry after all blocks and bars.
 abbrev pub record_sections : List Section
 record_sections =
     sections.Words

@@ -30,7 +30,7 @@ abbrev pub AreDrawn : List (List ℕ) → Grid → Grid → Type 0
 AreDrawn [] old new = new ≡ old
 AreDrawn (line ∷ lines) old new = (command : Command) × (mid : Grid) × (command_of line ≡ Ok (Some command)) × Redraws command old mid × AreDrawn lines mid new
 
--- the first lines of a text, as many as this, are such commands, and this text is left
+-- the first `taken` lines of a text are such commands, and `rest` is the text after them
 pub record IsDrawn (text : List ℕ) (old : Grid) (taken : ℕ) (rest : List ℕ) (new : Grid) : Type 0 where
   pub lines : List (List ℕ)
   pub parts : lines_of text ≡ lines ++ lines_of rest
@@ -38,7 +38,8 @@ pub record IsDrawn (text : List ℕ) (old : Grid) (taken : ℕ) (rest : List ℕ
   pub drawn : AreDrawn lines old new
   pub shorter : taken + length rest ≤ length text
 
--- the first lines of a text, as many as this, may be executed and leave this state, without a refusal; this text is left
+-- the first `taken` lines of a text may be executed without a refusal and leave the state `end`; `rest` is the text
+-- after them
 pub record IsRedrawn (text : List ℕ) (start : State) (taken : ℕ) (rest : List ℕ) (end : State) : Type 0 where
   pub lines : List (List ℕ)
   pub parts : lines_of text ≡ lines ++ lines_of rest

@@ -15,7 +15,7 @@ use Rattle.xw_grid.specs.Edit.{new_grid}
 use Rattle.xw_grid.specs.Light.{lights_of, index_named}
 use Rattle.xw_grid.specs.Clue.{no_clues, with_clue, is_circled, with_circle}
 use Rattle.xw_feas.specs.declared.edit.Refusal.{Refusal as EditRefusal}
-use Rattle.xw_feas.specs.State.{State as Position, Action, after, want_of as want_of_edit, letter_set, cell_cleared, word_placed, list_written, block_toggled, bar_toggled, symmetry_chosen, word_added, word_struck, least_chosen}
+use Rattle.xw_feas.specs.State.{State as EngineState, Action, after, want_of as want_of_edit, letter_set, cell_cleared, word_placed, list_written, block_toggled, bar_toggled, symmetry_chosen, word_added, word_struck, least_chosen}
 use Rattle.xw_feas.specs.Changes.{cells_that_differ}
 use Rattle.xw_fill.specs.Position.{position_of, filled_in}
 use Rattle.xw_fill.specs.FeasibleWords.{feasible_words}
@@ -72,28 +72,28 @@ abbrev pub shown : State → List ℕ → Result Reply Refusal
 shown state lines = Ok (record { lines = lines; state = state })
 
 -- the open cells whose feasible letters changed, each with its new letters, in reading order
-abbrev pub changes_between : Position → Position → List (Cell × List ℕ)
+abbrev pub changes_between : EngineState → EngineState → List (Cell × List ℕ)
 changes_between before after =
     map (λ index. (cell_at after.grid index, feasible_letters (position_of after) index))
     (cells_that_differ after.grid (feasible_letters (position_of before)) (feasible_letters (position_of after)) 0)
 
 -- the changed cells if the watch is on
-abbrev pub watch_lines : State → Position → List ℕ
-watch_lines state position = if state.is_watched then flat_map change_line (changes_between state.position position) else []
+abbrev pub watch_lines : State → EngineState → List ℕ
+watch_lines state engine = if state.is_watched then flat_map change_line (changes_between state.engine engine) else []
 
 -- an edit of the grid or the dictionary
-abbrev pub moved : State → Result Position EditRefusal → Result Reply Refusal
-moved state (Ok position) = Ok (record { lines = watch_lines state position; state = record state { position = position } })
+abbrev pub moved : State → Result EngineState EditRefusal → Result Reply Refusal
+moved state (Ok engine) = Ok (record { lines = watch_lines state engine; state = record state { engine = engine } })
 moved state (Err refusal) = Err (refusal_of refusal)
 
 -- the letter is checked before the cell
 abbrev pub with_letter : State → CellArg → Option ℕ → Result Reply Refusal
 with_letter state spot None = Err (refusals.Word (words.BadLetter 1))
-with_letter state spot (Some letter) = moved state (after state.position (letter_set (cell_of spot) letter))
+with_letter state spot (Some letter) = moved state (after state.engine (letter_set (cell_of spot) letter))
 
 -- a new grid; clues and circles are removed
 abbrev pub resized : State → Result Grid GridFault → Result Reply Refusal
-resized state (Ok grid) = edited (record state { position = record { grid = grid; words = state.position.words }; clues = no_clues; circles = [] })
+resized state (Ok grid) = edited (record state { engine = record { grid = grid; words = state.engine.words }; clues = no_clues; circles = [] })
 resized state (Err fault) = Err (refusals.Grid fault)
 
 abbrev pub matched : State → Result (List (List ℕ)) WordFault → Result Reply Refusal
@@ -107,7 +107,7 @@ light_named grid named = light_of grid (name_of_light named)
 -- the cells of the light are emptied in one edit
 abbrev pub erased : State → Option Light → Result Reply Refusal
 erased state None = Err refusals.NoLight
-erased state (Some light) = moved state (after state.position (list_written (emptied (erased_cells state.position light))))
+erased state (Some light) = moved state (after state.engine (list_written (emptied (erased_cells state.engine light))))
 
 -- the clue is stored at the light's start cell and direction
 abbrev pub with_clue_of : State → Option Light → List ℕ → Result Reply Refusal
@@ -118,27 +118,27 @@ with_clue_of state (Some light) text = if has_nul text then Err refusals.NulByte
 abbrev pub written : State → TextField → List ℕ → Result Reply Refusal
 written state field text = if has_nul text then Err refusals.NulByte else edited (record state { texts = with_text_in state.texts field text })
 
--- the text that a spelling stands for replaces the text of a field, or is appended to it; None is a wrong escape
+-- the text of a spelling replaces the text of a field, or is appended to it; None means a wrong escape
 abbrev pub put : State → TextMode → Field → Option (List ℕ) → Result Reply Refusal
 put state putting field None = Err refusals.Escape
 put state putting field (Some text) =
-    if not (has_target state.position.grid (target_of field)) then Err (refusals.Grid grids.OutOfGrid)
+    if not (has_target state.engine.grid (target_of field)) then Err (refusals.Grid grids.OutOfGrid)
     else if has_nul text then Err refusals.NulByte
     else edited (with_piece state putting (target_of field) text)
 
 -- the report on the whole puzzle
 abbrev pub told_lines : State → Report → List ℕ
-told_lines state Cells = cell_lines state.position
-told_lines state Counts = count_lines state.position
+told_lines state Cells = cell_lines state.engine
+told_lines state Counts = count_lines state.engine
 told_lines state Texts = text_lines state
-told_lines state Stats = stat_lines state.position.grid
+told_lines state Stats = stat_lines state.engine.grid
 told_lines state Record = record_lines state
 
 -- the circle of an open cell is set, or removed if it was there
 abbrev pub circle_toggled : State → Cell → Result Reply Refusal
 circle_toggled state cell =
-    if not (is_inside state.position.grid cell) then Err (refusals.Grid grids.OutOfGrid)
-    else if not (is_open state.position.grid cell) then Err (refusals.Grid grids.OnBlock)
+    if not (is_inside state.engine.grid cell) then Err (refusals.Grid grids.OutOfGrid)
+    else if not (is_open state.engine.grid cell) then Err (refusals.Grid grids.OnBlock)
     else edited (record state { circles = with_circle state.circles cell (not (is_circled state.circles cell)) })
 
 -- the first words of a list, or all if no number is given
@@ -150,17 +150,17 @@ first_words (Some most) found = take most found
 abbrev pub worded : State → Option ℕ → Option ℕ → Result Reply Refusal
 worded state None most = Err refusals.NoLight
 worded state (Some light) most =
-    shown state (counted_lines (length (feasible_words (position_of state.position) light)) (first_words most (feasible_words (position_of state.position) light)))
+    shown state (counted_lines (length (feasible_words (position_of state.engine) light)) (first_words most (feasible_words (position_of state.engine) light)))
 
 -- the first feasible words of a light, from an index on, with what each leaves
 abbrev pub weighed_from : State → ℕ → ℕ → Result (Option ℕ) Refusal → Result Reply Refusal
-weighed_from state light most (Ok from) = shown state (choice_lines state.position light from most)
+weighed_from state light most (Ok from) = shown state (choice_lines state.engine light from most)
 weighed_from state light most (Err refusal) = Err refusal
 
 -- the first feasible words of a light, from a named word on, with what each leaves
 abbrev pub weighed : State → Option ℕ → ℕ → Option (List ℕ) → Result Reply Refusal
 weighed state None most first = Err refusals.NoLight
-weighed state (Some light) most first = weighed_from state light most (first_index state.position light first)
+weighed state (Some light) most first = weighed_from state light most (first_index state.engine light first)
 
 -- the grid has each of these lights
 abbrev pub are_lights : Grid → List LightName → Bool
@@ -168,21 +168,21 @@ are_lights grid names = list_all (λ name. is_some (index_named (lights_of grid)
 
 -- the grades of the words of the named lights, or of all wholly entered lights if none is named
 abbrev pub graded : State → List LightName → Result Reply Refusal
-graded state names = if are_lights state.position.grid names then shown state (grade_lines state.position names) else Err refusals.NoLight
+graded state names = if are_lights state.engine.grid names then shown state (grade_lines state.engine names) else Err refusals.NoLight
 
 -- the feasible letters of an open cell
 abbrev pub lettered : State → Cell → Result Reply Refusal
 lettered state cell =
-    if not (is_inside state.position.grid cell) then Err (refusals.Grid grids.OutOfGrid)
-    else if is_block state.position.grid cell then Err (refusals.Grid grids.OnBlock)
-    else shown state (letters_line (feasible_letters (position_of state.position) (index_of state.position.grid cell)))
+    if not (is_inside state.engine.grid cell) then Err (refusals.Grid grids.OutOfGrid)
+    else if is_block state.engine.grid cell then Err (refusals.Grid grids.OnBlock)
+    else shown state (letters_line (feasible_letters (position_of state.engine) (index_of state.engine.grid cell)))
 
 -- for each feasible letter of an open cell the counts of its lights
 abbrev pub tallied : State → Cell → Result Reply Refusal
 tallied state cell =
-    if not (is_inside state.position.grid cell) then Err (refusals.Grid grids.OutOfGrid)
-    else if is_block state.position.grid cell then Err (refusals.Grid grids.OnBlock)
-    else shown state (tally_lines state.position cell)
+    if not (is_inside state.engine.grid cell) then Err (refusals.Grid grids.OutOfGrid)
+    else if is_block state.engine.grid cell then Err (refusals.Grid grids.OnBlock)
+    else shown state (tally_lines state.engine cell)
 
 abbrev pub filling_name : Filling → List ℕ
 filling_name fillings.Filled = codes "filled"
@@ -192,53 +192,49 @@ filling_name fillings.Limit = codes "limit"
 -- Limit if more placements are due than allowed, Filled if a fill is found, and otherwise NoFill
 abbrev pub fill_tried : State → ℕ → Result Reply Refusal
 fill_tried state limit =
-    if nat_lt limit (due (position_of state.position)) then shown state (word_line (filling_name fillings.Limit))
-    else if found (position_of state.position) then Ok (record { lines = word_line (filling_name fillings.Filled); state = record state { position = filled_in state.position (end (position_of state.position)).board.entries } })
+    if nat_lt limit (due (position_of state.engine)) then shown state (word_line (filling_name fillings.Limit))
+    else if found (position_of state.engine) then Ok (record { lines = word_line (filling_name fillings.Filled); state = record state { engine = filled_in state.engine (end (position_of state.engine)).board.entries } })
     else shown state (word_line (filling_name fillings.NoFill))
 
 -- ---- the reply to each command if no allocation fails
 
--- A placeholder for autofill, best and why, which can have more than one allowed reply; `IsDue` of `Answer.antt` has their
--- rows.
--- No record has such a command.
-abbrev pub not_determined : Result Reply Refusal
-not_determined = Err refusals.NoLight
-
-abbrev pub reply_to : State → Command → Result Reply Refusal
-reply_to state (commands.Size width height) = resized state (new_grid width height)
-reply_to state (commands.Symmetry kind) = moved state (after state.position (symmetry_chosen kind))
-reply_to state (commands.Add word grade) = moved state (after state.position (word_added word grade))
-reply_to state (commands.Strike word) = moved state (after state.position (word_struck word))
-reply_to state (commands.Least grade) = moved state (after state.position (least_chosen grade))
-reply_to state (commands.Match pattern) = matched state (matching_answer state.position.words pattern)
-reply_to state (commands.Set spot letter) = with_letter state spot (letter_of letter)
-reply_to state (commands.Clear spot) = moved state (after state.position (cell_cleared (cell_of spot)))
-reply_to state (commands.Place named word) = moved state (after state.position (word_placed (name_of_light named) word))
-reply_to state (commands.Erase named) = erased state (light_named state.position.grid named)
-reply_to state (commands.Block spot) = moved state (after state.position (block_toggled (cell_of spot)))
-reply_to state (commands.Bar spot side) = moved state (after state.position (bar_toggled (cell_of spot) side))
-reply_to state (commands.Clue named text) = with_clue_of state (light_named state.position.grid named) text
-reply_to state (commands.Write field text) = written state field text
-reply_to state (commands.Circle spot) = circle_toggled state (cell_of spot)
-reply_to state commands.Circles = shown state (circle_lines state.position.grid state.circles)
-reply_to state commands.Show = shown state (show_lines state.position.grid)
-reply_to state commands.Lights = shown state (light_lines state.position.grid)
-reply_to state (commands.Words named most) = worded state (index_named (lights_of state.position.grid) (name_of_light named)) most
-reply_to state (commands.Choices named most first) = weighed state (index_named (lights_of state.position.grid) (name_of_light named)) most first
-reply_to state (commands.Letters spot) = lettered state (cell_of spot)
-reply_to state (commands.Tally spot) = tallied state (cell_of spot)
-reply_to state commands.Duplicates = shown state (flat_map (duplicate_line state.position.grid) (duplicates_of state.position))
-reply_to state commands.Unlisted = shown state (flat_map (spelled_line state.position.grid) (unlisted_of state.position))
-reply_to state (commands.Grades lights) = graded state (map name_of_light lights)
-reply_to state commands.Unmatched = shown state (unmatched_lines state.position)
-reply_to state commands.Suggest = shown state (suggestion_line state.position (suggestion state.position))
-reply_to state (commands.Why named) = not_determined
-reply_to state (commands.Fill limit) = fill_tried state limit
-reply_to state (commands.Autofill limit seed lights) = not_determined
-reply_to state (commands.Best limit seed lights) = not_determined
-reply_to state (commands.Watch is_on) = edited (record state { is_watched = is_on })
-reply_to state (commands.Tell telling) = shown state (told_lines state telling)
-reply_to state (commands.Put putting field spelling) = put state putting field (text_spelled spelling)
+-- The one reply to a command, or None for a search that may get one of several: `IsDue` of `Answer.antt` has a row for
+-- each of these.
+abbrev pub reply_to : State → Command → Option (Result Reply Refusal)
+reply_to state (commands.Size width height) = Some (resized state (new_grid width height))
+reply_to state (commands.Symmetry kind) = Some (moved state (after state.engine (symmetry_chosen kind)))
+reply_to state (commands.Add word grade) = Some (moved state (after state.engine (word_added word grade)))
+reply_to state (commands.Strike word) = Some (moved state (after state.engine (word_struck word)))
+reply_to state (commands.Least grade) = Some (moved state (after state.engine (least_chosen grade)))
+reply_to state (commands.Match pattern) = Some (matched state (matching_answer state.engine.words pattern))
+reply_to state (commands.Set spot letter) = Some (with_letter state spot (letter_of letter))
+reply_to state (commands.Clear spot) = Some (moved state (after state.engine (cell_cleared (cell_of spot))))
+reply_to state (commands.Place named word) = Some (moved state (after state.engine (word_placed (name_of_light named) word)))
+reply_to state (commands.Erase named) = Some (erased state (light_named state.engine.grid named))
+reply_to state (commands.Block spot) = Some (moved state (after state.engine (block_toggled (cell_of spot))))
+reply_to state (commands.Bar spot side) = Some (moved state (after state.engine (bar_toggled (cell_of spot) side)))
+reply_to state (commands.Clue named text) = Some (with_clue_of state (light_named state.engine.grid named) text)
+reply_to state (commands.Write field text) = Some (written state field text)
+reply_to state (commands.Circle spot) = Some (circle_toggled state (cell_of spot))
+reply_to state commands.Circles = Some (shown state (circle_lines state.engine.grid state.circles))
+reply_to state commands.Show = Some (shown state (show_lines state.engine.grid))
+reply_to state commands.Lights = Some (shown state (light_lines state.engine.grid))
+reply_to state (commands.Words named most) = Some (worded state (index_named (lights_of state.engine.grid) (name_of_light named)) most)
+reply_to state (commands.Choices named most first) = Some (weighed state (index_named (lights_of state.engine.grid) (name_of_light named)) most first)
+reply_to state (commands.Letters spot) = Some (lettered state (cell_of spot))
+reply_to state (commands.Tally spot) = Some (tallied state (cell_of spot))
+reply_to state commands.Duplicates = Some (shown state (flat_map (duplicate_line state.engine.grid) (duplicates_of state.engine)))
+reply_to state commands.Unlisted = Some (shown state (flat_map (spelled_line state.engine.grid) (unlisted_of state.engine)))
+reply_to state (commands.Grades lights) = Some (graded state (map name_of_light lights))
+reply_to state commands.Unmatched = Some (shown state (unmatched_lines state.engine))
+reply_to state commands.Suggest = Some (shown state (suggestion_line state.engine (suggestion state.engine)))
+reply_to state (commands.Why named) = None
+reply_to state (commands.Fill limit) = Some (fill_tried state limit)
+reply_to state (commands.Autofill limit seed lights) = None
+reply_to state (commands.Best limit seed lights) = None
+reply_to state (commands.Watch is_on) = Some (edited (record state { is_watched = is_on }))
+reply_to state (commands.Tell telling) = Some (shown state (told_lines state telling))
+reply_to state (commands.Put putting field spelling) = Some (put state putting field (text_spelled spelling))
 
 -- ---- failed allocations
 
@@ -251,7 +247,7 @@ want_of_text [] = None
 want_of_text (byte ∷ bytes) = Some grid_memory
 
 abbrev pub want_of_action : State → Action → Option Refusal
-want_of_action state action = option_map refusal_of (want_of_edit state.position action)
+want_of_action state action = option_map refusal_of (want_of_edit state.engine action)
 
 -- the refusal that a failed allocation gives, if the command may allocate
 abbrev pub want_of : State → Command → Option Refusal

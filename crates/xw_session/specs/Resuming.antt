@@ -20,7 +20,7 @@ use Rattle.xw_answers.specs.Text.{name_of, refused, word_line}
 
 -- ---- lines that are not commands
 
--- why a parsed line is not a command after all: the text of `text` or `more` has a wrong escape
+-- why a parsed line is still not a command: the text of `text` or `more` has a wrong escape
 abbrev pub command_fault : Option Command → Option Refusal
 command_fault (Some (commands.Put putting field spelling)) = if is_some (text_spelled spelling) then None else Some refusals.Escape
 command_fault other = None
@@ -69,13 +69,13 @@ abbrev pub told_of : List ℕ → ℕ → Option Refusal → List ℕ
 told_of file number None = []
 told_of file number (Some refusal) = refused_line file number refusal
 
--- The text was written and no write failed, or a write failed. The first two arguments are the writer's transcript and its
--- count of failures.
+-- The text was written and no write failed, or a write failed. The first two arguments are the writer's transcript and
+-- its count of failures.
 abbrev pub Tells : {S : Type 0} → (S → List ℕ) → (S → ℕ) → S → S → List ℕ → Type 0
 Tells transcript failures old new text = ((transcript new ≡ transcript old ++ text) × (failures new ≡ failures old)) ⊎ HasFailed (failures old) (failures new)
 
--- How the replay of one line ends. `Ok`: the line was executed, and reported if it was refused. `NoCommand`: it is not a
--- command, and nothing was done. `Memory`: an allocation failed, and the line may have been executed.
+-- How the replay of one line ends. `Ok`: the line was executed, and reported if it was refused. `NoCommand`: it is not
+-- a command, and nothing was done. `Memory`: an allocation failed, and the line may have been executed.
 abbrev pub ResumesLine : {S : Type 0} → (S → List ℕ) → (S → ℕ) → List ℕ → ℕ → State → List ℕ → Result ℕ Stop → State → S → S → Type 0
 ResumesLine transcript failures file number state line (Ok refused) after old new =
     (refusal : Option Refusal) × IsDone state line refusal after × (refused ≡ count refusal) × Tells transcript failures old new (told_of file number refusal)
@@ -86,8 +86,8 @@ ResumesLine transcript failures file number state line (Err Memory) after old ne
 
 -- ---- all lines
 
--- These lines may be executed one after another, with these reports of refused lines, this number of them, and this state at
--- the end. All lines are commands, and the first has this line number.
+-- These lines may be executed one after another, with these reports of refused lines, this number of them, and this
+-- state at the end. All lines are commands, and the first has this line number.
 abbrev pub AreDone : List ℕ → ℕ → State → List (List ℕ) → List ℕ → ℕ → State → Type 0
 AreDone file number start [] transcript refused end = (transcript ≡ []) × (refused ≡ 0) × (end ≡ start)
 AreDone file number start (line ∷ lines) transcript refused end =
@@ -105,8 +105,8 @@ pub record IsReached (file : List ℕ) (start : State) (lines : List (List ℕ))
   pub done : AreDone file 1 start before transcript refused state
 
 -- How a replay ends, what it reports, and the state that it leaves. `Ok`: all lines are commands and were executed.
--- `NoCommand`: the lines before the first that is not a command were executed. `Memory`: an allocation failed for a line,
--- which may have been executed.
+-- `NoCommand`: the lines before the first that is not a command were executed. `Memory`: an allocation failed for a
+-- line, which may have been executed.
 abbrev pub Resumes : List ℕ → State → List (List ℕ) → Result ℕ Stop → List ℕ → State → Type 0
 Resumes file start lines (Ok refused) transcript end = AreDone file 1 start lines transcript refused end
 Resumes file start lines (Err (NoCommand number refusal)) transcript end =

@@ -2,16 +2,16 @@
 use Rattle.std.specs.Prelude.{ℕ, Bool, List}
 use Rattle.xw_grid.specs.declared.cell.Cell.{Cell}
 use Rattle.xw_grid.specs.Clue.{ClueMap}
-use Rattle.xw_feas.specs.State.{State as Position}
+use Rattle.xw_feas.specs.State.{State as EngineState}
 use Rattle.xw_grid.specs.Puzzle.{TextsShown}
 use Rattle.xw_commands.specs.declared.command.CellArg.{CellArg}
 use Rattle.xw_commands.specs.declared.command.TextField.{TextField}
 use Rattle.xw_commands.specs.declared.command.TextField.TheVariants.{Title, Author, Copyright, Notes}
 
--- The grid with the dictionary, the four texts, the clues, the circled cells, whether the watch is on, and for each
--- length how many words were known when the session started.
+-- The engine (a grid with a dictionary), the four texts, the clues, the circled cells, whether the watch is on, and
+-- for each length how many words were known when the session started.
 pub record State : Type 0 where
-  pub position : Position
+  pub engine : EngineState
   pub texts : TextsShown
   pub clues : ClueMap
   pub circles : List Cell

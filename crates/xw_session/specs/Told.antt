@@ -4,7 +4,7 @@ use Rattle.std.specs.List.{range_with_len}
 use Rattle.xw_grid.specs.declared.cell.Cell.{Cell}
 use Rattle.xw_grid.specs.Grid.{Grid, is_open, index_of, cells}
 use Rattle.xw_grid.specs.Light.{lights_of, no_light}
-use Rattle.xw_feas.specs.State.{State as Position}
+use Rattle.xw_feas.specs.State.{State as EngineState}
 use Rattle.xw_fill.specs.Position.{position_of}
 use Rattle.xw_fill.specs.FeasibleWords.{feasible_words}
 use Rattle.xw_fill.specs.FeasibleLetters.{feasible_letters}
@@ -13,21 +13,21 @@ use Rattle.xw_answers.specs.Text.{change_line, numbered_line}
 use Rattle.xw_answers.specs.Fields.{field_lines, clue_lines}
 
 -- an open cell with its feasible letters, in the form of the watch; nothing for a block
-abbrev pub letters_told : Position → Cell → List ℕ
-letters_told position cell = if is_open position.grid cell then change_line (cell, feasible_letters (position_of position) (index_of position.grid cell)) else []
+abbrev pub letters_told : EngineState → Cell → List ℕ
+letters_told engine cell = if is_open engine.grid cell then change_line (cell, feasible_letters (position_of engine) (index_of engine.grid cell)) else []
 
 -- all open cells, in reading order
-abbrev pub cell_lines : Position → List ℕ
-cell_lines position = flat_map (letters_told position) (cells position.grid)
+abbrev pub cell_lines : EngineState → List ℕ
+cell_lines engine = flat_map (letters_told engine) (cells engine.grid)
 
 -- the light at an index, with the number of its feasible words
-abbrev pub count_line : Position → ℕ → List ℕ
-count_line position index = numbered_line (slice_index_or (lights_of position.grid) index no_light).name (length (feasible_words (position_of position) index))
+abbrev pub count_line : EngineState → ℕ → List ℕ
+count_line engine index = numbered_line (slice_index_or (lights_of engine.grid) index no_light).name (length (feasible_words (position_of engine) index))
 
 -- all lights, in order
-abbrev pub count_lines : Position → List ℕ
-count_lines position = flat_map (count_line position) (range_with_len 0 (length (lights_of position.grid)))
+abbrev pub count_lines : EngineState → List ℕ
+count_lines engine = flat_map (count_line engine) (range_with_len 0 (length (lights_of engine.grid)))
 
 -- the texts, and the clues of the lights
 abbrev pub text_lines : State → List ℕ
-text_lines state = field_lines state.texts ++ clue_lines state.clues state.position.grid
+text_lines state = field_lines state.texts ++ clue_lines state.clues state.engine.grid

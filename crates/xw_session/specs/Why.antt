@@ -25,13 +25,13 @@ entry_lines grid entries = flat_map (entry_told grid entries) (range_with_len 0 
 -- the reply names the entries of a reason, and changes nothing
 pub record IsWhyReply (state : State) (name : LightName) (reply : Reply) : Type 0 where
   pub entries : List (Option ℕ)
-  pub reason : IsReasonOf state.position name entries
-  pub is : reply ≡ record { lines = entry_lines state.position.grid entries; state = state }
+  pub reason : IsReasonOf state.engine name entries
+  pub is : reply ≡ record { lines = entry_lines state.engine.grid entries; state = state }
 
 -- no light has this name, or it has a feasible word
 abbrev pub IsWhyRefusal : State → LightName → Refusal → Type 0
 IsWhyRefusal state name refusal =
-    ((refusal ≡ refusals.NoLight) × (index_named (lights_of state.position.grid) name ≡ None)) ⊎ ((refusal ≡ refusals.Alive) × IsLight state.position name false)
+    ((refusal ≡ refusals.NoLight) × (index_named (lights_of state.engine.grid) name ≡ None)) ⊎ ((refusal ≡ refusals.Alive) × IsLight state.engine name false)
 
 -- a reply that why may get if no allocation fails: a reason, or why there is none
 abbrev pub IsWhyDue : State → LightName → Result Reply Refusal → Type 0

@@ -1,4 +1,4 @@
-//! Starts sessions on a dictionary and a puzzle.
+//! Opens sessions on a dictionary and a puzzle.
 ghost use Rattle.std.specs.Prelude.{◌≡◌, IfOk, IsOkUnless};
 ghost use Rattle.xw_grid.specs.Edit.{blank};
 ghost use Rattle.xw_grid.specs.Puzzle.{puzzle_view};

@@ -1,7 +1,8 @@
 //! Executes edits of the grid with one update of the engine.
 //!
-//! Each edit updates the answers of the engine, and each block numbers all lights anew. A saved session has thousands of them in a row, so a
-//! replay applies them to a copy of the grid, and hands that to the engine.
+//! Each edit updates the answers of the engine, and each block renumbers all lights. A saved session can have
+//! thousands of these edits in a row. So a replay applies them to a copy of the grid, and hands the copy to the
+//! engine.
 ghost use Rattle.std.specs.Prelude.{◌≡◌, ◌<◌, Ok, Some, true, false, IfSome, IfNone};
 ghost use Rattle.xw_commands.specs.Command.{command_of};
 ghost use Rattle.xw_commands.specs.declared.command.Command.{Command as AnyCommand};
@@ -16,10 +17,10 @@ use xw_grid::{Cell, Grid, Side};
 use xw_letters::Letter;
 use xw_text::lines::first_line;
 
-/// The least number of lines that are worth it: the engine computes all its answers anew.
+/// With fewer lines than this, one update is not faster, since the engine then computes all its answers anew.
 const FEW: usize = 16;
 
-/// The cell at a row and column, if both are small enough for one.
+/// The cell at a row and column, if both fit in a cell address.
 fn cell_of(spot: CellArg) -> Option<Cell>
     ensures { IfSome result (λ cell. cell ≡ cell_of_spot spot) }
 {
@@ -77,7 +78,8 @@ fn bar(grid: &mut Grid, spot: CellArg, side: Side) -> bool
     }
 }
 
-/// Applies a command to a grid if it edits nothing else and no rule refuses it. Returns whether it did.
+/// Applies a command to a grid if the command edits nothing else and no rule refuses it. Returns whether it was
+/// applied.
 fn apply(grid: &mut Grid, command: Command<'_>) -> bool
     ensures done { result ≡ true → Redraws command.entry grid.old grid.new }
     ensures same { result ≡ false → grid.new ≡ grid.old }
@@ -92,7 +94,8 @@ fn apply(grid: &mut Grid, command: Command<'_>) -> bool
     }
 }
 
-/// Applies the line to a grid if it is a command that edits nothing else and that no rule refuses. Returns whether it did.
+/// Applies a line to a grid if it is a command that edits nothing else and no rule refuses it. Returns whether it was
+/// applied.
 fn apply_line(grid: &mut Grid, line: &[u8]) -> bool
     ensures done { result ≡ true → (command : AnyCommand) × (command_of line.now ≡ Ok (Some command)) × Redraws command grid.old grid.new }
     ensures same { result ≡ false → grid.new ≡ grid.old }
@@ -103,8 +106,8 @@ fn apply_line(grid: &mut Grid, line: &[u8]) -> bool
     }
 }
 
-/// Applies the first lines of a text to a grid, up to one that is something else, or that a rule refuses. Returns how many it
-/// applied, and the text after them.
+/// Applies the first lines of a text to a grid, up to the first line that is something else or that a rule refuses.
+/// Returns how many lines it applied, and the text after them.
 fn draw<'a>(grid: &mut Grid, text: &'a [u8]) -> (usize, &'a [u8])
     ensures { IsDrawn text.now grid.old result.0 result.1.now grid.new }
 {
@@ -121,7 +124,8 @@ fn draw<'a>(grid: &mut Grid, text: &'a [u8]) -> (usize, &'a [u8])
     (taken, rest)
 }
 
-/// Whether the text begins with a line that may edit nothing but the grid. It spares a copy of the grid, and promises nothing.
+/// Whether the text begins with a command that edits nothing but the grid. This test can save a copy of the grid; it
+/// has no contract.
 fn may_draw(text: &[u8]) -> bool {
     if text.is_empty() {
         return false;
@@ -140,9 +144,9 @@ fn may_draw(text: &[u8]) -> bool {
 }
 
 impl<E: Feasible> Session<E> {
-    /// Executes the first lines of a text with one update of the engine, if enough of them edit nothing but the grid and
-    /// are not refused. Returns how many lines it executed, and the text after them. If they are too few, or an allocation
-    /// fails, it changes nothing.
+    /// Executes the first lines of a text with one update of the engine, if enough of them edit nothing but the grid
+    /// and are not refused. Returns how many lines it executed, and the text after them. If they are too few, or an
+    /// allocation fails, it changes nothing.
     pub(crate) fn redraw<'a>(&mut self, text: &'a [u8]) -> Option<(usize, &'a [u8])>
         ensures some { IfSome result (λ taken. IsRedrawn text.now self.old taken.0 taken.1.now self.new) }
         ensures many { IfSome result (λ taken. 0 < taken.0) }

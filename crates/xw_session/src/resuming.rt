@@ -106,8 +106,8 @@ fn tell_refused<E: Sink>(
     Ok(())
 }
 
-/// Executes a line of a file, and reports it if the session refuses it. Returns 1 if it was refused, 0 otherwise. Fails
-/// with `NoCommand` if the line is not a command, and with `Memory` if an allocation fails.
+/// Executes a line of a file, and reports it if the session refuses it. Returns 1 if it was refused, 0 otherwise.
+/// Fails with `NoCommand` if the line is not a command, and with `Memory` if an allocation fails.
 fn resume_line<F: Searchable, E: Sink>(
     alloc: Global,
     session: &mut Session<F>,

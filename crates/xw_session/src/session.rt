@@ -44,7 +44,9 @@ use xw_lines::device::{Sink, Source, WriteFailed};
 use xw_lines::outcome::{AnswerFault, RunEnd, Step};
 use xw_lines::run::{self, LineHandler};
 
-/// What the last `autofill` and the last `best` left to the next ones, if nothing has changed since.
+/// The hints that the last searches left. That of `autofill` lasts until anything changes. That of `best` lasts until
+/// anything but entries and the least grade changes; a `best` that begins with other entries than the last one begins
+/// anew.
 #[derive(Drop)]
 pub(crate) struct Hints {
     autofill: Option<Hint>,
@@ -59,7 +61,14 @@ impl Hints {
         }
     }
 
-    /// Forgets what searches left if they cannot go on.
+    /// Forgets the hint of `autofill` if its search is over.
+    pub(crate) fn end_autofill_if(&mut self, is_over: bool) {
+        if is_over {
+            self.autofill = None;
+        }
+    }
+
+    /// Forgets all hints if the searches are over.
     pub(crate) fn forget_if(&mut self, are_over: bool) {
         if are_over {
             *self = Hints::none();
@@ -88,13 +97,25 @@ impl<E: Feasible> Model for Session<E> {
     ghost Value = { State };
 
     ghost view = { λ session. record {
-      position = E.state session.engine;
+      engine = E.state session.engine;
       texts = texts_view session.texts;
       clues = session.clues;
       circles = session.circles;
       is_watched = session.is_watched;
       begun = session.begun;
     } };
+}
+
+/// Whether a command changes at most entries and the least grade.
+fn keeps_words_and_lights(command: &Command<'_>) -> bool {
+    matches!(
+        command,
+        Command::Set(..)
+            | Command::Clear(_)
+            | Command::Place(..)
+            | Command::Erase(_)
+            | Command::Least(_)
+    )
 }
 
 /// Writes the end of an answer: `ok`, or the refusal.
@@ -133,7 +154,7 @@ impl<E: Feasible> Session<E> {
     /// Starts a session over an engine, with empty texts, no clues, no circles, and the watch off.
     pub fn new(alloc: Global, engine: E) -> Session<E>
         ensures { result ≡ record {
-          position = E.state engine;
+          engine = E.state engine;
           texts = record { title = []; author = []; copyright = []; notes = [] };
           clues = no_clues;
           circles = [];
@@ -153,7 +174,7 @@ impl<E: Feasible> Session<E> {
     /// Starts a session over an engine with these texts, clues and circles, and with the watch off.
     pub fn open(engine: E, texts: Texts, clues: Clues, circles: Circles) -> Session<E>
         ensures { result ≡ record {
-          position = E.state engine;
+          engine = E.state engine;
           texts = texts_view texts;
           clues = clues;
           circles = circles;
@@ -177,7 +198,7 @@ impl<E: Feasible> Session<E> {
 
     /// The grid.
     pub fn grid(&self) -> &Grid
-        ensures { result.now ≡ self.now.position.grid }
+        ensures { result.now ≡ self.now.engine.grid }
     {
         self.engine.grid()
     }
@@ -185,7 +206,7 @@ impl<E: Feasible> Session<E> {
     /// Copies the grid, the texts, the clues and the circles. Returns `Memory` if an allocation fails.
     pub fn puzzle(&self) -> Result<Puzzle, EditRefusal>
         ensures ok { IfOk result (λ puzzle. puzzle_view puzzle ≡ record {
-          grid = self.now.position.grid;
+          grid = self.now.engine.grid;
           texts = self.now.texts;
           clues = self.now.clues;
           circles = self.now.circles;
@@ -200,7 +221,7 @@ impl<E: Feasible> Session<E> {
 
     fn copied(&self) -> Result<Puzzle, GridFault>
         ensures ok { IfOk result (λ puzzle. puzzle_view puzzle ≡ record {
-          grid = self.now.position.grid;
+          grid = self.now.engine.grid;
           texts = self.now.texts;
           clues = self.now.clues;
           circles = self.now.circles;
@@ -217,8 +238,8 @@ impl<E: Feasible> Session<E> {
 
     /// Returns the cell at a row and column. Returns `OutOfGrid` if it is not in the grid.
     fn cell(&self, spot: CellArg) -> Result<Cell, Refusal>
-        ensures ok { IfOk result (λ cell. (cell ≡ cell_of spot) × (is_inside self.now.position.grid cell ≡ true)) }
-        ensures refused { IfErr result (λ refusal. (refusal ≡ Refusal.Grid GridFault.OutOfGrid) × (is_inside self.now.position.grid (cell_of spot) ≡ false)) }
+        ensures ok { IfOk result (λ cell. (cell ≡ cell_of spot) × (is_inside self.now.engine.grid cell ≡ true)) }
+        ensures refused { IfErr result (λ refusal. (refusal ≡ Refusal.Grid GridFault.OutOfGrid) × (is_inside self.now.engine.grid (cell_of spot) ≡ false)) }
     {
         let grid = self.engine.grid();
         let rows = 1..=u64::from(grid.height());
@@ -236,15 +257,17 @@ impl<E: Feasible> Session<E> {
 impl<E: Searchable> Session<E> {
     ghost use Rattle.xw_commands.specs.declared.command.Command.TheVariants as commands;
 
-    /// Executes a command and writes its answer. A change that is not refused ends the searches that `autofill` and `best`
-    /// could go on with.
+    /// Executes a command and writes its answer. A change that is not refused ends the search that `autofill` could
+    /// continue. It also ends that of `best` if it changes more than entries and the least grade.
     fn answer<W: Sink>(&mut self, command: Command<'_>, sink: &mut W) -> Result<Step, WriteFailed>
         ensures { AnswersTo W.transcript W.failures self.old command.entry result self.new sink.old sink.new }
     {
         let is_change = command.kind() == Kind::Change;
+        let may_go_on = keeps_words_and_lights(&command);
         let step = self.answer_any(command, sink);
-        let is_refused = matches!(step, Ok(Step::Refused));
-        self.hints.forget_if(is_change && !is_refused);
+        let has_changed = is_change && !matches!(step, Ok(Step::Refused));
+        self.hints.end_autofill_if(has_changed);
+        self.hints.forget_if(has_changed && !may_go_on);
         step
     }
 
@@ -315,8 +338,8 @@ impl<E: Searchable> Session<E> {
         }
     }
 
-    /// Executes a parsed line and writes its answer. A silent line has no answer. After an error a prefix of the answer
-    /// was written, and the effect of the line remains.
+    /// Executes a parsed line and writes its answer. A silent line has no answer. After an error a prefix of the
+    /// answer was written, and the effect of the line remains.
     pub fn execute<W: Sink>(
         &mut self,
         parsed: Result<Option<Command<'_>>, SyntaxFault>,

@@ -13,46 +13,46 @@ use Rattle.xw_commands.specs.Command.{command_of}
 use Rattle.xw_session.specs.Reply.{Reply, reply_to, want_of}
 use Rattle.xw_session.specs.Answer.{IsReply, IsDue, Replies, text_of, step_of, state_after, AnswersParsed, Answers}
 use Rattle.xw_lines.specs.Spoken.{Spoken, refusals}
-use Rattle.xw_session_laws.specs.Replay.{state_left, left_by_line, replayed_lines, WantsMemory}
+use Rattle.xw_session_laws.specs.Replay.{state_left, left_by, left_by_line, replayed_lines, WantsMemory}
 
 -- ---- a command that leaves one state
 
 -- the reply of a command that can be replayed is the only one due
-determined : (state : State) (command : Command) (due : Result Reply Refusal) (left : State) → state_left (reply_to state command) ≡ Some left → IsDue state command due → reply_to state command ≡ due
-determined state (commands.Size width height) due left e owed = owed
-determined state (commands.Symmetry kind) due left e owed = owed
-determined state (commands.Add word grade) due left e owed = owed
-determined state (commands.Strike word) due left e owed = owed
-determined state (commands.Least grade) due left e owed = owed
-determined state (commands.Match pattern) due left e owed = owed
-determined state (commands.Set spot letter) due left e owed = owed
-determined state (commands.Clear spot) due left e owed = owed
-determined state (commands.Place named word) due left e owed = owed
-determined state (commands.Erase named) due left e owed = owed
-determined state (commands.Block spot) due left e owed = owed
-determined state (commands.Bar spot side) due left e owed = owed
-determined state (commands.Clue named text) due left e owed = owed
-determined state (commands.Write field text) due left e owed = owed
-determined state (commands.Circle spot) due left e owed = owed
-determined state commands.Circles due left e owed = owed
-determined state commands.Show due left e owed = owed
-determined state commands.Lights due left e owed = owed
-determined state (commands.Words named most) due left e owed = owed
-determined state (commands.Choices named most first) due left e owed = owed
-determined state (commands.Letters spot) due left e owed = owed
-determined state (commands.Tally spot) due left e owed = owed
-determined state commands.Duplicates due left e owed = owed
-determined state commands.Unlisted due left e owed = owed
-determined state (commands.Grades lights) due left e owed = owed
-determined state commands.Unmatched due left e owed = owed
-determined state commands.Suggest due left e owed = owed
+determined : (state : State) (command : Command) (due : Result Reply Refusal) (left : State) → left_by (reply_to state command) ≡ Some left → IsDue state command due → reply_to state command ≡ Some due
+determined state (commands.Size width height) due left e owed = ap Some owed
+determined state (commands.Symmetry kind) due left e owed = ap Some owed
+determined state (commands.Add word grade) due left e owed = ap Some owed
+determined state (commands.Strike word) due left e owed = ap Some owed
+determined state (commands.Least grade) due left e owed = ap Some owed
+determined state (commands.Match pattern) due left e owed = ap Some owed
+determined state (commands.Set spot letter) due left e owed = ap Some owed
+determined state (commands.Clear spot) due left e owed = ap Some owed
+determined state (commands.Place named word) due left e owed = ap Some owed
+determined state (commands.Erase named) due left e owed = ap Some owed
+determined state (commands.Block spot) due left e owed = ap Some owed
+determined state (commands.Bar spot side) due left e owed = ap Some owed
+determined state (commands.Clue named text) due left e owed = ap Some owed
+determined state (commands.Write field text) due left e owed = ap Some owed
+determined state (commands.Circle spot) due left e owed = ap Some owed
+determined state commands.Circles due left e owed = ap Some owed
+determined state commands.Show due left e owed = ap Some owed
+determined state commands.Lights due left e owed = ap Some owed
+determined state (commands.Words named most) due left e owed = ap Some owed
+determined state (commands.Choices named most first) due left e owed = ap Some owed
+determined state (commands.Letters spot) due left e owed = ap Some owed
+determined state (commands.Tally spot) due left e owed = ap Some owed
+determined state commands.Duplicates due left e owed = ap Some owed
+determined state commands.Unlisted due left e owed = ap Some owed
+determined state (commands.Grades lights) due left e owed = ap Some owed
+determined state commands.Unmatched due left e owed = ap Some owed
+determined state commands.Suggest due left e owed = ap Some owed
 determined state (commands.Why named) due left e owed = cc
-determined state (commands.Fill limit) due left e owed = owed
+determined state (commands.Fill limit) due left e owed = ap Some owed
 determined state (commands.Autofill limit seed lights) due left e owed = cc
 determined state (commands.Best limit seed lights) due left e owed = cc
-determined state (commands.Watch is_on) due left e owed = owed
-determined state (commands.Tell telling) due left e owed = owed
-determined state (commands.Put putting field spelling) due left e owed = owed
+determined state (commands.Watch is_on) due left e owed = ap Some owed
+determined state (commands.Tell telling) due left e owed = ap Some owed
+determined state (commands.Put putting field spelling) due left e owed = ap Some owed
 
 pub some_left : {X : Type 0} (left : Option X) (f : X → Option State) (last : State) → option_and_then f left ≡ Some last → (next : X) × (left ≡ Some next)
 some_left None f last e = cc
@@ -61,10 +61,10 @@ some_left (Some next) f last e = (next, refl)
 -- ---- no line is refused
 
 module _ (state next : State) where
-  reply_left : (command : Command) (reply : Result Reply Refusal) (outcome : Step) (left : State) → state_left (reply_to state command) ≡ Some left → Replies state command reply → outcome ≡ step_of reply → next ≡ state_after state reply → refusals outcome ≡ 0
+  reply_left : (command : Command) (reply : Result Reply Refusal) (outcome : Step) (left : State) → left_by (reply_to state command) ≡ Some left → Replies state command reply → outcome ≡ step_of reply → next ≡ state_after state reply → refusals outcome ≡ 0
       → left ≡ next
   reply_left command (Ok reply) outcome left e (due, owed, fits) step after none =
-      let is : Some left ≡ Some reply.state = sym e ∙ ap state_left (determined state command due left e owed ∙ fits) in
+      let is : Some left ≡ Some reply.state = sym e ∙ ap left_by (determined state command due left e owed ∙ ap Some fits) in
       ap (λ found. unwrap_or found left) is ∙ sym after
   reply_left command (Err refusal) outcome left e fits step after none = let bad : 1 ≡ 0 = sym (ap refusals step) ∙ none in absurd (omega (arith, bad))
 
@@ -100,10 +100,10 @@ module _ (state last : State) (answer : List ℕ) where
   due_left command (Ok reply) refusal next e (inr wants) = wants.1
   due_left command (Err other) refusal next e fits = cc
 
-  reply_wants : (command : Command) (reply : Result Reply Refusal) (next : State) → state_left (reply_to state command) ≡ Some next → Replies state command reply → Refused ≡ step_of reply → answer ≡ text_of reply → WantsMemory state (Ok (Some command)) answer
+  reply_wants : (command : Command) (reply : Result Reply Refusal) (next : State) → left_by (reply_to state command) ≡ Some next → Replies state command reply → Refused ≡ step_of reply → answer ≡ text_of reply → WantsMemory state (Ok (Some command)) answer
   reply_wants command (Ok reply) next e fits step is = cc
   reply_wants command (Err refusal) next e (due, owed, fits) step is =
-      (refusal, due_left command due refusal next (ap state_left (sym (determined state command due next e owed)) ∙ e) fits, is)
+      (refusal, due_left command due refusal next (ap left_by (sym (determined state command due next e owed)) ∙ e) fits, is)
 
   pub line_wants : (found : Result (Option Command) SyntaxFault) (next : State) → left_by_line state found ≡ Some next → AnswersParsed state found Refused answer last → WantsMemory state found answer
   line_wants (Ok None) next e said = let bad : Refused ≡ Silent = said.0 in cc

@@ -67,7 +67,7 @@ module _ (grid : Grid) (k : ℕ) (side towards : Side) (alone : grid.symmetry �
       bar_at j d (omega (arith, within, size)) ∙ ap (λ b. if b && eqb j k then true else get_or (bars grid towards) j d) other)
 
 barred_edge : (state : State) (inside edge is_bar : Bool) (to : Bool → Grid) → inside ≡ true → edge ≡ true → is_bar ≡ false
-    → state_left (moved state (with_edited state.position (by_fault (if not inside then Err OutOfGrid else if not edge then Err Border else Ok (to (not is_bar)))))) ≡ Some (with_grid state (to true))
+    → state_left (moved state (with_edited state.engine (by_fault (if not inside then Err OutOfGrid else if not edge then Err Border else Ok (to (not is_bar)))))) ≡ Some (with_grid state (to true))
 barred_edge state true true false to p q r = refl
 barred_edge state true true true to p q r = cc
 barred_edge state true false is_bar to p q r = cc

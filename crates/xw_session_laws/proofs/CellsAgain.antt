@@ -115,7 +115,7 @@ letter_is letter is =
     letter_chosen letter (leb 65 letter) (leb letter 90) (leb 97 letter) (leb letter 122) (le-leb 65 letter is.0) (le-leb letter 90 is.1) high
 
 pub entered : (state : State) (inside blocks : Bool) (grid : Grid) → inside ≡ true → blocks ≡ false
-    → state_left (moved state (with_edited state.position (by_fault (if not inside then Err OutOfGrid else if blocks then Err OnBlock else Ok grid)))) ≡ Some (with_grid state grid)
+    → state_left (moved state (with_edited state.engine (by_fault (if not inside then Err OutOfGrid else if blocks then Err OnBlock else Ok grid)))) ≡ Some (with_grid state grid)
 entered state true false grid p q = refl
 entered state true true grid p q = cc
 entered state false blocks grid p q = cc
@@ -172,7 +172,7 @@ module _ (state : State) (grid : Grid) (is : IsGrid grid) where
 -- ---- blocks, without symmetry
 
 toggled : (state : State) (inside blocks occupied : Bool) (to : Bool → Grid) → inside ≡ true → blocks ≡ false → occupied ≡ false
-    → state_left (moved state (with_edited state.position (by_fault (if not inside then Err OutOfGrid else if not blocks && occupied then Err Occupied else Ok (to (not blocks)))))) ≡ Some (with_grid state (to true))
+    → state_left (moved state (with_edited state.engine (by_fault (if not inside then Err OutOfGrid else if not blocks && occupied then Err Occupied else Ok (to (not blocks)))))) ≡ Some (with_grid state (to true))
 toggled state true false false to p q r = refl
 toggled state true false true to p q r = cc
 toggled state true true occupied to p q r = cc

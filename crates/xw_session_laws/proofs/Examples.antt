@@ -42,7 +42,7 @@ third_word = record { word = codes "IT"; active = false; struck = false; grade =
 -- a session that knows one word
 abbrev at_first : State
 at_first = record {
-  position = record { grid = blank 3 3; words = words_of_two (first_word ∷ []) };
+  engine = record { grid = blank 3 3; words = words_of_two (first_word ∷ []) };
   texts = record { title = codes "gone"; author = []; copyright = []; notes = [] };
   clues = no_clues;
   circles = [];
@@ -54,7 +54,7 @@ at_first = record {
 -- and a clue
 abbrev later : State
 later = record {
-  position = record {
+  engine = record {
     grid = record { width = 2; height = 1; squares = Open (Some 65) ∷ Open None ∷ []; right = true ∷ false ∷ []; below = false ∷ false ∷ []; symmetry = kinds.Half };
     words = record (words_of_two (first_struck ∷ second_word ∷ third_word ∷ [])) { least = 40 };
   };
@@ -77,7 +77,7 @@ lines = refl
 -- three open cells, which one word of the dictionary fits
 abbrev before_fill : State
 before_fill = record {
-  position = record { grid = record { width = 3; height = 1; squares = Open None ∷ Open (Some 65) ∷ Open None ∷ []; right = replicate 3 false; below = replicate 3 false; symmetry = kinds.None }; words = no_words };
+  engine = record { grid = record { width = 3; height = 1; squares = Open None ∷ Open (Some 65) ∷ Open None ∷ []; right = replicate 3 false; below = replicate 3 false; symmetry = kinds.None }; words = no_words };
   texts = record { title = []; author = []; copyright = []; notes = [] };
   clues = no_clues;
   circles = [];
@@ -86,10 +86,10 @@ before_fill = record {
 }
 
 abbrev after_fill : State
-after_fill = record before_fill { position = record before_fill.position { grid = record before_fill.position.grid { squares = Open (Some 67) ∷ Open (Some 65) ∷ Open (Some 84) ∷ [] } } }
+after_fill = record before_fill { engine = record before_fill.engine { grid = record before_fill.engine.grid { squares = Open (Some 67) ∷ Open (Some 65) ∷ Open (Some 84) ∷ [] } } }
 
 -- a search is journaled as the letters that it entered, in one group
-fill_journaled : journal_text before_fill.position.grid (codes "fill 9") Accepted after_fill.position.grid ≡ codes "# xw begin\nset 1 1 C\nset 1 3 T\n# xw end\n"
+fill_journaled : journal_text before_fill.engine.grid (codes "fill 9") Accepted after_fill.engine.grid ≡ codes "# xw begin\nset 1 1 C\nset 1 3 T\n# xw end\n"
 unfolding digits
 fill_journaled = refl
 
@@ -98,17 +98,17 @@ fill_made_again : replayed_lines before_fill (lines_of (codes "# xw begin\nset 1
 fill_made_again = refl
 
 -- any other change is journaled as its line, and nothing else is
-circle_journaled : journal_text before_fill.position.grid (codes " circle 1 1 ") Accepted before_fill.position.grid ≡ codes " circle 1 1 \n"
+circle_journaled : journal_text before_fill.engine.grid (codes " circle 1 1 ") Accepted before_fill.engine.grid ≡ codes " circle 1 1 \n"
 circle_journaled = refl
 
-query_journaled : journal_text before_fill.position.grid (codes "show") Accepted before_fill.position.grid ≡ []
+query_journaled : journal_text before_fill.engine.grid (codes "show") Accepted before_fill.engine.grid ≡ []
 query_journaled = refl
 
-refusal_journaled : journal_text before_fill.position.grid (codes "circle 9 9") Refused before_fill.position.grid ≡ []
+refusal_journaled : journal_text before_fill.engine.grid (codes "circle 9 9") Refused before_fill.engine.grid ≡ []
 refusal_journaled = refl
 
 -- a search that enters nothing writes nothing
-no_fill_journaled : journal_text before_fill.position.grid (codes "fill 9") Accepted before_fill.position.grid ≡ []
+no_fill_journaled : journal_text before_fill.engine.grid (codes "fill 9") Accepted before_fill.engine.grid ≡ []
 no_fill_journaled = refl
 
 -- of a file that was cut, the whole lines count, and groups only if they have an end

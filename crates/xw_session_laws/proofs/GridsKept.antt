@@ -26,7 +26,7 @@ use Rattle.xw_grid.specs.Orbit.{is_in_orbit}
 use Rattle.xw_grid.specs.Light.{lights_of, no_light, cells_of}
 use Rattle.xw_grid.proofs.GridLemmas.{length-cells}
 use Rattle.xw_feas.specs.declared.edit.Refusal.{Refusal as EditRefusal}
-use Rattle.xw_feas.specs.State.{State as Position, with_grid as with_edited, with_words as with_dictionary, by_fault, with_letters, spelled_in, placed_in, then_write, write_list}
+use Rattle.xw_feas.specs.State.{State as EngineState, with_grid as with_edited, with_words as with_dictionary, by_fault, with_letters, spelled_in, placed_in, then_write, write_list}
 use Rattle.xw_fill.specs.Position.{square_with, squares_with, filled_in}
 use Rattle.xw_session.specs.Erase.{emptied}
 
@@ -119,74 +119,74 @@ letter_good byte letter e =
       | false ↦ λ is e. cc
     ] refl e
 
-module _ (position next : Position) (is : IsGrid position.grid) where
-  to_grid : (grid : Grid) → IsGrid grid → with_edited position (Ok grid) ≡ Ok next → IsGrid next.grid
-  to_grid grid good e = let same : record position { grid = grid } ≡ next = cc in subst (λ (p : Position). IsGrid p.grid) same good
+module _ (engine next : EngineState) (is : IsGrid engine.grid) where
+  to_grid : (grid : Grid) → IsGrid grid → with_edited engine (Ok grid) ≡ Ok next → IsGrid next.grid
+  to_grid grid good e = let same : record engine { grid = grid } ≡ next = cc in subst (λ (p : EngineState). IsGrid p.grid) same good
 
-  by_two : (a b : Bool) (one other : GridFault) (grid : Grid) → IsGrid grid → with_edited position (by_fault (if not a then Err one else if b then Err other else Ok grid)) ≡ Ok next → IsGrid next.grid
+  by_two : (a b : Bool) (one other : GridFault) (grid : Grid) → IsGrid grid → with_edited engine (by_fault (if not a then Err one else if b then Err other else Ok grid)) ≡ Ok next → IsGrid next.grid
   by_two true false one other grid good e = to_grid grid good e
   by_two true true one other grid good e = cc
   by_two false b one other grid good e = cc
 
-  pub with_words_good : (words : Result Dictionary WordFault) → with_dictionary position words ≡ Ok next → IsGrid next.grid
-  with_words_good (Ok words) e = let same : record position { words = words } ≡ next = cc in subst (λ (p : Position). IsGrid p.grid) same is
+  pub with_words_good : (words : Result Dictionary WordFault) → with_dictionary engine words ≡ Ok next → IsGrid next.grid
+  with_words_good (Ok words) e = let same : record engine { words = words } ≡ next = cc in subst (λ (p : EngineState). IsGrid p.grid) same is
   with_words_good (Err fault) e = cc
 
-  pub with_letter_good : (cell : Cell) (letter : Option ℕ) → IsSquare (squares.Open letter) → with_edited position (by_fault (set_entry position.grid cell letter)) ≡ Ok next → IsGrid next.grid
-  with_letter_good cell letter good e = by_two (is_inside position.grid cell) (is_block position.grid cell) grids.OutOfGrid grids.OnBlock (with_entry position.grid cell letter) (square_set position.grid (index_of position.grid cell) (squares.Open letter) is good) e
+  pub with_letter_good : (cell : Cell) (letter : Option ℕ) → IsSquare (squares.Open letter) → with_edited engine (by_fault (set_entry engine.grid cell letter)) ≡ Ok next → IsGrid next.grid
+  with_letter_good cell letter good e = by_two (is_inside engine.grid cell) (is_block engine.grid cell) grids.OutOfGrid grids.OnBlock (with_entry engine.grid cell letter) (square_set engine.grid (index_of engine.grid cell) (squares.Open letter) is good) e
 
-  by_length : (a : Bool) (one : EditRefusal) (grid : Grid) → IsGrid grid → with_edited position (if a then Ok grid else Err one) ≡ Ok next → IsGrid next.grid
+  by_length : (a : Bool) (one : EditRefusal) (grid : Grid) → IsGrid grid → with_edited engine (if a then Ok grid else Err one) ≡ Ok next → IsGrid next.grid
   by_length true one grid good e = to_grid grid good e
   by_length false one grid good e = cc
 
-  by_spelling : (light : Light) (bad : Option ℕ) (bytes : List ℕ) → bad_at is_bad_letter bytes ≡ bad → with_edited position (spelled_in position.grid light bad bytes) ≡ Ok next → IsGrid next.grid
+  by_spelling : (light : Light) (bad : Option ℕ) (bytes : List ℕ) → bad_at is_bad_letter bytes ≡ bad → with_edited engine (spelled_in engine.grid light bad bytes) ≡ Ok next → IsGrid next.grid
   by_spelling light (Some at) bytes found e = cc
   by_spelling light None bytes found e =
-      by_length _ _ (with_letters position.grid (cells_of light) (map folded bytes)) (letters_set (cells_of light) position.grid (map folded bytes) (letters_folded bytes found) is) e
+      by_length _ _ (with_letters engine.grid (cells_of light) (map folded bytes)) (letters_set (cells_of light) engine.grid (map folded bytes) (letters_folded bytes found) is) e
 
-  pub with_word_good : (index : Option ℕ) (bytes : List ℕ) → with_edited position (placed_in position.grid index bytes) ≡ Ok next → IsGrid next.grid
+  pub with_word_good : (index : Option ℕ) (bytes : List ℕ) → with_edited engine (placed_in engine.grid index bytes) ≡ Ok next → IsGrid next.grid
   with_word_good None bytes e = cc
-  with_word_good (Some index) bytes e = by_spelling (slice_index_or (lights_of position.grid) index no_light) (bad_at is_bad_letter bytes) bytes refl e
+  with_word_good (Some index) bytes e = by_spelling (slice_index_or (lights_of engine.grid) index no_light) (bad_at is_bad_letter bytes) bytes refl e
 
-  by_list : (cells : List Cell) (written : Result Grid GridFault) → write_list (emptied cells) position.grid ≡ written → with_edited position (by_fault written) ≡ Ok next → IsGrid next.grid
-  by_list cells (Ok grid) made e = to_grid grid (cells_emptied cells position.grid grid is made) e
+  by_list : (cells : List Cell) (written : Result Grid GridFault) → write_list (emptied cells) engine.grid ≡ written → with_edited engine (by_fault written) ≡ Ok next → IsGrid next.grid
+  by_list cells (Ok grid) made e = to_grid grid (cells_emptied cells engine.grid grid is made) e
   by_list cells (Err fault) made e = cc
 
-  pub emptied_good : (cells : List Cell) → with_edited position (by_fault (write_list (emptied cells) position.grid)) ≡ Ok next → IsGrid next.grid
-  emptied_good cells e = by_list cells (write_list (emptied cells) position.grid) refl e
+  pub emptied_good : (cells : List Cell) → with_edited engine (by_fault (write_list (emptied cells) engine.grid)) ≡ Ok next → IsGrid next.grid
+  emptied_good cells e = by_list cells (write_list (emptied cells) engine.grid) refl e
 
-  pub with_orbit_good : (cell : Cell) → with_edited position (by_fault (toggle_block position.grid cell)) ≡ Ok next → IsGrid next.grid
+  pub with_orbit_good : (cell : Cell) → with_edited engine (by_fault (toggle_block engine.grid cell)) ≡ Ok next → IsGrid next.grid
   with_orbit_good cell e =
-      by_two (is_inside position.grid cell) (not (is_block position.grid cell) && is_occupied position.grid cell) grids.OutOfGrid grids.Occupied (with_orbit position.grid cell (not (is_block position.grid cell)))
-      (orbit_good position.grid is cell (not (is_block position.grid cell))) e
+      by_two (is_inside engine.grid cell) (not (is_block engine.grid cell) && is_occupied engine.grid cell) grids.OutOfGrid grids.Occupied (with_orbit engine.grid cell (not (is_block engine.grid cell)))
+      (orbit_good engine.grid is cell (not (is_block engine.grid cell))) e
 
-  by_edge : (a b : Bool) (grid : Grid) → IsGrid grid → with_edited position (by_fault (if not a then Err grids.OutOfGrid else if not b then Err grids.Border else Ok grid)) ≡ Ok next → IsGrid next.grid
+  by_edge : (a b : Bool) (grid : Grid) → IsGrid grid → with_edited engine (by_fault (if not a then Err grids.OutOfGrid else if not b then Err grids.Border else Ok grid)) ≡ Ok next → IsGrid next.grid
   by_edge true true grid good e = to_grid grid good e
   by_edge true false grid good e = cc
   by_edge false b grid good e = cc
 
-  pub with_bar_good : (cell : Cell) (side : Side) → with_edited position (by_fault (toggle_bar position.grid cell side)) ≡ Ok next → IsGrid next.grid
+  pub with_bar_good : (cell : Cell) (side : Side) → with_edited engine (by_fault (toggle_bar engine.grid cell side)) ≡ Ok next → IsGrid next.grid
   with_bar_good cell side e =
-      let now = not (is_barred position.grid cell side) in
-      by_edge (is_inside position.grid cell) (is_edge position.grid cell side) (with_edges position.grid cell side now)
-      (edges_good position.grid is (bars_with position.grid cell side now Right) (bars_with position.grid cell side now Below)
-      (length-map (cells position.grid) _ ∙ length-cells position.grid) (length-map (cells position.grid) _ ∙ length-cells position.grid)) e
+      let now = not (is_barred engine.grid cell side) in
+      by_edge (is_inside engine.grid cell) (is_edge engine.grid cell side) (with_edges engine.grid cell side now)
+      (edges_good engine.grid is (bars_with engine.grid cell side now Right) (bars_with engine.grid cell side now Below)
+      (length-map (cells engine.grid) _ ∙ length-cells engine.grid) (length-map (cells engine.grid) _ ∙ length-cells engine.grid)) e
 
-  by_square : (kind : Symmetry) (a : Bool) → (a ≡ false → kind ≡ kinds.Quarter → position.grid.width ≡ position.grid.height) → with_edited position (by_fault (if a then Err grids.NotSquare else Ok (record position.grid { symmetry = kind }))) ≡ Ok next → IsGrid next.grid
-  by_square kind false square e = to_grid (record position.grid { symmetry = kind }) (symmetry_good position.grid is kind (square refl)) e
+  by_square : (kind : Symmetry) (a : Bool) → (a ≡ false → kind ≡ kinds.Quarter → engine.grid.width ≡ engine.grid.height) → with_edited engine (by_fault (if a then Err grids.NotSquare else Ok (record engine.grid { symmetry = kind }))) ≡ Ok next → IsGrid next.grid
+  by_square kind false square e = to_grid (record engine.grid { symmetry = kind }) (symmetry_good engine.grid is kind (square refl)) e
   by_square kind true square e = cc
 
   not_not : (b : Bool) → not b ≡ false → b ≡ true
   not_not true e = refl
   not_not false e = cc
 
-  pub with_symmetry_good : (kind : Symmetry) → with_edited position (by_fault (set_symmetry position.grid kind)) ≡ Ok next → IsGrid next.grid
+  pub with_symmetry_good : (kind : Symmetry) → with_edited engine (by_fault (set_symmetry engine.grid kind)) ≡ Ok next → IsGrid next.grid
   with_symmetry_good kinds.None e = by_square kinds.None false (λ _ e. cc) e
   with_symmetry_good kinds.Half e = by_square kinds.Half false (λ _ e. cc) e
   with_symmetry_good kinds.LeftRight e = by_square kinds.LeftRight false (λ _ e. cc) e
   with_symmetry_good kinds.UpDown e = by_square kinds.UpDown false (λ _ e. cc) e
   with_symmetry_good kinds.Quarter e =
-      by_square kinds.Quarter (not (eqb position.grid.width position.grid.height)) (λ same _. eqb-true position.grid.width position.grid.height (not_not (eqb position.grid.width position.grid.height) same)) e
+      by_square kinds.Quarter (not (eqb engine.grid.width engine.grid.height)) (λ same _. eqb-true engine.grid.width engine.grid.height (not_not (eqb engine.grid.width engine.grid.height) same)) e
 
 -- ---- entries
 
@@ -207,14 +207,14 @@ with_good squares.Block entry good = tt
 with_good (squares.Open entered) None good = tt
 with_good (squares.Open entered) (Some letter) good = good letter refl
 
-pub filled_good : (position : Position) (entries : List (Option ℕ)) → IsGrid position.grid → ((cell letter : ℕ) → get_or entries cell None ≡ Some letter → IsLetter letter) → IsGrid (filled_in position entries).grid
-filled_good position entries is good = record {
+pub filled_good : (engine : EngineState) (entries : List (Option ℕ)) → IsGrid engine.grid → ((cell letter : ℕ) → get_or entries cell None ≡ Some letter → IsLetter letter) → IsGrid (filled_in engine entries).grid
+filled_good engine entries is good = record {
   wide = is.wide;
   high = is.high;
-  squares = length-filled position.grid.squares entries ∙ is.squares;
+  squares = length-filled engine.grid.squares entries ∙ is.squares;
   letters = λ k d within.
-      let there : k < length position.grid.squares = omega (arith, within, length-filled position.grid.squares entries) in
-      subst IsSquare (sym (square_now position.grid.squares entries k d there)) (with_good (get_or position.grid.squares k squares.Block) (get_or entries k None) (good k));
+      let there : k < length engine.grid.squares = omega (arith, within, length-filled engine.grid.squares entries) in
+      subst IsSquare (sym (square_now engine.grid.squares entries k d there)) (with_good (get_or engine.grid.squares k squares.Block) (get_or entries k None) (good k));
   right = is.right;
   below = is.below;
   turned = is.turned;

@@ -7,10 +7,10 @@ use Rattle.xw_journal.specs.Journal.{journal_text}
 use Rattle.xw_session_laws.specs.Journals.{IsJournaled}
 use Rattle.xw_session_laws.proofs.JournalLines.{line_leaves, grid_after_line, Replays, both_replays, line_replays}
 
-pub journal_replays : (lines : List (List ℕ)) (start end : State) (bytes : List ℕ) → IsGrid start.position.grid → AllHaveNoLf lines → IsJournaled start lines bytes end → Replays start bytes end
+pub journal_replays : (lines : List (List ℕ)) (start end : State) (bytes : List ℕ) → IsGrid start.engine.grid → AllHaveNoLf lines → IsJournaled start lines bytes end → Replays start bytes end
 journal_replays [] start end bytes is plain (none, same) = record { lines = []; whole = none; plain = tt; done = ap Some (sym same) }
 journal_replays (line ∷ lines) start end bytes is plain (outcome, answer, mid, others, said, rest, bytes-is) =
-    let text = journal_text start.position.grid line outcome mid.position.grid in
+    let text = journal_text start.engine.grid line outcome mid.engine.grid in
     subst (λ bytes. Replays start bytes end) (sym bytes-is)
     (both_replays start mid end text others
     (line_replays start line text mid plain.0 (line_leaves start is line outcome answer mid said))

@@ -201,18 +201,18 @@ group_unit (command ∷ commands) recorded = record {
 left_unit : (state : State) (line text : List ℕ) (next : State) → HasNoLf line → Leaves state line text next → IsUnit text
 left_unit state line text next plain (inl (none, same)) = subst IsUnit (sym none) no_unit
 left_unit state line text next plain (inr (inl (is, left, (command, read)))) = subst IsUnit (sym is) (line_unit line plain command read)
-left_unit state line text next plain (inr (inr enters)) = subst IsUnit (sym enters.text-is) (group_unit (entered_commands state.position.grid next.position.grid) enters.recorded)
+left_unit state line text next plain (inr (inr enters)) = subst IsUnit (sym enters.text-is) (group_unit (entered_commands state.engine.grid next.engine.grid) enters.recorded)
 
 module _ (start mid end : State) (line : List ℕ) (lines : List (List ℕ)) (outcome : Step) (answer others journal : List ℕ)
     (said : Answers start line outcome answer mid) (rest : IsJournaled mid lines others end)
-    (journal-is : journal ≡ journal_text start.position.grid line outcome mid.position.grid ++ others) where
+    (journal-is : journal ≡ journal_text start.engine.grid line outcome mid.engine.grid ++ others) where
   abbrev text : List ℕ
-  text = journal_text start.position.grid line outcome mid.position.grid
+  text = journal_text start.engine.grid line outcome mid.engine.grid
 
   abbrev whole : IsJournaled start (line ∷ lines) journal end
   whole = (outcome, answer, mid, others, said, rest, journal-is)
 
-  module _ (is : IsGrid start.position.grid) (plain : HasNoLf line) (plain_lines : AllHaveNoLf lines) where
+  module _ (is : IsGrid start.engine.grid) (plain : HasNoLf line) (plain_lines : AllHaveNoLf lines) where
     leaves : Leaves start line text mid
     leaves = line_leaves start is line outcome answer mid said
 
@@ -264,7 +264,7 @@ no_lines : (first more : List (List ℕ)) → [] ≡ first ++ more → first ≡
 no_lines [] more e = refl
 no_lines (line ∷ first) more e = cc
 
-first_lines_cut : (lines : List (List ℕ)) (start end : State) (journal : List ℕ) (first more : List (List ℕ)) → IsGrid start.position.grid → AllHaveNoLf lines → IsJournaled start lines journal end → lines_of journal ≡ first ++ more
+first_lines_cut : (lines : List (List ℕ)) (start end : State) (journal : List ℕ) (first more : List (List ℕ)) → IsGrid start.engine.grid → AllHaveNoLf lines → IsJournaled start lines journal end → lines_of journal ≡ first ++ more
     → AreFirstLines start lines journal end (complete first)
 first_lines_cut [] start end journal first more is plain done parts =
     subst (AreFirstLines start [] journal end) (ap complete (sym (no_lines first more (ap lines_of (sym done.0) ∙ parts)))) (nothing_done start end [] journal done)
@@ -272,7 +272,7 @@ first_lines_cut (line ∷ lines) start end journal first more is plain (outcome,
     line_cut start mid end line lines outcome answer others journal said rest journal-is is plain.0 plain.1 first more parts
     (λ tail behind. first_lines_cut lines mid end others tail more (grid_after_line start is line outcome answer mid said) plain.1 rest behind)
 
-pub journal_cut : (start end : State) (lines : List (List ℕ)) (journal front rest : List ℕ) → IsGrid start.position.grid → AllHaveNoLf lines → IsJournaled start lines journal end
+pub journal_cut : (start end : State) (lines : List (List ℕ)) (journal front rest : List ℕ) → IsGrid start.engine.grid → AllHaveNoLf lines → IsJournaled start lines journal end
     → journal ≡ front ++ rest → AreFirstLines start lines journal end (complete (ended_lines front))
 journal_cut start end lines journal front rest is plain done parts =
     let whole = journal_replays lines start end journal is plain done in

@@ -24,7 +24,7 @@ part_of whole front tail next e =
 kept_behind : (front : List ℕ) → kept_lines (first_line ++ front) ≡ codes "# xw session 1" ∷ complete (ended_lines front)
 kept_behind front = refl
 
-module _ (start end : State) (lines : List (List ℕ)) (journal front rest : List ℕ) (is : IsGrid start.position.grid) (plain : AllHaveNoLf lines) (done : IsJournaled start lines journal end) where
+module _ (start end : State) (lines : List (List ℕ)) (journal front rest : List ℕ) (is : IsGrid start.engine.grid) (plain : AllHaveNoLf lines) (done : IsJournaled start lines journal end) where
   keeps : (behind : List ℕ) → front ≡ first_line ++ behind → journal ≡ behind ++ rest → KeepsFirstLines start lines journal end front
   keeps behind front-is parts =
       let are = journal_cut start end lines journal behind rest is plain done parts in

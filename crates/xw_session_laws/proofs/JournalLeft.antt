@@ -20,7 +20,7 @@ unless_stopped Stopped P holds = tt
 unless_stopped Endless P holds = holds
 unless_stopped Memory P holds = holds
 
-module _ {R : Type 0} (read : R → List ℕ) (result : RunEnd) (start end : JournaledState) (source source' : R) (is : IsGrid start.state.position.grid) (are : AreBytes (read source')) (none : without_flushes start.journal ≡ [])
+module _ {R : Type 0} (read : R → List ℕ) (result : RunEnd) (start end : JournaledState) (source source' : R) (is : IsGrid start.state.engine.grid) (are : AreBytes (read source')) (none : without_flushes start.journal ≡ [])
     (text : List ℕ) (was_read : read source' ≡ read source ++ text) where
   bytes : AreBytes text
   bytes = (bytes_parted (read source) text (subst AreBytes was_read are)).1

@@ -21,7 +21,7 @@ use Rattle.xw_commands.specs.declared.command.Kind.{Kind}
 use Rattle.xw_commands.specs.declared.command.Kind.TheVariants.{Query, Change, Search}
 use Rattle.xw_commands.specs.Kind.{kind_of}
 use Rattle.xw_journal.specs.Journal.{entered_commands, text_of_kind, text_of_parsed, journal_text}
-use Rattle.xw_session_laws.specs.Replay.{state_left, replayed, left_by_line, replayed_lines}
+use Rattle.xw_session_laws.specs.Replay.{left_by, replayed, left_by_line, replayed_lines}
 use Rattle.xw_session_laws.proofs.AnsweredAgain.{both_replayed}
 use Rattle.xw_session_laws.proofs.CommandsRead.{line_without_lf}
 use Rattle.xw_session_laws.proofs.RecordRead.{AreRecorded, lines_apart, no_lf_in, replayed_as_read}
@@ -49,9 +49,9 @@ pub record Enters (state : State) (line text : List ℕ) (next : State) : Type 0
   pub searches : kind_of command ≡ Search
   pub answer : List ℕ
   pub answers : Answers state line Accepted answer next
-  pub text-is : text ≡ grouped (entered_commands state.position.grid next.position.grid)
-  pub recorded : AreRecorded (entered_commands state.position.grid next.position.grid)
-  pub done : replayed state (entered_commands state.position.grid next.position.grid) ≡ Some next
+  pub text-is : text ≡ grouped (entered_commands state.engine.grid next.engine.grid)
+  pub recorded : AreRecorded (entered_commands state.engine.grid next.engine.grid)
+  pub done : replayed state (entered_commands state.engine.grid next.engine.grid) ≡ Some next
 
 abbrev pub Leaves : State → List ℕ → List ℕ → State → Type 0
 Leaves state line text next = IsQuiet state text next ⊎ (IsChange state line text next ⊎ Enters state line text next)
@@ -61,76 +61,76 @@ same_lettered Block = tt
 same_lettered (Open None) = tt
 same_lettered (Open (Some letter)) = refl
 
-module _ (state : State) (is : IsGrid state.position.grid) where
+module _ (state : State) (is : IsGrid state.engine.grid) where
   -- no letters lead from a grid to itself
-  none_again : replayed state (entered_commands state.position.grid state.position.grid) ≡ Some state
-  none_again = letters_entered state state.position.grid is state.position.grid.squares refl (λ k within. same_lettered (get_or state.position.grid.squares k Block))
+  none_again : replayed state (entered_commands state.engine.grid state.engine.grid) ≡ Some state
+  none_again = letters_entered state state.engine.grid is state.engine.grid.squares refl (λ k within. same_lettered (get_or state.engine.grid.squares k Block))
 
-  none_recorded : AreRecorded (entered_commands state.position.grid state.position.grid)
-  none_recorded = entered_recorded state state.position.grid is state.position.grid.squares refl (λ k within. same_lettered (get_or state.position.grid.squares k Block))
+  none_recorded : AreRecorded (entered_commands state.engine.grid state.engine.grid)
+  none_recorded = entered_recorded state state.engine.grid is state.engine.grid.squares refl (λ k within. same_lettered (get_or state.engine.grid.squares k Block))
 
   module _ (line : List ℕ) (outcome : Step) (answer : List ℕ) (next : State) (said : Answers state line outcome answer next) where
     abbrev text : List ℕ
-    text = journal_text state.position.grid line outcome next.position.grid
+    text = journal_text state.engine.grid line outcome next.engine.grid
 
     module _ (command : Command) (read : command_of line ≡ Ok (Some command)) (reply : Reply) (step : outcome ≡ Accepted) (same : next ≡ reply.state) where
-      text_is : text ≡ text_of_kind (kind_of command) line state.position.grid next.position.grid
+      text_is : text ≡ text_of_kind (kind_of command) line state.engine.grid next.engine.grid
       text_is =
-          ap (λ step. journal_text state.position.grid line step next.position.grid) step
-          ∙ ap (λ found. text_of_parsed found line state.position.grid next.position.grid) read
+          ap (λ step. journal_text state.engine.grid line step next.engine.grid) step
+          ∙ ap (λ found. text_of_parsed found line state.engine.grid next.engine.grid) read
 
-      by_letters : kind_of command ≡ Search → AreRecorded (entered_commands state.position.grid next.position.grid) → replayed state (entered_commands state.position.grid next.position.grid) ≡ Some next → Leaves state line text next
+      by_letters : kind_of command ≡ Search → AreRecorded (entered_commands state.engine.grid next.engine.grid) → replayed state (entered_commands state.engine.grid next.engine.grid) ≡ Some next → Leaves state line text next
       by_letters effect recorded done = inr (inr (record {
         command = command;
         is = read;
         searches = effect;
         answer = answer;
         answers = subst (λ step. Answers state line step answer next) step said;
-        text-is = text_is ∙ ap (λ effect. text_of_kind effect line state.position.grid next.position.grid) effect;
+        text-is = text_is ∙ ap (λ effect. text_of_kind effect line state.engine.grid next.engine.grid) effect;
         recorded = recorded;
         done = done;
       }))
 
       by_effect : (effect : Kind) → kind_of command ≡ effect → HasEffect effect state command reply → Leaves state line text next
-      by_effect Query effect left = inl (text_is ∙ ap (λ effect. text_of_kind effect line state.position.grid next.position.grid) effect, same ∙ left)
+      by_effect Query effect left = inl (text_is ∙ ap (λ effect. text_of_kind effect line state.engine.grid next.engine.grid) effect, same ∙ left)
       by_effect Change effect left =
-          inr (inl (text_is ∙ ap (λ effect. text_of_kind effect line state.position.grid next.position.grid) effect, ap (left_by_line state) read ∙ ap state_left left ∙ ap Some (sym same), (command, read)))
+          inr (inl (text_is ∙ ap (λ effect. text_of_kind effect line state.engine.grid next.engine.grid) effect, ap (left_by_line state) read ∙ ap left_by left ∙ ap Some (sym same), (command, read)))
       by_effect Search effect (inl left) =
           let stays : state ≡ next = sym (same ∙ left) in
           by_letters effect
-          (subst (λ (s : State). AreRecorded (entered_commands state.position.grid s.position.grid)) stays none_recorded)
-          (subst (λ (s : State). replayed state (entered_commands state.position.grid s.position.grid) ≡ Some s) stays none_again)
-      by_effect Search effect (inr (position, left, done)) =
-          let moves : record state { position = position } ≡ next = sym (same ∙ left) in
+          (subst (λ (s : State). AreRecorded (entered_commands state.engine.grid s.engine.grid)) stays none_recorded)
+          (subst (λ (s : State). replayed state (entered_commands state.engine.grid s.engine.grid) ≡ Some s) stays none_again)
+      by_effect Search effect (inr (engine, left, done)) =
+          let moves : record state { engine = engine } ≡ next = sym (same ∙ left) in
           by_letters effect
-          (subst (λ (s : State). AreRecorded (entered_commands state.position.grid s.position.grid)) moves (search_recorded state is position done))
-          (subst (λ (s : State). replayed state (entered_commands state.position.grid s.position.grid) ≡ Some s) moves (search_again state is position done))
+          (subst (λ (s : State). AreRecorded (entered_commands state.engine.grid s.engine.grid)) moves (search_recorded state is engine done))
+          (subst (λ (s : State). replayed state (entered_commands state.engine.grid s.engine.grid) ≡ Some s) moves (search_again state is engine done))
 
     by_reply : (command : Command) → command_of line ≡ Ok (Some command) → (reply : Result Reply Refusal) → Replies state command reply → outcome ≡ step_of reply → next ≡ state_after state reply → Leaves state line text next
     by_reply command read (Ok reply) (due, owed, fits) step same = by_effect command read reply step same (kind_of command) refl (effected state is reply command (subst (IsDue state command) fits owed))
-    by_reply command read (Err refusal) replies step same = inl (ap (λ step. journal_text state.position.grid line step next.position.grid) step, same)
+    by_reply command read (Err refusal) replies step same = inl (ap (λ step. journal_text state.engine.grid line step next.engine.grid) step, same)
 
     by_parsed : (found : Result (Option Command) SyntaxFault) → command_of line ≡ found → AnswersParsed state found outcome answer next → Leaves state line text next
-    by_parsed (Ok None) read said = inl (ap (λ step. journal_text state.position.grid line step next.position.grid) said.0, said.2)
+    by_parsed (Ok None) read said = inl (ap (λ step. journal_text state.engine.grid line step next.engine.grid) said.0, said.2)
     by_parsed (Ok (Some command)) read said = by_reply command read said.0 said.1 said.2 said.4
-    by_parsed (Err fault) read said = inl (ap (λ step. journal_text state.position.grid line step next.position.grid) said.0, said.2)
+    by_parsed (Err fault) read said = inl (ap (λ step. journal_text state.engine.grid line step next.engine.grid) said.0, said.2)
 
     pub line_leaves : Leaves state line text next
     line_leaves = by_parsed (command_of line) refl said
 
     -- ---- the grid after a line
 
-    grid_after_reply : (command : Command) (reply : Result Reply Refusal) → Replies state command reply → next ≡ state_after state reply → IsGrid next.position.grid
+    grid_after_reply : (command : Command) (reply : Result Reply Refusal) → Replies state command reply → next ≡ state_after state reply → IsGrid next.engine.grid
     grid_after_reply command (Ok reply) (due, owed, fits) same =
-        subst (λ (s : State). IsGrid s.position.grid) (sym same) (grid_left state is reply command (subst (IsDue state command) fits owed))
-    grid_after_reply command (Err refusal) replies same = subst (λ (s : State). IsGrid s.position.grid) (sym same) is
+        subst (λ (s : State). IsGrid s.engine.grid) (sym same) (grid_left state is reply command (subst (IsDue state command) fits owed))
+    grid_after_reply command (Err refusal) replies same = subst (λ (s : State). IsGrid s.engine.grid) (sym same) is
 
-    grid_after_parsed : (found : Result (Option Command) SyntaxFault) → AnswersParsed state found outcome answer next → IsGrid next.position.grid
-    grid_after_parsed (Ok None) said = subst (λ (s : State). IsGrid s.position.grid) (sym said.2) is
+    grid_after_parsed : (found : Result (Option Command) SyntaxFault) → AnswersParsed state found outcome answer next → IsGrid next.engine.grid
+    grid_after_parsed (Ok None) said = subst (λ (s : State). IsGrid s.engine.grid) (sym said.2) is
     grid_after_parsed (Ok (Some command)) said = grid_after_reply command said.0 said.1 said.4
-    grid_after_parsed (Err fault) said = subst (λ (s : State). IsGrid s.position.grid) (sym said.2) is
+    grid_after_parsed (Err fault) said = subst (λ (s : State). IsGrid s.engine.grid) (sym said.2) is
 
-    pub grid_after_line : IsGrid next.position.grid
+    pub grid_after_line : IsGrid next.engine.grid
     grid_after_line = grid_after_parsed (command_of line) said
 
 -- ---- as lines
@@ -200,7 +200,7 @@ pub line_replays : (state : State) (line bytes : List ℕ) (next : State) → Ha
 line_replays state line bytes next plain (inl (none, same)) = record { lines = []; whole = none; plain = tt; done = ap Some (sym same) }
 line_replays state line bytes next plain (inr (inl (is, left, command))) = record { lines = line ∷ []; whole = is; plain = (plain, tt); done = ap (option_and_then (λ next. Some next)) left }
 line_replays state line bytes next plain (inr (inr enters)) =
-    subst (λ bytes. Replays state bytes next) (sym enters.text-is) (group_replays state next (entered_commands state.position.grid next.position.grid) enters.recorded enters.done)
+    subst (λ bytes. Replays state bytes next) (sym enters.text-is) (group_replays state next (entered_commands state.engine.grid next.engine.grid) enters.recorded enters.done)
 
 -- the lines of such a text
 module _ (start end : State) (bytes : List ℕ) (is : Replays start bytes end) where

@@ -89,7 +89,7 @@ text_unmarked state line text next are (inl (none, same)) = subst IsUnmarked (sy
 text_unmarked state line text next are (inr (inl (is, left, command))) = subst IsUnmarked (sym is) (joined line (10 ∷ []) (bytes_unmarked line are) refl)
 text_unmarked state line text next are (inr (inr enters)) =
     subst IsUnmarked (sym enters.text-is)
-    (group_unmarked (entered_commands state.position.grid next.position.grid) enters.recorded (entered_sets state.position.grid next.position.grid (cells next.position.grid)))
+    (group_unmarked (entered_commands state.engine.grid next.engine.grid) enters.recorded (entered_sets state.engine.grid next.engine.grid (cells next.engine.grid)))
 
 taken_unmarked : (effect : Kind) (text : List ℕ) → (effect ≡ Query → text ≡ []) → IsUnmarked text → without_flushes (taken effect text) ≡ text
 taken_unmarked Query text none plain = sym (none refl)
@@ -113,21 +113,21 @@ events_unmarked Refused line before after plain = refl
 -- ---- a run
 
 -- what the journal takes of a line is its text
-pub line_taken : (state : State) (line : List ℕ) (outcome : Step) (answer : List ℕ) (next : State) → IsGrid state.position.grid → AreBytes line → Answers state line outcome answer next
-    → without_flushes (journal_events state.position.grid line outcome next.position.grid) ≡ journal_text state.position.grid line outcome next.position.grid
+pub line_taken : (state : State) (line : List ℕ) (outcome : Step) (answer : List ℕ) (next : State) → IsGrid state.engine.grid → AreBytes line → Answers state line outcome answer next
+    → without_flushes (journal_events state.engine.grid line outcome next.engine.grid) ≡ journal_text state.engine.grid line outcome next.engine.grid
 line_taken state line outcome answer next is are said =
-    let text = journal_text state.position.grid line outcome next.position.grid in
-    events_unmarked outcome line state.position.grid next.position.grid (text_unmarked state line text next are (line_leaves state is line outcome answer next said))
+    let text = journal_text state.engine.grid line outcome next.engine.grid in
+    events_unmarked outcome line state.engine.grid next.engine.grid (text_unmarked state line text next are (line_leaves state is line outcome answer next said))
 
-pub run_journaled : (lines : List (List ℕ)) (start end : JournaledState) (out : List ℕ) (refused : ℕ) → IsGrid start.state.position.grid → All AreBytes lines → Spoken AnswersJournaled start lines out refused end → HasJournaled start lines end
+pub run_journaled : (lines : List (List ℕ)) (start end : JournaledState) (out : List ℕ) (refused : ℕ) → IsGrid start.state.engine.grid → All AreBytes lines → Spoken AnswersJournaled start lines out refused end → HasJournaled start lines end
 run_journaled [] start end out refused is are said = record {
   bytes = [];
   journaled = (refl, ap (λ (s : JournaledState). s.state) said.2);
   written = ap (λ (s : JournaledState). without_flushes s.journal) said.2 ∙ sym (append-nil (without_flushes start.journal));
 }
 run_journaled (line ∷ lines) start end out refused is are (outcome, answer, mid, others, more, said, rest, out-is, refused-is) =
-    let text = journal_text start.state.position.grid line outcome mid.state.position.grid in
-    let events = journal_events start.state.position.grid line outcome mid.state.position.grid in
+    let text = journal_text start.state.engine.grid line outcome mid.state.engine.grid in
+    let events = journal_events start.state.engine.grid line outcome mid.state.engine.grid in
     let tail = run_journaled lines mid end others more (grid_after_line start.state is line outcome answer mid.state said.answers) (All-tail AreBytes line lines are) rest in
     let here : without_flushes mid.journal ≡ without_flushes start.journal ++ text =
     ap without_flushes said.journal ∙ flushes_joined start.journal events ∙ ap (λ xs. without_flushes start.journal ++ xs) (line_taken start.state line outcome answer mid.state is (All-head AreBytes line lines are) said.answers) in
@@ -139,21 +139,21 @@ run_journaled (line ∷ lines) start end out refused is are (outcome, answer, mi
 
 -- ---- one more line
 
-grid_behind : (lines : List (List ℕ)) (start end : State) (bytes : List ℕ) → IsGrid start.position.grid → IsJournaled start lines bytes end → IsGrid end.position.grid
-grid_behind [] start end bytes is (none, same) = subst (λ (s : State). IsGrid s.position.grid) (sym same) is
+grid_behind : (lines : List (List ℕ)) (start end : State) (bytes : List ℕ) → IsGrid start.engine.grid → IsJournaled start lines bytes end → IsGrid end.engine.grid
+grid_behind [] start end bytes is (none, same) = subst (λ (s : State). IsGrid s.engine.grid) (sym same) is
 grid_behind (line ∷ lines) start end bytes is (outcome, answer, mid, others, said, rest, bytes-is) = grid_behind lines mid end others (grid_after_line start is line outcome answer mid said) rest
 
 one_more : (lines : List (List ℕ)) (start mid end : State) (bytes line answer : List ℕ) (outcome : Step) → IsJournaled start lines bytes mid → Answers mid line outcome answer end
-    → IsJournaled start (lines ++ line ∷ []) (bytes ++ journal_text mid.position.grid line outcome end.position.grid) end
+    → IsJournaled start (lines ++ line ∷ []) (bytes ++ journal_text mid.engine.grid line outcome end.engine.grid) end
 one_more [] start mid end bytes line answer outcome (none, same) said =
-    let text = journal_text mid.position.grid line outcome end.position.grid in
+    let text = journal_text mid.engine.grid line outcome end.engine.grid in
     let here : Answers start line outcome answer end = subst (λ s. Answers s line outcome answer end) same said in
-    let plain : bytes ++ text ≡ journal_text start.position.grid line outcome end.position.grid ++ [] =
-    ap (λ xs. xs ++ text) none ∙ ap (λ (s : State). journal_text s.position.grid line outcome end.position.grid) same ∙ sym (append-nil (journal_text start.position.grid line outcome end.position.grid)) in
+    let plain : bytes ++ text ≡ journal_text start.engine.grid line outcome end.engine.grid ++ [] =
+    ap (λ xs. xs ++ text) none ∙ ap (λ (s : State). journal_text s.engine.grid line outcome end.engine.grid) same ∙ sym (append-nil (journal_text start.engine.grid line outcome end.engine.grid)) in
     (outcome, answer, end, [], here, (refl, refl), plain)
 one_more (first ∷ lines) start mid end bytes line answer outcome (step, told, next, others, done, rest, bytes-is) said =
-    let text = journal_text mid.position.grid line outcome end.position.grid in
-    let here = journal_text start.position.grid first step next.position.grid in
+    let text = journal_text mid.engine.grid line outcome end.engine.grid in
+    let here = journal_text start.engine.grid first step next.engine.grid in
     (step, told, next, others ++ text, done, one_more lines next mid end others line answer outcome rest said, ap (λ xs. xs ++ text) bytes-is ∙ append_assoc here others text)
 
 -- ---- the lines of a text
@@ -201,14 +201,14 @@ lines_before (first ∷ before) after line are =
 
 -- ---- a run that did not finish an answer
 
-module _ (start mid end : JournaledState) (before : List (List ℕ)) (line : List ℕ) (is : IsGrid start.state.position.grid) (are : AreBytes line) (so_far : HasJournaled start before mid) where
-  mid_grid : IsGrid mid.state.position.grid
+module _ (start mid end : JournaledState) (before : List (List ℕ)) (line : List ℕ) (is : IsGrid start.state.engine.grid) (are : AreBytes line) (so_far : HasJournaled start before mid) where
+  mid_grid : IsGrid mid.state.engine.grid
   mid_grid = grid_behind before start.state mid.state so_far.bytes is so_far.journaled
 
   pub line_journaled : (outcome : Step) (answer : List ℕ) → AnswersJournaled mid line outcome answer end → HasJournaled start (before ++ line ∷ []) end
   line_journaled outcome answer said =
-      let text = journal_text mid.state.position.grid line outcome end.state.position.grid in
-      let events = journal_events mid.state.position.grid line outcome end.state.position.grid in
+      let text = journal_text mid.state.engine.grid line outcome end.state.engine.grid in
+      let events = journal_events mid.state.engine.grid line outcome end.state.engine.grid in
       record {
         bytes = so_far.bytes ++ text;
         journaled = one_more before start.state mid.state end.state so_far.bytes line answer outcome so_far.journaled said.answers;
@@ -220,7 +220,7 @@ module _ (start mid end : JournaledState) (before : List (List ℕ)) (line : Lis
   -- the journal failed in the text of the line
   line_unjournaled : IsUnjournaled mid line end → HasBegunJournal start (before ++ line ∷ []) end
   line_unjournaled stops =
-      let text = journal_text mid.state.position.grid line Accepted end.state.position.grid in
+      let text = journal_text mid.state.engine.grid line Accepted end.state.engine.grid in
       let sent = without_flushes stops.journal.sent in
       let unsent = without_flushes stops.journal.unsent in
       let whole : text ≡ sent ++ unsent =
@@ -240,7 +240,7 @@ module _ (start mid end : JournaledState) (before : List (List ℕ)) (line : Lis
       let outcome = stops.done.0 in
       let answer = stops.done.1 in
       let answers = stops.done.2 in
-      let text = journal_text mid.state.position.grid line outcome end.state.position.grid in
+      let text = journal_text mid.state.engine.grid line outcome end.state.engine.grid in
       record {
         bytes = so_far.bytes ++ text;
         journaled = one_more before start.state mid.state end.state so_far.bytes line answer outcome so_far.journaled answers;
@@ -257,7 +257,7 @@ module _ (start mid end : JournaledState) (before : List (List ℕ)) (line : Lis
   pub line_begun : (told_old told_new : List ℕ) → StopsAtJournal mid line end told_old told_new → HasBegunJournal start (before ++ line ∷ []) end
   line_begun told_old told_new stops = stopped_by stops.cause stops.why
 
-module _ (start end : JournaledState) (text begun transcript : List ℕ) (is : IsGrid start.state.position.grid) (are : AreBytes text) where
+module _ (start end : JournaledState) (text begun transcript : List ℕ) (is : IsGrid start.state.engine.grid) (are : AreBytes text) where
   pub broken_journaled : StopsIn AnswersJournaled (BreaksOff AnswersJournaled) start text end begun transcript → (lines : List (List ℕ)) × (others : List (List ℕ)) × (lines_of text ≡ lines ++ others) × HasJournaled start lines end
   broken_journaled stops =
       let bytes = lines_before stops.before stops.after stops.line (subst (All AreBytes) stops.are-lines (text_lines text are).1) in
@@ -280,7 +280,7 @@ module _ (start end : JournaledState) (text begun transcript : List ℕ) (is : I
 
 -- ---- a journal that was empty at the start
 
-module _ (start end : JournaledState) (lines : List (List ℕ)) (is : IsGrid start.state.position.grid) (plain : AllHaveNoLf lines) (none : without_flushes start.journal ≡ []) where
+module _ (start end : JournaledState) (lines : List (List ℕ)) (is : IsGrid start.state.engine.grid) (plain : AllHaveNoLf lines) (none : without_flushes start.journal ≡ []) where
   pub run_again : HasJournaled start lines end → replayed_lines start.state (lines_of (without_flushes end.journal)) ≡ Some end.state
   run_again done =
       let held : without_flushes end.journal ≡ done.bytes = done.written ∙ ap (λ xs. xs ++ done.bytes) none in

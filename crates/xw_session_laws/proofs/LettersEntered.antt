@@ -11,7 +11,7 @@ use Rattle.xw_grid.specs.Grid.{Grid, IsGrid, is_inside, index_of, cell_at, cells
 use Rattle.xw_grid.specs.Edit.{with_entry}
 use Rattle.xw_grid.proofs.GridLemmas.{cell_at-inside, index_of-cell_at, inside_small, length-cells}
 use Rattle.xw_feas.specs.Board.{board_of, square_entry}
-use Rattle.xw_feas.specs.State.{State as Position}
+use Rattle.xw_feas.specs.State.{State as EngineState}
 use Rattle.xw_fill.specs.Position.{square_with, squares_with}
 use Rattle.xw_commands.specs.declared.command.Command.{Command}
 use Rattle.xw_commands.specs.declared.command.Command.TheVariants as commands
@@ -128,27 +128,27 @@ with_lettered (Open None) (Some letter) kept good = good letter refl
 with_lettered (Open (Some letter)) None kept good = let bad : ◌≡◌ {A = Option ℕ} None (Some letter) = kept letter refl in cc
 with_lettered (Open (Some letter)) (Some other) kept good = let same : Some other ≡ Some letter = kept letter refl in cc
 
-module _ (state : State) (is : IsGrid state.position.grid) (next : Position) (done : IsSearched state.position next) where
+module _ (state : State) (is : IsGrid state.engine.grid) (next : EngineState) (done : IsSearched state.engine next) where
   abbrev filled : List Square
-  filled = squares_with state.position.grid.squares done.entries
+  filled = squares_with state.engine.grid.squares done.entries
 
-  letter_there : (k letter : ℕ) → k < length state.position.grid.squares → letter_in (Some (get_or state.position.grid.squares k Block)) ≡ Some letter → get_or done.entries k None ≡ Some letter
+  letter_there : (k letter : ℕ) → k < length state.engine.grid.squares → letter_in (Some (get_or state.engine.grid.squares k Block)) ≡ Some letter → get_or done.entries k None ≡ Some letter
   unfolding board_of
-  letter_there k letter within e = done.kept k letter (get_or-map square_entry state.position.grid.squares k Block None within ∙ e)
+  letter_there k letter within e = done.kept k letter (get_or-map square_entry state.engine.grid.squares k Block None within ∙ e)
 
-  filled_lettered : (k : ℕ) → k < length state.position.grid.squares → IsLettered (get_or state.position.grid.squares k Block) (get_or filled k Block)
+  filled_lettered : (k : ℕ) → k < length state.engine.grid.squares → IsLettered (get_or state.engine.grid.squares k Block) (get_or filled k Block)
   filled_lettered k within =
-      subst (IsLettered (get_or state.position.grid.squares k Block)) (sym (square_now state.position.grid.squares done.entries k Block within))
-      (with_lettered (get_or state.position.grid.squares k Block) (get_or done.entries k None) (λ letter. letter_there k letter within) (done.letters k))
+      subst (IsLettered (get_or state.engine.grid.squares k Block)) (sym (square_now state.engine.grid.squares done.entries k Block within))
+      (with_lettered (get_or state.engine.grid.squares k Block) (get_or done.entries k None) (λ letter. letter_there k letter within) (done.letters k))
 
   -- the letters lead to the state after the search
-  pub search_again : replayed state (entered_commands state.position.grid next.grid) ≡ Some (record state { position = next })
+  pub search_again : replayed state (entered_commands state.engine.grid next.grid) ≡ Some (record state { engine = next })
   search_again =
-      ap (λ (p : Position). replayed state (entered_commands state.position.grid p.grid)) done.is
-      ∙ letters_entered state state.position.grid is filled (length-filled state.position.grid.squares done.entries) filled_lettered
-      ∙ ap (λ (p : Position). Some (record state { position = p })) (sym done.is)
+      ap (λ (p : EngineState). replayed state (entered_commands state.engine.grid p.grid)) done.is
+      ∙ letters_entered state state.engine.grid is filled (length-filled state.engine.grid.squares done.entries) filled_lettered
+      ∙ ap (λ (p : EngineState). Some (record state { engine = p })) (sym done.is)
 
-  pub search_recorded : AreRecorded (entered_commands state.position.grid next.grid)
+  pub search_recorded : AreRecorded (entered_commands state.engine.grid next.grid)
   search_recorded =
-      subst (λ (p : Position). AreRecorded (entered_commands state.position.grid p.grid)) (sym done.is)
-      (entered_recorded state state.position.grid is filled (length-filled state.position.grid.squares done.entries) filled_lettered)
+      subst (λ (p : EngineState). AreRecorded (entered_commands state.engine.grid p.grid)) (sym done.is)
+      (entered_recorded state state.engine.grid is filled (length-filled state.engine.grid.squares done.entries) filled_lettered)

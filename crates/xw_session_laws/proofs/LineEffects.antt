@@ -18,7 +18,7 @@ use Rattle.xw_grid.specs.Clue.{no_clues, with_clue, with_circle, is_circled}
 use Rattle.xw_grid.specs.Light.{lights_of, index_named}
 use Rattle.xw_feas.specs.Board.{board_of, square_entry}
 use Rattle.xw_feas.specs.declared.edit.Refusal.{Refusal as EditRefusal}
-use Rattle.xw_feas.specs.State.{State as Position, letter_set, cell_cleared, word_placed, list_written, block_toggled, bar_toggled, symmetry_chosen, word_added, word_struck, least_chosen, after}
+use Rattle.xw_feas.specs.State.{State as EngineState, letter_set, cell_cleared, word_placed, list_written, block_toggled, bar_toggled, symmetry_chosen, word_added, word_struck, least_chosen, after}
 use Rattle.xw_feas.specs.WellFormed.{HasLetterEntries}
 use Rattle.xw_feas.proofs.FormedLemmas.{laid_out}
 use Rattle.xw_fill.specs.Position.{position_of, filled_in}
@@ -69,16 +69,16 @@ use Rattle.xw_session_laws.proofs.GridsKept.{blank_good, letter_good, with_words
 
 -- ---- a search
 
--- the entries of a position
-abbrev pub entries_of : Position → List (Option ℕ)
-entries_of position = (position_of position).board.entries
+-- the entries of an engine
+abbrev pub entries_of : EngineState → List (Option ℕ)
+entries_of engine = (position_of engine).board.entries
 
 -- the search entered letters, and every letter that was there stays
-pub record IsSearched (position next : Position) : Type 0 where
+pub record IsSearched (engine next : EngineState) : Type 0 where
   pub entries : List (Option ℕ)
   pub letters : (cell letter : ℕ) → get_or entries cell None ≡ Some letter → IsLetter letter
-  pub kept : (cell letter : ℕ) → get_or (entries_of position) cell None ≡ Some letter → get_or entries cell None ≡ Some letter
-  pub is : next ≡ filled_in position entries
+  pub kept : (cell letter : ℕ) → get_or (entries_of engine) cell None ≡ Some letter → get_or entries cell None ≡ Some letter
+  pub is : next ≡ filled_in engine entries
 
 entry_here : (xs : List Square) (cell : ℕ) → get_or (map square_entry xs) cell None ≡ letter_in (Some (get_or xs cell squares.Block))
 entry_here [] cell = refl
@@ -94,25 +94,25 @@ letter_entries grid is cell letter at =
       by_square (squares.Open None) good e = cc
       by_square (squares.Open (Some other)) good e = let same : other ≡ letter = cc in subst IsLetter same good
 
-end_is_fill : (position : Position) → IsGrid position.grid → found (position_of position) ≡ true → IsSearched position (filled_in position (end (position_of position)).board.entries)
-end_is_fill position is there =
-    let laid = laid_out position.grid is (letter_entries position.grid is) in
-    let done = found_is_fill (unentered_count (position_of position)) (position_of position) (entries_of position) (shaped (position_of position).board laid) (reached-start (position_of position) laid.letters) there in
+end_is_fill : (engine : EngineState) → IsGrid engine.grid → found (position_of engine) ≡ true → IsSearched engine (filled_in engine (end (position_of engine)).board.entries)
+end_is_fill engine is there =
+    let laid = laid_out engine.grid is (letter_entries engine.grid is) in
+    let done = found_is_fill (unentered_count (position_of engine)) (position_of engine) (entries_of engine) (shaped (position_of engine).board laid) (reached-start (position_of engine) laid.letters) there in
     record {
       entries = done.0;
       letters = done.2.letters;
       kept = done.2.kept;
-      is = ap (λ board. filled_in position board.board.entries) done.1;
+      is = ap (λ board. filled_in engine board.board.entries) done.1;
     }
 
 -- ---- what a reply leaves, by the effect of its command
 
 abbrev pub HasEffect : Kind → State → Command → Reply → Type 0
 HasEffect Query state command reply = reply.state ≡ state
-HasEffect Change state command reply = reply_to state command ≡ Ok reply
-HasEffect Search state command reply = (reply.state ≡ state) ⊎ ((next : Position) × (reply.state ≡ record state { position = next }) × IsSearched state.position next)
+HasEffect Change state command reply = reply_to state command ≡ Some (Ok reply)
+HasEffect Search state command reply = (reply.state ≡ state) ⊎ ((next : EngineState) × (reply.state ≡ record state { engine = next }) × IsSearched state.engine next)
 
-module _ (state : State) (is : IsGrid state.position.grid) (reply : Reply) where
+module _ (state : State) (is : IsGrid state.engine.grid) (reply : Reply) where
   by_test : (P : Type 0) (b : Bool) (x y : Result Reply Refusal) → (x ≡ Ok reply → P) → (b ≡ false → y ≡ Ok reply → P) → (if b then x else y) ≡ Ok reply → P
   by_test P true x y here there e = here e
   by_test P false x y here there e = there refl e
@@ -134,124 +134,124 @@ module _ (state : State) (is : IsGrid state.position.grid) (reply : Reply) where
 
   of_light : (light most : Option ℕ) → worded state light most ≡ Ok reply → Stays
   of_light None most e = refused_not Stays refusals.NoLight e
-  of_light (Some light) most e = when_shown (counted_lines (length (feasible_words (position_of state.position) light)) (first_words most (feasible_words (position_of state.position) light))) e
+  of_light (Some light) most e = when_shown (counted_lines (length (feasible_words (position_of state.engine) light)) (first_words most (feasible_words (position_of state.engine) light))) e
 
   of_choices_from : (light most : ℕ) (from : Result (Option ℕ) Refusal) → weighed_from state light most from ≡ Ok reply → Stays
-  of_choices_from light most (Ok from) e = when_shown (choice_lines state.position light from most) e
+  of_choices_from light most (Ok from) e = when_shown (choice_lines state.engine light from most) e
   of_choices_from light most (Err refusal) e = refused_not Stays refusal e
 
   of_choices : (light : Option ℕ) (most : ℕ) (first : Option (List ℕ)) → weighed state light most first ≡ Ok reply → Stays
   of_choices None most first e = refused_not Stays refusals.NoLight e
-  of_choices (Some light) most first e = of_choices_from light most (first_index state.position light first) e
+  of_choices (Some light) most first e = of_choices_from light most (first_index state.engine light first) e
 
   of_grades : (names : List LightName) → graded state names ≡ Ok reply → Stays
   of_grades names e =
-      by_test Stays (are_lights state.position.grid names) (shown state (grade_lines state.position names)) (Err refusals.NoLight) (when_shown (grade_lines state.position names)) (λ _ e. refused_not Stays refusals.NoLight e) e
+      by_test Stays (are_lights state.engine.grid names) (shown state (grade_lines state.engine names)) (Err refusals.NoLight) (when_shown (grade_lines state.engine names)) (λ _ e. refused_not Stays refusals.NoLight e) e
 
-  of_cell : (cell : Cell) (lines : List ℕ) → (if not (is_inside state.position.grid cell) then Err (refusals.Grid grids.OutOfGrid) else if is_block state.position.grid cell then Err (refusals.Grid grids.OnBlock) else shown state lines) ≡ Ok reply → Stays
+  of_cell : (cell : Cell) (lines : List ℕ) → (if not (is_inside state.engine.grid cell) then Err (refusals.Grid grids.OutOfGrid) else if is_block state.engine.grid cell then Err (refusals.Grid grids.OnBlock) else shown state lines) ≡ Ok reply → Stays
   of_cell cell lines e =
-      by_test Stays (not (is_inside state.position.grid cell)) (Err (refusals.Grid grids.OutOfGrid)) (if is_block state.position.grid cell then Err (refusals.Grid grids.OnBlock) else shown state lines) (refused_not Stays (refusals.Grid grids.OutOfGrid))
-      (λ _ e. by_test Stays (is_block state.position.grid cell) (Err (refusals.Grid grids.OnBlock)) (shown state lines) (refused_not Stays (refusals.Grid grids.OnBlock)) (λ _ e. when_shown lines e) e) e
+      by_test Stays (not (is_inside state.engine.grid cell)) (Err (refusals.Grid grids.OutOfGrid)) (if is_block state.engine.grid cell then Err (refusals.Grid grids.OnBlock) else shown state lines) (refused_not Stays (refusals.Grid grids.OutOfGrid))
+      (λ _ e. by_test Stays (is_block state.engine.grid cell) (Err (refusals.Grid grids.OnBlock)) (shown state lines) (refused_not Stays (refusals.Grid grids.OnBlock)) (λ _ e. when_shown lines e) e) e
 
   -- ---- searches
 
   abbrev Searched : Type 0
-  Searched = (reply.state ≡ state) ⊎ ((next : Position) × (reply.state ≡ record state { position = next }) × IsSearched state.position next)
+  Searched = (reply.state ≡ state) ⊎ ((next : EngineState) × (reply.state ≡ record state { engine = next }) × IsSearched state.engine next)
 
-  by_fill : (past there : Bool) (limit filled none : List ℕ) → found (position_of state.position) ≡ there
-      → (if past then shown state limit else if there then Ok (record { lines = filled; state = record state { position = filled_in state.position (end (position_of state.position)).board.entries } }) else shown state none) ≡ Ok reply → Searched
+  by_fill : (past there : Bool) (limit filled none : List ℕ) → found (position_of state.engine) ≡ there
+      → (if past then shown state limit else if there then Ok (record { lines = filled; state = record state { engine = filled_in state.engine (end (position_of state.engine)).board.entries } }) else shown state none) ≡ Ok reply → Searched
   by_fill true there limit filled none is_found e = inl (when_shown limit e)
   by_fill false true limit filled none is_found e =
-      let next = filled_in state.position (end (position_of state.position)).board.entries in
-      inr (next, sym (ok_state (record { lines = filled; state = record state { position = next } }) reply e), end_is_fill state.position is is_found)
+      let next = filled_in state.engine (end (position_of state.engine)).board.entries in
+      inr (next, sym (ok_state (record { lines = filled; state = record state { engine = next } }) reply e), end_is_fill state.engine is is_found)
   by_fill false false limit filled none is_found e = inl (when_shown none e)
 
-  by_end : (named : ℕ → Bool) (filling : Filling) (position : Position) → reply.state ≡ record state { position = position } → IsAutofilled named state.position position filling → Searched
-  by_end named fillings.Filled position told (entries, fill, same) = inr (position, told, record { entries = entries; letters = fill.letters; kept = fill.kept; is = same })
-  by_end named fillings.NoFill position told (none, same) = inl (told ∙ ap (λ (p : Position). record state { position = p }) same)
-  by_end named fillings.Limit position told same = inl (told ∙ ap (λ (p : Position). record state { position = p }) same)
+  by_end : (named : ℕ → Bool) (filling : Filling) (engine : EngineState) → reply.state ≡ record state { engine = engine } → IsAutofilled named state.engine engine filling → Searched
+  by_end named fillings.Filled engine told (entries, fill, same) = inr (engine, told, record { entries = entries; letters = fill.letters; kept = fill.kept; is = same })
+  by_end named fillings.NoFill engine told (none, same) = inl (told ∙ ap (λ (p : EngineState). record state { engine = p }) same)
+  by_end named fillings.Limit engine told same = inl (told ∙ ap (λ (p : EngineState). record state { engine = p }) same)
 
-  by_best : (named : ℕ → Bool) (best : Best) (position : Position) → reply.state ≡ record state { position = position } → IsBest named state.position position best → Searched
-  by_best named (bests.Filled least bound) position told (filled, proved) = inr (position, told, record { entries = filled.entries; letters = filled.fill.letters; kept = filled.fill.kept; is = filled.holds })
-  by_best named bests.NoFill position told (none, same) = inl (told ∙ ap (λ (p : Position). record state { position = p }) same)
-  by_best named (bests.Limit bound) position told (above, proved, same) = inl (told ∙ ap (λ (p : Position). record state { position = p }) same)
+  by_best : (named : ℕ → Bool) (best : Best) (engine : EngineState) → reply.state ≡ record state { engine = engine } → IsBest named state.engine engine best → Searched
+  by_best named (bests.Filled least bound) engine told (filled, proved) = inr (engine, told, record { entries = filled.entries; letters = filled.fill.letters; kept = filled.fill.kept; is = filled.holds })
+  by_best named bests.NoFill engine told (none, same) = inl (told ∙ ap (λ (p : EngineState). record state { engine = p }) same)
+  by_best named (bests.Limit bound) engine told (above, proved, same) = inl (told ∙ ap (λ (p : EngineState). record state { engine = p }) same)
 
   -- ---- all commands
 
   pub effected : (command : Command) → IsDue state command (Ok reply) → HasEffect (kind_of command) state command reply
-  effected (commands.Size width height) e = e
-  effected (commands.Symmetry kind) e = e
-  effected (commands.Add word grade) e = e
-  effected (commands.Strike word) e = e
-  effected (commands.Least grade) e = e
-  effected (commands.Match pattern) e = of_words (matching_answer state.position.words pattern) e
-  effected (commands.Set at letter) e = e
-  effected (commands.Clear at) e = e
-  effected (commands.Place named word) e = e
-  effected (commands.Erase named) e = e
-  effected (commands.Block at) e = e
-  effected (commands.Bar at side) e = e
-  effected (commands.Clue named text) e = e
-  effected (commands.Write field text) e = e
-  effected (commands.Circle at) e = e
-  effected commands.Circles e = when_shown (circle_lines state.position.grid state.circles) e
-  effected commands.Show e = when_shown (show_lines state.position.grid) e
-  effected commands.Lights e = when_shown (light_lines state.position.grid) e
-  effected (commands.Words named most) e = of_light (index_named (lights_of state.position.grid) (name_of_light named)) most e
-  effected (commands.Choices named most first) e = of_choices (index_named (lights_of state.position.grid) (name_of_light named)) most first e
-  effected (commands.Letters at) e = of_cell (cell_of at) (letters_line (feasible_letters (position_of state.position) (index_of state.position.grid (cell_of at)))) e
-  effected (commands.Tally at) e = of_cell (cell_of at) (tally_lines state.position (cell_of at)) e
-  effected commands.Duplicates e = when_shown (flat_map (duplicate_line state.position.grid) (duplicates_of state.position)) e
-  effected commands.Unlisted e = when_shown (flat_map (spelled_line state.position.grid) (unlisted_of state.position)) e
+  effected (commands.Size width height) e = ap Some e
+  effected (commands.Symmetry kind) e = ap Some e
+  effected (commands.Add word grade) e = ap Some e
+  effected (commands.Strike word) e = ap Some e
+  effected (commands.Least grade) e = ap Some e
+  effected (commands.Match pattern) e = of_words (matching_answer state.engine.words pattern) e
+  effected (commands.Set at letter) e = ap Some e
+  effected (commands.Clear at) e = ap Some e
+  effected (commands.Place named word) e = ap Some e
+  effected (commands.Erase named) e = ap Some e
+  effected (commands.Block at) e = ap Some e
+  effected (commands.Bar at side) e = ap Some e
+  effected (commands.Clue named text) e = ap Some e
+  effected (commands.Write field text) e = ap Some e
+  effected (commands.Circle at) e = ap Some e
+  effected commands.Circles e = when_shown (circle_lines state.engine.grid state.circles) e
+  effected commands.Show e = when_shown (show_lines state.engine.grid) e
+  effected commands.Lights e = when_shown (light_lines state.engine.grid) e
+  effected (commands.Words named most) e = of_light (index_named (lights_of state.engine.grid) (name_of_light named)) most e
+  effected (commands.Choices named most first) e = of_choices (index_named (lights_of state.engine.grid) (name_of_light named)) most first e
+  effected (commands.Letters at) e = of_cell (cell_of at) (letters_line (feasible_letters (position_of state.engine) (index_of state.engine.grid (cell_of at)))) e
+  effected (commands.Tally at) e = of_cell (cell_of at) (tally_lines state.engine (cell_of at)) e
+  effected commands.Duplicates e = when_shown (flat_map (duplicate_line state.engine.grid) (duplicates_of state.engine)) e
+  effected commands.Unlisted e = when_shown (flat_map (spelled_line state.engine.grid) (unlisted_of state.engine)) e
   effected (commands.Grades lights) e = of_grades (map name_of_light lights) e
-  effected commands.Unmatched e = when_shown (unmatched_lines state.position) e
-  effected commands.Suggest e = when_shown (suggestion_line state.position (suggestion state.position)) e
+  effected commands.Unmatched e = when_shown (unmatched_lines state.engine) e
+  effected commands.Suggest e = when_shown (suggestion_line state.engine (suggestion state.engine)) e
   effected (commands.Why named) e = ap (λ (reply : Reply). reply.state) e.is
   effected (commands.Fill limit) e =
-      by_fill (nat_lt limit (due (position_of state.position))) (found (position_of state.position)) (word_line (filling_name fillings.Limit)) (word_line (filling_name fillings.Filled)) (word_line (filling_name fillings.NoFill)) refl e
-  effected (commands.Autofill limit seed lights) e = by_end (is_named state.position (names_of lights)) e.filling e.position (ap (λ (reply : Reply). reply.state) e.is) e.done
-  effected (commands.Best limit seed lights) e = by_best (is_named state.position (names_of lights)) e.best e.position (ap (λ (reply : Reply). reply.state) e.is) e.done
-  effected (commands.Watch is_on) e = e
+      by_fill (nat_lt limit (due (position_of state.engine))) (found (position_of state.engine)) (word_line (filling_name fillings.Limit)) (word_line (filling_name fillings.Filled)) (word_line (filling_name fillings.NoFill)) refl e
+  effected (commands.Autofill limit seed lights) e = by_end (is_named state.engine (names_of lights)) e.filling e.engine (ap (λ (reply : Reply). reply.state) e.is) e.done
+  effected (commands.Best limit seed lights) e = by_best (is_named state.engine (names_of lights)) e.best e.engine (ap (λ (reply : Reply). reply.state) e.is) e.done
+  effected (commands.Watch is_on) e = ap Some e
   effected (commands.Tell telling) e = when_shown (told_lines state telling) e
-  effected (commands.Put putting field spelling) e = e
+  effected (commands.Put putting field spelling) e = ap Some e
 
   -- ---- the grid after a reply
 
   abbrev Good : Type 0
-  Good = IsGrid reply.state.position.grid
+  Good = IsGrid reply.state.engine.grid
 
-  good_at : (one : Reply) → ◌≡◌ {A = Result Reply Refusal} (Ok one) (Ok reply) → IsGrid one.state.position.grid → Good
-  good_at one e good = subst (λ (s : State). IsGrid s.position.grid) (ok_state one reply e) good
+  good_at : (one : Reply) → ◌≡◌ {A = Result Reply Refusal} (Ok one) (Ok reply) → IsGrid one.state.engine.grid → Good
+  good_at one e good = subst (λ (s : State). IsGrid s.engine.grid) (ok_state one reply e) good
 
   good_quiet : Stays → Good
-  good_quiet same = subst (λ (s : State). IsGrid s.position.grid) (sym same) is
+  good_quiet same = subst (λ (s : State). IsGrid s.engine.grid) (sym same) is
 
   good_searched : Searched → Good
   good_searched (inl same) = good_quiet same
   good_searched (inr (next, told, done)) =
-      let filled : IsGrid next.grid = subst (λ (p : Position). IsGrid p.grid) (sym done.is) (filled_good state.position done.entries is done.letters) in
-      subst (λ (s : State). IsGrid s.position.grid) (sym told) filled
+      let filled : IsGrid next.grid = subst (λ (p : EngineState). IsGrid p.grid) (sym done.is) (filled_good state.engine done.entries is done.letters) in
+      subst (λ (s : State). IsGrid s.engine.grid) (sym told) filled
 
-  good_edited : (next : State) → IsGrid next.position.grid → edited next ≡ Ok reply → Good
+  good_edited : (next : State) → IsGrid next.engine.grid → edited next ≡ Ok reply → Good
   good_edited next good e = good_at (record { lines = []; state = next }) e good
 
-  good_moved : (result : Result Position EditRefusal) → ((next : Position) → result ≡ Ok next → IsGrid next.grid) → moved state result ≡ Ok reply → Good
-  good_moved (Ok next) good e = good_at (record { lines = watch_lines state next; state = record state { position = next } }) e (good next refl)
+  good_moved : (result : Result EngineState EditRefusal) → ((next : EngineState) → result ≡ Ok next → IsGrid next.grid) → moved state result ≡ Ok reply → Good
+  good_moved (Ok next) good e = good_at (record { lines = watch_lines state next; state = record state { engine = next } }) e (good next refl)
   good_moved (Err refusal) good e = refused_not Good (refusal_of refusal) e
 
   good_letter : (at : CellArg) (letter : ℕ) (found : Option ℕ) → letter_of letter ≡ found → with_letter state at found ≡ Ok reply → Good
   good_letter at letter None is_found e = refused_not Good (refusals.Word (faults.BadLetter 1)) e
   good_letter at letter (Some capital) is_found e =
-      good_moved (after state.position (letter_set (cell_of at) capital)) (λ next. with_letter_good state.position next is (cell_of at) (Some capital) (letter_good letter capital is_found)) e
+      good_moved (after state.engine (letter_set (cell_of at) capital)) (λ next. with_letter_good state.engine next is (cell_of at) (Some capital) (letter_good letter capital is_found)) e
 
   good_erased : (light : Option Light) → erased state light ≡ Ok reply → Good
   good_erased None e = refused_not Good refusals.NoLight e
   good_erased (Some light) e =
-      good_moved (after state.position (list_written (emptied (erased_cells state.position light)))) (λ next. emptied_good state.position next is (erased_cells state.position light)) e
+      good_moved (after state.engine (list_written (emptied (erased_cells state.engine light)))) (λ next. emptied_good state.engine next is (erased_cells state.engine light)) e
 
   good_size : (result : Result Grid GridFault) → ((grid : Grid) → result ≡ Ok grid → IsGrid grid) → resized state result ≡ Ok reply → Good
   good_size (Ok grid) good e =
-      good_at (record { lines = []; state = record state { position = record { grid = grid; words = state.position.words }; clues = no_clues; circles = [] } }) e (good grid refl)
+      good_at (record { lines = []; state = record state { engine = record { grid = grid; words = state.engine.words }; clues = no_clues; circles = [] } }) e (good grid refl)
   good_size (Err fault) good e = refused_not Good (refusals.Grid fault) e
 
   good_clue : (light : Option Light) (text : List ℕ) → with_clue_of state light text ≡ Ok reply → Good
@@ -268,14 +268,14 @@ module _ (state : State) (is : IsGrid state.position.grid) (reply : Reply) where
   good_circle : (cell : Cell) → circle_toggled state cell ≡ Ok reply → Good
   good_circle cell e =
       let next : State = record state { circles = with_circle state.circles cell (not (is_circled state.circles cell)) } in
-      by_test Good (not (is_inside state.position.grid cell)) (Err (refusals.Grid grids.OutOfGrid)) (if not (is_open state.position.grid cell) then Err (refusals.Grid grids.OnBlock) else edited next) (refused_not Good (refusals.Grid grids.OutOfGrid))
-      (λ _. by_test Good (not (is_open state.position.grid cell)) (Err (refusals.Grid grids.OnBlock)) (edited next) (refused_not Good (refusals.Grid grids.OnBlock)) (λ _. good_edited next is)) e
+      by_test Good (not (is_inside state.engine.grid cell)) (Err (refusals.Grid grids.OutOfGrid)) (if not (is_open state.engine.grid cell) then Err (refusals.Grid grids.OnBlock) else edited next) (refused_not Good (refusals.Grid grids.OutOfGrid))
+      (λ _. by_test Good (not (is_open state.engine.grid cell)) (Err (refusals.Grid grids.OnBlock)) (edited next) (refused_not Good (refusals.Grid grids.OnBlock)) (λ _. good_edited next is)) e
 
-  good_target : (target : Target) (text : List ℕ) → IsGrid (with_text_at state target text).position.grid
+  good_target : (target : Target) (text : List ℕ) → IsGrid (with_text_at state target text).engine.grid
   good_target (targets.Text name) text = is
   good_target (targets.Clue cell direction) text = is
 
-  good_piece : (putting : TextMode) (target : Target) (text : List ℕ) → IsGrid (with_piece state putting target text).position.grid
+  good_piece : (putting : TextMode) (target : Target) (text : List ℕ) → IsGrid (with_piece state putting target text).engine.grid
   good_piece Instead target text = good_target target text
   good_piece Behind target [] = is
   good_piece Behind target (byte ∷ bytes) = good_target target (text_at state target ++ byte ∷ bytes)
@@ -284,7 +284,7 @@ module _ (state : State) (is : IsGrid state.position.grid) (reply : Reply) where
   good_put putting field None e = refused_not Good refusals.Escape e
   good_put putting field (Some text) e =
       let next : Result Reply Refusal = edited (with_piece state putting (target_of field) text) in
-      by_test Good (not (has_target state.position.grid (target_of field))) (Err (refusals.Grid grids.OutOfGrid)) (if has_nul text then Err refusals.NulByte else next) (refused_not Good (refusals.Grid grids.OutOfGrid))
+      by_test Good (not (has_target state.engine.grid (target_of field))) (Err (refusals.Grid grids.OutOfGrid)) (if has_nul text then Err refusals.NulByte else next) (refused_not Good (refusals.Grid grids.OutOfGrid))
       (λ _. by_test Good (has_nul text) (Err refusals.NulByte) next (refused_not Good refusals.NulByte) (λ _. good_edited (with_piece state putting (target_of field) text) (good_piece putting (target_of field) text))) e
 
   size_good : (width height : ℕ) (grid : Grid) → new_grid width height ≡ Ok grid → IsGrid grid
@@ -297,19 +297,19 @@ module _ (state : State) (is : IsGrid state.position.grid) (reply : Reply) where
   -- the grid stays a grid
   pub grid_left : (command : Command) → IsDue state command (Ok reply) → Good
   grid_left (commands.Size width height) e = good_size (new_grid width height) (size_good width height) e
-  grid_left (commands.Symmetry kind) e = good_moved (after state.position (symmetry_chosen kind)) (λ next. with_symmetry_good state.position next is kind) e
-  grid_left (commands.Add word grade) e = good_moved (after state.position (word_added word grade)) (λ next. with_words_good state.position next is _) e
-  grid_left (commands.Strike word) e = good_moved (after state.position (word_struck word)) (λ next. with_words_good state.position next is _) e
-  grid_left (commands.Least grade) e = good_moved (after state.position (least_chosen grade)) (λ next. with_words_good state.position next is (Ok (with_least grade state.position.words))) e
+  grid_left (commands.Symmetry kind) e = good_moved (after state.engine (symmetry_chosen kind)) (λ next. with_symmetry_good state.engine next is kind) e
+  grid_left (commands.Add word grade) e = good_moved (after state.engine (word_added word grade)) (λ next. with_words_good state.engine next is _) e
+  grid_left (commands.Strike word) e = good_moved (after state.engine (word_struck word)) (λ next. with_words_good state.engine next is _) e
+  grid_left (commands.Least grade) e = good_moved (after state.engine (least_chosen grade)) (λ next. with_words_good state.engine next is (Ok (with_least grade state.engine.words))) e
   grid_left (commands.Match pattern) e = good_quiet (effected (commands.Match pattern) e)
   grid_left (commands.Set at letter) e = good_letter at letter (letter_of letter) refl e
-  grid_left (commands.Clear at) e = good_moved (after state.position (cell_cleared (cell_of at))) (λ next. with_letter_good state.position next is (cell_of at) None tt) e
+  grid_left (commands.Clear at) e = good_moved (after state.engine (cell_cleared (cell_of at))) (λ next. with_letter_good state.engine next is (cell_of at) None tt) e
   grid_left (commands.Place named word) e =
-      good_moved (after state.position (word_placed (name_of_light named) word)) (λ next. with_word_good state.position next is (index_named (lights_of state.position.grid) (name_of_light named)) word) e
-  grid_left (commands.Erase named) e = good_erased (light_named state.position.grid named) e
-  grid_left (commands.Block at) e = good_moved (after state.position (block_toggled (cell_of at))) (λ next. with_orbit_good state.position next is (cell_of at)) e
-  grid_left (commands.Bar at side) e = good_moved (after state.position (bar_toggled (cell_of at) side)) (λ next. with_bar_good state.position next is (cell_of at) side) e
-  grid_left (commands.Clue named text) e = good_clue (light_named state.position.grid named) text e
+      good_moved (after state.engine (word_placed (name_of_light named) word)) (λ next. with_word_good state.engine next is (index_named (lights_of state.engine.grid) (name_of_light named)) word) e
+  grid_left (commands.Erase named) e = good_erased (light_named state.engine.grid named) e
+  grid_left (commands.Block at) e = good_moved (after state.engine (block_toggled (cell_of at))) (λ next. with_orbit_good state.engine next is (cell_of at)) e
+  grid_left (commands.Bar at side) e = good_moved (after state.engine (bar_toggled (cell_of at) side)) (λ next. with_bar_good state.engine next is (cell_of at) side) e
+  grid_left (commands.Clue named text) e = good_clue (light_named state.engine.grid named) text e
   grid_left (commands.Write field text) e = good_text field text e
   grid_left (commands.Circle at) e = good_circle (cell_of at) e
   grid_left commands.Circles e = good_quiet (effected commands.Circles e)

@@ -18,7 +18,8 @@ use Rattle.xw_grid.specs.declared.cell.Symmetry.TheVariants as kinds
 use Rattle.xw_text.proofs.Position.{position_is_some, position_is_none}
 use Rattle.xw_commands.specs.declared.command.SyntaxFault.{SyntaxFault}
 use Rattle.xw_commands.specs.declared.command.SyntaxFault.TheVariants as faults
-use Rattle.xw_commands.specs.Line.{is_blank, is_ink, is_digit, number_in, grade_in, byte_in, first_index, trimmed_start, parted, first_word}
+use Rattle.xw_text.specs.Digits.{is_digit}
+use Rattle.xw_commands.specs.Line.{is_blank, is_ink, number_in, grade_in, byte_in, first_index, trimmed_start, parted, first_word}
 use Rattle.xw_commands.specs.declared.command.CellArg.{CellArg}
 use Rattle.xw_commands.specs.Reading.{Reading, ◌>>=◌, given, wanted, is_ended, word, number, grade, grade_if_any, byte, lookup, key_word, direction, side, symmetry, switch, spot}
 use Rattle.xw_commands.specs.Names.{direction_name, side_name, symmetry_name, switch_name, directions, sides, symmetries, switches}

@@ -34,19 +34,19 @@ use Rattle.xw_session_laws.proofs.CluesAgain.{with_clues, clues_again}
 section_then : (state mid : State) (front rest : List Command) (last : Option State) → replayed state front ≡ Some mid → replayed mid rest ≡ last → replayed state (front ++ rest) ≡ last
 section_then state mid front rest last e f = replayed_both state front rest ∙ ap (option_and_then (λ mid. replayed mid rest)) e ∙ f
 
-module _ (words : Dictionary) (made state : State) (is : BeganWith words made) (begins : state.position.words ≡ words) where
+module _ (words : Dictionary) (made state : State) (is : BeganWith words made) (begins : state.engine.words ≡ words) where
   abbrev grid : Grid
-  grid = made.position.grid
+  grid = made.engine.grid
 
   abbrev free : List Square
   free = replicate (grid.width * grid.height) (Open None)
 
   -- the states after the sections
   abbrev worded : State
-  worded = with_words state made.position.words
+  worded = with_words state made.engine.words
 
   abbrev sized : State
-  sized = record worded { position = record { grid = blank grid.width grid.height; words = made.position.words }; clues = no_clues; circles = [] }
+  sized = record worded { engine = record { grid = blank grid.width grid.height; words = made.engine.words }; clues = no_clues; circles = [] }
 
   abbrev circled : State
   circled = record sized { circles = made.circles }
@@ -90,8 +90,8 @@ module _ (words : Dictionary) (made state : State) (is : BeganWith words made) (
 
   words_done : replayed state (section_commands made sections.Words) ≡ Some worded
   words_done =
-      ap (λ counts. replayed state (word_commands counts made.position.words)) is.begun
-      ∙ words_again state words made.position.words is.dictionary is.known.lengths is.least begins is.first
+      ap (λ counts. replayed state (word_commands counts made.engine.words)) is.begun
+      ∙ words_again state words made.engine.words is.dictionary is.known.lengths is.least begins is.first
 
   circles_done : replayed sized (section_commands made (sections.Cells parts.Circles)) ≡ Some circled
   circles_done = circles_again sized grid is.grid made.circles made.clues ∙ ap (λ circles. Some (record sized { circles = circles })) (all_circles grid made.circles is.circles)

@@ -31,7 +31,7 @@ use Rattle.xw_session.specs.Put.{text_of_field}
 use Rattle.xw_session.specs.Reply.{reply_to}
 use Rattle.xw_answers.specs.Record.{spot_of, piece_at, further_pieces, more_command, text_commands, add_command, regrade_commands, strike_commands, row_commands, length_commands, least_commands, letter_commands, clue_commands, cell_commands, part_commands, command_lines}
 use Rattle.xw_session.specs.Record.{section_commands, record_sections, record_commands, record_lines}
-use Rattle.xw_session_laws.specs.Replay.{state_left, replayed, left_by_line, replayed_lines, BeganWith}
+use Rattle.xw_session_laws.specs.Replay.{left_by, replayed, left_by_line, replayed_lines, BeganWith}
 use Rattle.xw_lines.proofs.Cuts.{cut-with_lfs}
 use Rattle.xw_answers.proofs.LightTexts.{cell_in_order}
 use Rattle.xw_session_laws.proofs.CellsAgain.{square_is}
@@ -165,11 +165,11 @@ module _ (grid : Grid) (is : IsGrid grid) (clues : ClueMap) (circles : List Cell
 
 section_recorded : (words : Dictionary) (made : State) → BeganWith words made → (section : Section) → AreRecorded (section_commands made section)
 section_recorded words made is sections.Words =
-    let least = made.position.words.least in
-    both_recorded (flat_map (length_commands made.begun made.position.words) (range_with_len 0 256)) (least_commands least)
-    (words_recorded made.begun made.position.words is.dictionary 256 (omega arith)) (least_recorded least (least == 0) is.dictionary.least)
+    let least = made.engine.words.least in
+    both_recorded (flat_map (length_commands made.begun made.engine.words) (range_with_len 0 256)) (least_commands least)
+    (words_recorded made.begun made.engine.words is.dictionary 256 (omega arith)) (least_recorded least (least == 0) is.dictionary.least)
 section_recorded words made is sections.Size = ((is.grid.wide.1, is.grid.high.1), tt)
-section_recorded words made is (sections.Cells part) = part_recorded made.position.grid is.grid made.clues made.circles part
+section_recorded words made is (sections.Cells part) = part_recorded made.engine.grid is.grid made.clues made.circles part
 section_recorded words made is sections.Symmetry = (tt, tt)
 section_recorded words made is (sections.Text name) = text_recorded (fields.Text name) (text_of_field made.texts name) tt
 section_recorded words made is sections.Watch = (tt, tt)
@@ -212,7 +212,7 @@ pub replayed_as_read : (state : State) (commands : List Command) → AreRecorded
 replayed_as_read state [] are = refl
 replayed_as_read state (command ∷ commands) are =
     ap (λ found. option_and_then (λ next. replayed_lines next (map line_without_lf commands)) (left_by_line state found)) (read_again command are.0).2
-    ∙ next_the_same (state_left (reply_to state command)) (λ next. replayed_lines next (map line_without_lf commands)) (λ next. replayed next commands) (λ next. replayed_as_read next commands are.1)
+    ∙ next_the_same (left_by (reply_to state command)) (λ next. replayed_lines next (map line_without_lf commands)) (λ next. replayed next commands) (λ next. replayed_as_read next commands are.1)
 
 module _ (words : Dictionary) (made : State) (is : BeganWith words made) where
   -- each line of a record parses as its command

@@ -42,7 +42,7 @@ use Rattle.xw_session.specs.Put.{target_of, has_target, with_text_at, with_piece
 use Rattle.xw_session.specs.Reply.{put, reply_to, resized, moved}
 use Rattle.xw_answers.specs.Record.{piece_at, further_pieces, more_command, text_commands}
 use Rattle.xw_session.specs.Record.{section_commands}
-use Rattle.xw_session_laws.specs.Replay.{state_left, replayed}
+use Rattle.xw_session_laws.specs.Replay.{state_left, left_by, replayed}
 use Rattle.xw_answers.proofs.Escapes.{reads_back}
 use Rattle.xw_session.proofs.TextMode.{last_of_three}
 
@@ -57,9 +57,9 @@ one_and_others (Some next) front rest others = others next
 -- commands after other commands
 pub replayed_both : (state : State) (front rest : List Command) → replayed state (front ++ rest) ≡ option_and_then (λ mid. replayed mid rest) (replayed state front)
 replayed_both state [] rest = refl
-replayed_both state (command ∷ front) rest = one_and_others (state_left (reply_to state command)) front rest (λ next. replayed_both next front rest)
+replayed_both state (command ∷ front) rest = one_and_others (left_by (reply_to state command)) front rest (λ next. replayed_both next front rest)
 
-pub next_done : (state next : State) (command : Command) (commands : List Command) → state_left (reply_to state command) ≡ Some next → replayed state (command ∷ commands) ≡ replayed next commands
+pub next_done : (state next : State) (command : Command) (commands : List Command) → left_by (reply_to state command) ≡ Some next → replayed state (command ∷ commands) ≡ replayed next commands
 next_done state next command commands e = ap (option_and_then (λ next. replayed next commands)) e
 
 -- ---- texts
@@ -75,11 +75,11 @@ nul_parts text n none =
 plain_piece : (text : List ℕ) (before : ℕ) → has_nul text ≡ false → has_nul (piece_at text before) ≡ false
 plain_piece text before none = (nul_parts (drop (2000 * before) text) 2000 (nul_parts text (2000 * before) none).1).0
 
-put_again : (state : State) (putting : TextMode) (field : Field) (piece : List ℕ) → has_target state.position.grid (target_of field) ≡ true → has_nul piece ≡ false
-    → state_left (reply_to state (Put putting field (escaped_text piece))) ≡ Some (with_piece state putting (target_of field) piece)
+put_again : (state : State) (putting : TextMode) (field : Field) (piece : List ℕ) → has_target state.engine.grid (target_of field) ≡ true → has_nul piece ≡ false
+    → left_by (reply_to state (Put putting field (escaped_text piece))) ≡ Some (with_piece state putting (target_of field) piece)
 put_again state putting field piece targeted plain =
     ap (λ found. state_left (put state putting field found)) (reads_back piece)
-    ∙ ap state_left (last_of_three (has_target state.position.grid (target_of field)) (has_nul piece) _ _ _ targeted plain)
+    ∙ ap state_left (last_of_three (has_target state.engine.grid (target_of field)) (has_nul piece) _ _ _ targeted plain)
 
 -- the first bytes of a text, with one more piece
 one_piece_more : (text : List ℕ) (k : ℕ) → take (2000 * (k + 1)) text ++ piece_at text (k + 1) ≡ take (2000 * (k + 1 + 1)) text
@@ -89,7 +89,7 @@ one_piece_more text k =
 
 -- a text in a field that grows by appended pieces
 module _ (state : State) (field : Field) (text : List ℕ) (plain : has_nul text ≡ false)
-    (targeted : (front : List ℕ) → has_target (with_text_at state (target_of field) front).position.grid (target_of field) ≡ true)
+    (targeted : (front : List ℕ) → has_target (with_text_at state (target_of field) front).engine.grid (target_of field) ≡ true)
     (behind : (front piece : List ℕ) → 0 < length front → with_piece (with_text_at state (target_of field) front) Behind (target_of field) piece ≡ with_text_at state (target_of field) (front ++ piece)) where
   further_again : (k n : ℕ) → 0 < length text
       → replayed (with_text_at state (target_of field) (take (2000 * (k + 1)) text)) (map (more_command field text) (range_with_len k n))
@@ -159,11 +159,11 @@ grown state (targets.Clue cell direction) front (byte ∷ bytes) some =
     ap (λ text. set (with_clue (with_clue state.clues cell direction front) cell direction (text ++ byte ∷ bytes))) (kept_at state.clues cell direction front)
     ∙ ap set (set_twice state.clues cell direction front (front ++ byte ∷ bytes) some (omega (arith, some, length-append front (byte ∷ bytes))))
 
-still_targeted : (state : State) (target : Target) (front : List ℕ) → has_target state.position.grid target ≡ true → has_target (with_text_at state target front).position.grid target ≡ true
+still_targeted : (state : State) (target : Target) (front : List ℕ) → has_target state.engine.grid target ≡ true → has_target (with_text_at state target front).engine.grid target ≡ true
 still_targeted state (targets.Text name) front targeted = refl
 still_targeted state (targets.Clue cell direction) front targeted = targeted
 
-pub text_again : (state : State) (field : Field) (text : List ℕ) → has_target state.position.grid (target_of field) ≡ true → has_nul text ≡ false
+pub text_again : (state : State) (field : Field) (text : List ℕ) → has_target state.engine.grid (target_of field) ≡ true → has_nul text ≡ false
     → replayed state (text_commands field text) ≡ Some (with_text_at state (target_of field) text)
 text_again state field [] targeted plain = next_done state (with_text_at state (target_of field) []) (Put Instead field []) [] (put_again state Instead field [] targeted refl)
 text_again state field (byte ∷ bytes) targeted plain =
@@ -175,32 +175,32 @@ text_again state field (byte ∷ bytes) targeted plain =
 -- ---- size, symmetry and watch
 
 sized : (state : State) (grid : Grid) (a b c d : Bool) → a ≡ true → b ≡ true → c ≡ true → d ≡ true
-    → state_left (resized state (if (a && b) && (c && d) then Ok grid else Err Size)) ≡ Some (record state { position = record { grid = grid; words = state.position.words }; clues = no_clues; circles = [] })
+    → state_left (resized state (if (a && b) && (c && d) then Ok grid else Err Size)) ≡ Some (record state { engine = record { grid = grid; words = state.engine.words }; clues = no_clues; circles = [] })
 sized state grid true true true true p q r s = refl
 sized state grid true true true false p q r s = cc
 sized state grid true true false d p q r s = cc
 sized state grid true false c d p q r s = cc
 sized state grid false b c d p q r s = cc
 
-only : (state next : State) (command : Command) → state_left (reply_to state command) ≡ Some next → replayed state (command ∷ []) ≡ Some next
+only : (state next : State) (command : Command) → left_by (reply_to state command) ≡ Some next → replayed state (command ∷ []) ≡ Some next
 only state next command e = next_done state next command [] e
 
-pub size_again : (state made : State) → IsGrid made.position.grid → replayed state (section_commands made sections.Size)
-    ≡ Some (record state { position = record { grid = blank made.position.grid.width made.position.grid.height; words = state.position.words }; clues = no_clues; circles = [] })
+pub size_again : (state made : State) → IsGrid made.engine.grid → replayed state (section_commands made sections.Size)
+    ≡ Some (record state { engine = record { grid = blank made.engine.grid.width made.engine.grid.height; words = state.engine.words }; clues = no_clues; circles = [] })
 size_again state made is =
-    let grid = made.position.grid in
+    let grid = made.engine.grid in
     only state _ (commands.Size grid.width grid.height) (sized state (blank grid.width grid.height) (nat_le 1 grid.width) (nat_le grid.width 255) (nat_le 1 grid.height) (nat_le grid.height 255)
     (le-leb 1 grid.width is.wide.0) (le-leb grid.width 255 is.wide.1) (le-leb 1 grid.height is.high.0) (le-leb grid.height 255 is.high.1))
 
-turned : (state : State) (test : Bool) (grid : Grid) → test ≡ true → state_left (moved state (with_grid state.position (by_fault (if not test then Err NotSquare else Ok grid)))) ≡ Some (record state { position = record state.position { grid = grid } })
+turned : (state : State) (test : Bool) (grid : Grid) → test ≡ true → state_left (moved state (with_grid state.engine (by_fault (if not test then Err NotSquare else Ok grid)))) ≡ Some (record state { engine = record state.engine { grid = grid } })
 turned state true grid e = refl
 turned state false grid e = cc
 
-pub symmetry_again : (state : State) (kind : Symmetry) → (kind ≡ kinds.Quarter → state.position.grid.width ≡ state.position.grid.height)
-    → replayed state (commands.Symmetry kind ∷ []) ≡ Some (record state { position = record state.position { grid = record state.position.grid { symmetry = kind } } })
+pub symmetry_again : (state : State) (kind : Symmetry) → (kind ≡ kinds.Quarter → state.engine.grid.width ≡ state.engine.grid.height)
+    → replayed state (commands.Symmetry kind ∷ []) ≡ Some (record state { engine = record state.engine { grid = record state.engine.grid { symmetry = kind } } })
 symmetry_again state kinds.None square = refl
 symmetry_again state kinds.Half square = refl
 symmetry_again state kinds.LeftRight square = refl
 symmetry_again state kinds.UpDown square = refl
 symmetry_again state kinds.Quarter square =
-    only state _ (commands.Symmetry kinds.Quarter) (turned state (eqb state.position.grid.width state.position.grid.height) (record state.position.grid { symmetry = kinds.Quarter }) (eq-eqb state.position.grid.width state.position.grid.height (square refl)))
+    only state _ (commands.Symmetry kinds.Quarter) (turned state (eqb state.engine.grid.width state.engine.grid.height) (record state.engine.grid { symmetry = kinds.Quarter }) (eq-eqb state.engine.grid.width state.engine.grid.height (square refl)))

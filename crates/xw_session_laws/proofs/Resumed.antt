@@ -30,7 +30,7 @@ use Rattle.xw_words.specs.declared.bank.Added.TheVariants.{New, Returned}
 use Rattle.xw_session.specs.Resuming.{AreDone, IsDone, command_fault, count, is_memory, line_fault, parsed_fault, told_of}
 use Rattle.xw_session.specs.State.{State, cell_of}
 use Rattle.xw_answers.specs.Text.{refused}
-use Rattle.xw_session_laws.specs.Replay.{left_by_line, replayed_lines, state_left, WantsMemory}
+use Rattle.xw_session_laws.specs.Replay.{left_by_line, replayed_lines, state_left, left_by, WantsMemory}
 use Rattle.xw_session_laws.specs.Resumed.{LinesAreResumed}
 use Rattle.xw_session_laws.proofs.AnsweredAgain.{some_left, both_replayed, line_left, line_wants}
 
@@ -45,7 +45,7 @@ tells : (refusal : Refusal) → tells_memory (refused refusal) ≡ is_memory ref
 tells (refusals.Syntax syntax.LineTooLong) = refl
 tells (refusals.Syntax syntax.Command) = refl
 tells (refusals.Syntax syntax.Arguments) = refl
-tells (refusals.Word (words.BadLetter position)) = refl
+tells (refusals.Word (words.BadLetter engine)) = refl
 tells (refusals.Word words.Length) = refl
 tells (refusals.Word words.Known) = refl
 tells (refusals.Word words.Full) = refl
@@ -95,7 +95,7 @@ word_wanted (Err fault) refusal e = cc
 wanted : (state : State) (command : Command) (refusal : Refusal) → want_of state command ≡ Some refusal → is_memory refusal ≡ true
 wanted state (commands.Size width height) refusal e = grid_wanted refusal e
 wanted state (commands.Symmetry kind) refusal e = cc
-wanted state (commands.Add word grade) refusal e = word_wanted (add_answer state.position.words word) refusal e
+wanted state (commands.Add word grade) refusal e = word_wanted (add_answer state.engine.words word) refusal e
 wanted state (commands.Strike word) refusal e = cc
 wanted state (commands.Least grade) refusal e = cc
 wanted state (commands.Match pattern) refusal e = cc
@@ -139,7 +139,7 @@ spelled_fault : (state next : State) (putting : TextMode) (field : Field) (text 
 spelled_fault state next putting field None e = cc
 spelled_fault state next putting field (Some text) e = refl
 
-no_command_fault : (state next : State) (command : Command) → state_left (reply_to state command) ≡ Some next → command_fault (Some command) ≡ None
+no_command_fault : (state next : State) (command : Command) → left_by (reply_to state command) ≡ Some next → command_fault (Some command) ≡ None
 no_command_fault state next (commands.Put putting field spelling) e = spelled_fault state next putting field (text_spelled spelling) e
 no_command_fault state next command e = refl
 

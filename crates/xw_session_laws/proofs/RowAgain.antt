@@ -16,7 +16,7 @@ use Rattle.xw_commands.specs.declared.command.Command.TheVariants.{Add, Strike}
 use Rattle.xw_session.specs.State.{State}
 use Rattle.xw_session.specs.Reply.{reply_to}
 use Rattle.xw_answers.specs.Record.{named_grade, add_command, regrade_commands, strike_commands, row_commands}
-use Rattle.xw_session_laws.specs.Replay.{state_left, replayed, with_words, fresh, IsSince, ComeFirst}
+use Rattle.xw_session_laws.specs.Replay.{left_by, replayed, with_words, fresh, IsSince, ComeFirst}
 use Rattle.xw_session_laws.proofs.Replaying.{replayed_both, next_done}
 use Rattle.xw_session_laws.proofs.CellsAgain.{mixed, mixed_more, mixed_next, mixed_same, mixed_all, length-mixed}
 use Rattle.xw_session_laws.proofs.WordAgain.{each_item_again, one_each, IsItself, word_itself, unlike, added_again, returned_again, struck_again}
@@ -70,12 +70,12 @@ mixed_at P xs ys j k d most here there =
 -- ---- the words of one length
 
 module _ (state : State) (count : ℕ) (entries : List Entry) (are : AreWords count entries) (several : 2 ≤ count) (short : count ≤ 255)
-    (long : length state.position.words.rows ≡ 256) (none_out : state.position.words.least ≡ 0) where
+    (long : length state.engine.words.rows ≡ 256) (none_out : state.engine.words.least ≡ 0) where
   abbrev with_these : List Entry → State
-  with_these es = with_words state (with_row state.position.words count es)
+  with_these es = with_words state (with_row state.engine.words count es)
 
-  row_is : (es : List Entry) → row (with_these es).position.words count ≡ es
-  row_is es = get_or-set_same state.position.words.rows count es [] (omega (arith, short, long))
+  row_is : (es : List Entry) → row (with_these es).engine.words count ≡ es
+  row_is es = get_or-set_same state.engine.words.rows count es [] (omega (arith, short, long))
 
   -- the words at the same places
   abbrev AreSame : List Entry → Type 0
@@ -101,29 +101,29 @@ module _ (state : State) (count : ℕ) (entries : List Entry) (are : AreWords co
         ((bytes_eq-Decides _ one.word).1 (same.1 k here))
 
     module _ (es : List Entry) where
-      at : row (with_these es).position.words (length one.word) ≡ es
-      at = ap (row (with_these es).position.words) size ∙ row_is es
+      at : row (with_these es).engine.words (length one.word) ≡ es
+      at = ap (row (with_these es).engine.words) size ∙ row_is es
 
       -- the state after these words changed again
-      changed : (next : List Entry) → with_words (with_these es) (with_row (with_these es).position.words (length one.word) next) ≡ with_these next
+      changed : (next : List Entry) → with_words (with_these es) (with_row (with_these es).engine.words (length one.word) next) ≡ with_these next
       changed next =
-          ap (λ m. with_words state (with_row (with_these es).position.words m next)) size
-          ∙ ap (λ rows. with_words state (record { rows = rows; least = state.position.words.least })) (set-set state.position.words.rows count es next)
+          ap (λ m. with_words state (with_row (with_these es).engine.words m next)) size
+          ∙ ap (λ rows. with_words state (record { rows = rows; least = state.engine.words.least })) (set-set state.engine.words.rows count es next)
 
-      add_new : index_in es one.word ≡ None → length es < most_words → state_left (reply_to (with_these es) (Add one.word (named_grade one.grade))) ≡ Some (with_these (es ++ fresh one.word one.grade ∷ []))
+      add_new : index_in es one.word ≡ None → length es < most_words → left_by (reply_to (with_these es) (Add one.word (named_grade one.grade))) ≡ Some (with_these (es ++ fresh one.word one.grade ∷ []))
       add_new new room =
           added_again (with_these es) one.word es itself at (named_grade one.grade) new room
           ∙ ap Some (changed _)
           ∙ ap (λ least. Some (with_these (es ++ new_entry least one.word (named_grade one.grade) ∷ []))) none_out
           ∙ ap (λ e. Some (with_these (es ++ e ∷ []))) (new_fresh one.word one.grade small)
 
-      add_back : AreSame es → (entry_at es k).active ≡ false → state_left (reply_to (with_these es) (Add one.word (Some one.grade))) ≡ Some (with_these (set es k (returned 0 (Some one.grade) (entry_at es k))))
+      add_back : AreSame es → (entry_at es k).active ≡ false → left_by (reply_to (with_these es) (Add one.word (Some one.grade))) ≡ Some (with_these (set es k (returned 0 (Some one.grade) (entry_at es k))))
       add_back same off =
           returned_again (with_these es) one.word es itself at (Some one.grade) k (its_index es same) off
           ∙ ap Some (changed _)
           ∙ ap (λ least. Some (with_these (set es k (returned least (Some one.grade) (entry_at es k))))) none_out
 
-      strike : AreSame es → (entry_at es k).struck ≡ false → state_left (reply_to (with_these es) (Strike one.word)) ≡ Some (with_these (with_struck es k))
+      strike : AreSame es → (entry_at es k).struck ≡ false → left_by (reply_to (with_these es) (Strike one.word)) ≡ Some (with_these (with_struck es k))
       strike same off = struck_again (with_these es) one.word es itself at k (its_index es same) off ∙ ap Some (changed _)
 
   -- ---- added
@@ -314,10 +314,10 @@ module _ (state : State) (count : ℕ) (entries : List Entry) (are : AreWords co
         ∙ ap (λ es. Some (with_these es)) (mixed_all settled all_eased (length entries) length-settled (sym (length-map entries (limited 0))))
 
     -- the words as they are, while no word is left out
-    pub row_again : row state.position.words count ≡ begun → replayed state (row_commands entries (length begun)) ≡ Some (with_these settled)
+    pub row_again : row state.engine.words count ≡ begun → replayed state (row_commands entries (length begun)) ≡ Some (with_these settled)
     row_again start =
         let begins : with_these begun ≡ state =
-        ap (λ es. with_these es) (sym start) ∙ ap (λ rows. with_words state (record { rows = rows; least = state.position.words.least })) (set-get_or state.position.words.rows count []) in
+        ap (λ es. with_these es) (sym start) ∙ ap (λ rows. with_words state (record { rows = rows; least = state.engine.words.least })) (set-get_or state.engine.words.rows count []) in
         ap (λ s. replayed s (row_commands entries n)) (sym begins)
         ∙ replayed_both (with_these begun) (map add_command later) (flat_map regrade_commands entries ++ flat_map strike_commands entries)
         ∙ ap (option_and_then (λ mid. replayed mid (flat_map regrade_commands entries ++ flat_map strike_commands entries))) all_added

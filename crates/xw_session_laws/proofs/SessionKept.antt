@@ -22,7 +22,7 @@ use Rattle.xw_grid.specs.Clue.{ClueMap, no_clues, with_clue, with_circle, is_cir
 use Rattle.xw_grid.specs.Light.{lights_of, no_light, index_named, cells_of}
 use Rattle.xw_grid.proofs.OrderLemmas.{lights_are_made, made_inside}
 use Rattle.xw_feas.specs.declared.edit.Refusal.{Refusal as EditRefusal}
-use Rattle.xw_feas.specs.State.{State as Position, Action, letter_set, cell_cleared, word_placed, list_written, block_toggled, bar_toggled, symmetry_chosen, word_added, word_struck, least_chosen, after, with_grid as with_edited, with_words as with_dictionary, by_fault, with_letters, spelled_in, placed_in, then_write, write_list}
+use Rattle.xw_feas.specs.State.{State as EngineState, Action, letter_set, cell_cleared, word_placed, list_written, block_toggled, bar_toggled, symmetry_chosen, word_added, word_struck, least_chosen, after, with_grid as with_edited, with_words as with_dictionary, by_fault, with_letters, spelled_in, placed_in, then_write, write_list}
 use Rattle.xw_feas.specs.WellFormed.{IsWellFormed}
 use Rattle.xw_fill.specs.Position.{position_of, filled_in}
 use Rattle.xw_fill.specs.FeasibleLetters.{feasible_letters}
@@ -74,7 +74,7 @@ use Rattle.xw_session_laws.proofs.KeptInOrder.{circle_kept, clue_kept, cells_the
 use Rattle.xw_session_laws.proofs.KeptEdges.{edges_kept, blank_edges}
 use Rattle.xw_session_laws.proofs.KeptWords.{AllComeFirst, added_kept, struck_kept, limited_kept}
 
--- ---- a position after an edit
+-- ---- an engine after an edit
 
 -- a grid of the same size, with bars on inner edges only
 pub record GridKept (grid next : Grid) : Type 0 where
@@ -83,8 +83,8 @@ pub record GridKept (grid next : Grid) : Type 0 where
   pub bars : BarsAreOnEdges next
 
 -- such a grid, and a dictionary that started with the same words
-pub record PositionKept (begun : Dictionary) (position next : Position) : Type 0 where
-  pub grid : GridKept position.grid next.grid
+pub record PositionKept (begun : Dictionary) (engine next : EngineState) : Type 0 where
+  pub grid : GridKept engine.grid next.grid
   pub first : AllComeFirst begun next.words
 
 -- the same size and the same bars
@@ -119,64 +119,64 @@ list_framed (written ∷ list) grid next e = by_tests (is_inside grid written.0)
 ok_words : (one other : Dictionary) → ◌≡◌ {A = Result Dictionary WordFault} (Ok one) (Ok other) → one ≡ other
 ok_words one other e = cc
 
-module _ (begun : Dictionary) (position next : Position) (is : IsGrid position.grid) (only : BarsAreOnEdges position.grid) (first : AllComeFirst begun position.words) where
+module _ (begun : Dictionary) (engine next : EngineState) (is : IsGrid engine.grid) (only : BarsAreOnEdges engine.grid) (first : AllComeFirst begun engine.words) where
   -- an edit of the grid
-  to_grid : (grid : Grid) → GridKept position.grid grid → with_edited position (Ok grid) ≡ Ok next → PositionKept begun position next
+  to_grid : (grid : Grid) → GridKept engine.grid grid → with_edited engine (Ok grid) ≡ Ok next → PositionKept begun engine next
   to_grid grid kept e =
-      let same : record position { grid = grid } ≡ next = cc in
-      subst (PositionKept begun position) same (record { grid = kept; first = first })
+      let same : record engine { grid = grid } ≡ next = cc in
+      subst (PositionKept begun engine) same (record { grid = kept; first = first })
 
-  to_words : (words : Result Dictionary WordFault) → ((made : Dictionary) → words ≡ Ok made → AllComeFirst begun made) → with_dictionary position words ≡ Ok next → PositionKept begun position next
+  to_words : (words : Result Dictionary WordFault) → ((made : Dictionary) → words ≡ Ok made → AllComeFirst begun made) → with_dictionary engine words ≡ Ok next → PositionKept begun engine next
   to_words (Ok words) kept e =
-      let same : record position { words = words } ≡ next = cc in
-      subst (PositionKept begun position) same (record { grid = framed position.grid position.grid (refl, refl, refl, refl) only; first = kept words refl })
+      let same : record engine { words = words } ≡ next = cc in
+      subst (PositionKept begun engine) same (record { grid = framed engine.grid engine.grid (refl, refl, refl, refl) only; first = kept words refl })
   to_words (Err fault) kept e = cc
 
-  by_two : (a b : Bool) (one other : GridFault) (grid : Grid) → GridKept position.grid grid → with_edited position (by_fault (if not a then Err one else if b then Err other else Ok grid)) ≡ Ok next → PositionKept begun position next
+  by_two : (a b : Bool) (one other : GridFault) (grid : Grid) → GridKept engine.grid grid → with_edited engine (by_fault (if not a then Err one else if b then Err other else Ok grid)) ≡ Ok next → PositionKept begun engine next
   by_two true false one other grid kept e = to_grid grid kept e
   by_two true true one other grid kept e = cc
   by_two false b one other grid kept e = cc
 
-  by_edge : (a b : Bool) (grid : Grid) → (b ≡ true → GridKept position.grid grid) → with_edited position (by_fault (if not a then Err grids.OutOfGrid else if not b then Err grids.Border else Ok grid)) ≡ Ok next → PositionKept begun position next
+  by_edge : (a b : Bool) (grid : Grid) → (b ≡ true → GridKept engine.grid grid) → with_edited engine (by_fault (if not a then Err grids.OutOfGrid else if not b then Err grids.Border else Ok grid)) ≡ Ok next → PositionKept begun engine next
   by_edge true true grid kept e = to_grid grid (kept refl) e
   by_edge true false grid kept e = cc
   by_edge false b grid kept e = cc
 
-  by_one : (a : Bool) (grid : Grid) → GridKept position.grid grid → with_edited position (by_fault (if a then Err grids.NotSquare else Ok grid)) ≡ Ok next → PositionKept begun position next
+  by_one : (a : Bool) (grid : Grid) → GridKept engine.grid grid → with_edited engine (by_fault (if a then Err grids.NotSquare else Ok grid)) ≡ Ok next → PositionKept begun engine next
   by_one false grid kept e = to_grid grid kept e
   by_one true grid kept e = cc
 
-  by_length : (a : Bool) (one : EditRefusal) (grid : Grid) → GridKept position.grid grid → with_edited position (if a then Ok grid else Err one) ≡ Ok next → PositionKept begun position next
+  by_length : (a : Bool) (one : EditRefusal) (grid : Grid) → GridKept engine.grid grid → with_edited engine (if a then Ok grid else Err one) ≡ Ok next → PositionKept begun engine next
   by_length true one grid kept e = to_grid grid kept e
   by_length false one grid kept e = cc
 
-  by_spelling : (light : Light) (bad : Option ℕ) (bytes : List ℕ) → with_edited position (spelled_in position.grid light bad bytes) ≡ Ok next → PositionKept begun position next
+  by_spelling : (light : Light) (bad : Option ℕ) (bytes : List ℕ) → with_edited engine (spelled_in engine.grid light bad bytes) ≡ Ok next → PositionKept begun engine next
   by_spelling light (Some at) bytes e = cc
   by_spelling light None bytes e =
-      by_length _ _ (with_letters position.grid (cells_of light) (map folded bytes)) (framed position.grid _ (letters_framed (cells_of light) position.grid (map folded bytes)) only) e
+      by_length _ _ (with_letters engine.grid (cells_of light) (map folded bytes)) (framed engine.grid _ (letters_framed (cells_of light) engine.grid (map folded bytes)) only) e
 
-  by_index : (index : Option ℕ) (bytes : List ℕ) → with_edited position (placed_in position.grid index bytes) ≡ Ok next → PositionKept begun position next
+  by_index : (index : Option ℕ) (bytes : List ℕ) → with_edited engine (placed_in engine.grid index bytes) ≡ Ok next → PositionKept begun engine next
   by_index None bytes e = cc
-  by_index (Some index) bytes e = by_spelling (slice_index_or (lights_of position.grid) index no_light) (bad_at is_bad_letter bytes) bytes e
+  by_index (Some index) bytes e = by_spelling (slice_index_or (lights_of engine.grid) index no_light) (bad_at is_bad_letter bytes) bytes e
 
-  by_list : (list : List (Cell × Option ℕ)) (written : Result Grid GridFault) → write_list list position.grid ≡ written → with_edited position (by_fault written) ≡ Ok next → PositionKept begun position next
-  by_list list (Ok grid) made e = to_grid grid (framed position.grid grid (list_framed list position.grid grid made) only) e
+  by_list : (list : List (Cell × Option ℕ)) (written : Result Grid GridFault) → write_list list engine.grid ≡ written → with_edited engine (by_fault written) ≡ Ok next → PositionKept begun engine next
+  by_list list (Ok grid) made e = to_grid grid (framed engine.grid grid (list_framed list engine.grid grid made) only) e
   by_list list (Err fault) made e = cc
 
-  pub edit_kept : (action : Action) → after position action ≡ Ok next → PositionKept begun position next
-  edit_kept (letter_set cell letter) e = by_two (is_inside position.grid cell) (is_block position.grid cell) grids.OutOfGrid grids.OnBlock (with_entry position.grid cell (Some letter)) (framed position.grid _ (refl, refl, refl, refl) only) e
-  edit_kept (cell_cleared cell) e = by_two (is_inside position.grid cell) (is_block position.grid cell) grids.OutOfGrid grids.OnBlock (with_entry position.grid cell None) (framed position.grid _ (refl, refl, refl, refl) only) e
-  edit_kept (word_placed name word) e = by_index (index_named (lights_of position.grid) name) word e
-  edit_kept (list_written list) e = by_list list (write_list list position.grid) refl e
+  pub edit_kept : (action : Action) → after engine action ≡ Ok next → PositionKept begun engine next
+  edit_kept (letter_set cell letter) e = by_two (is_inside engine.grid cell) (is_block engine.grid cell) grids.OutOfGrid grids.OnBlock (with_entry engine.grid cell (Some letter)) (framed engine.grid _ (refl, refl, refl, refl) only) e
+  edit_kept (cell_cleared cell) e = by_two (is_inside engine.grid cell) (is_block engine.grid cell) grids.OutOfGrid grids.OnBlock (with_entry engine.grid cell None) (framed engine.grid _ (refl, refl, refl, refl) only) e
+  edit_kept (word_placed name word) e = by_index (index_named (lights_of engine.grid) name) word e
+  edit_kept (list_written list) e = by_list list (write_list list engine.grid) refl e
   edit_kept (block_toggled cell) e =
-      by_two (is_inside position.grid cell) (not (is_block position.grid cell) && is_occupied position.grid cell) grids.OutOfGrid grids.Occupied (with_orbit position.grid cell (not (is_block position.grid cell))) (framed position.grid _ (refl, refl, refl, refl) only) e
+      by_two (is_inside engine.grid cell) (not (is_block engine.grid cell) && is_occupied engine.grid cell) grids.OutOfGrid grids.Occupied (with_orbit engine.grid cell (not (is_block engine.grid cell))) (framed engine.grid _ (refl, refl, refl, refl) only) e
   edit_kept (bar_toggled cell side) e =
-      by_edge (is_inside position.grid cell) (is_edge position.grid cell side) (with_edges position.grid cell side (not (is_barred position.grid cell side)))
-      (λ edge. record { wide = refl; high = refl; bars = edges_kept position.grid cell side (not (is_barred position.grid cell side)) is edge only }) e
-  edit_kept (symmetry_chosen kind) e = by_one _ (record position.grid { symmetry = kind }) (framed position.grid _ (refl, refl, refl, refl) only) e
-  edit_kept (word_added word grade) e = to_words _ (added_kept begun position.words first (map folded word) grade (add_answer position.words word)) e
-  edit_kept (word_struck word) e = to_words _ (struck_kept begun position.words first (map folded word) (strike_answer position.words word)) e
-  edit_kept (least_chosen grade) e = to_words (Ok (with_least grade position.words)) (λ made same. subst (AllComeFirst begun) (ok_words _ made same) (limited_kept begun position.words first grade)) e
+      by_edge (is_inside engine.grid cell) (is_edge engine.grid cell side) (with_edges engine.grid cell side (not (is_barred engine.grid cell side)))
+      (λ edge. record { wide = refl; high = refl; bars = edges_kept engine.grid cell side (not (is_barred engine.grid cell side)) is edge only }) e
+  edit_kept (symmetry_chosen kind) e = by_one _ (record engine.grid { symmetry = kind }) (framed engine.grid _ (refl, refl, refl, refl) only) e
+  edit_kept (word_added word grade) e = to_words _ (added_kept begun engine.words first (map folded word) grade (add_answer engine.words word)) e
+  edit_kept (word_struck word) e = to_words _ (struck_kept begun engine.words first (map folded word) (strike_answer engine.words word)) e
+  edit_kept (least_chosen grade) e = to_words (Ok (with_least grade engine.words)) (λ made same. subst (AllComeFirst begun) (ok_words _ made same) (limited_kept begun engine.words first grade)) e
 
 -- ---- lights
 
@@ -219,7 +219,7 @@ size_bars width height grid true e = let same : blank width height ≡ grid = cc
 size_bars width height grid false e = cc
 
 module _ (words : Dictionary) (state : State) (is : BeganWith words state) where
-  wide : 0 < state.position.grid.width
+  wide : 0 < state.engine.grid.width
   wide = omega (arith, is.grid.wide)
 
   -- ---- states that differ in one part
@@ -227,16 +227,16 @@ module _ (words : Dictionary) (state : State) (is : BeganWith words state) where
   with_texts : (texts : TextsShown) → ((name : TextField) → has_nul (text_of_field texts name) ≡ false) → BeganWith words (record state { texts = texts })
   with_texts texts are = record { grid = is.grid; bars = is.bars; known = is.known; least = is.least; dictionary = is.dictionary; first = is.first; begun = is.begun; texts = are; clues = is.clues; circles = is.circles }
 
-  with_clues : (clues : ClueMap) → ((direction : Direction) → AreTextsFrom state.position.grid 0 (clues_of clues direction)) → BeganWith words (record state { clues = clues })
+  with_clues : (clues : ClueMap) → ((direction : Direction) → AreTextsFrom state.engine.grid 0 (clues_of clues direction)) → BeganWith words (record state { clues = clues })
   with_clues clues are = record { grid = is.grid; bars = is.bars; known = is.known; least = is.least; dictionary = is.dictionary; first = is.first; begun = is.begun; texts = is.texts; clues = are; circles = is.circles }
 
-  with_circles : (circles : List Cell) → AreFrom state.position.grid 0 circles → BeganWith words (record state { circles = circles })
+  with_circles : (circles : List Cell) → AreFrom state.engine.grid 0 circles → BeganWith words (record state { circles = circles })
   with_circles circles are = record { grid = is.grid; bars = is.bars; known = is.known; least = is.least; dictionary = is.dictionary; first = is.first; begun = is.begun; texts = is.texts; clues = is.clues; circles = are }
 
   with_watch : (is_on : Bool) → BeganWith words (record state { is_watched = is_on })
   with_watch is_on = record { grid = is.grid; bars = is.bars; known = is.known; least = is.least; dictionary = is.dictionary; first = is.first; begun = is.begun; texts = is.texts; clues = is.clues; circles = is.circles }
 
-  with_position : (next : Position) → PositionKept words state.position next → IsWellFormed next → BeganWith words (record state { position = next })
+  with_position : (next : EngineState) → PositionKept words state.engine next → IsWellFormed next → BeganWith words (record state { engine = next })
   with_position next kept formed = record {
     grid = formed.grid;
     bars = kept.grid.bars;
@@ -246,12 +246,12 @@ module _ (words : Dictionary) (state : State) (is : BeganWith words state) where
     first = kept.first;
     begun = is.begun;
     texts = is.texts;
-    clues = λ direction. texts_there state.position.grid next.grid kept.grid.wide kept.grid.high (clues_of state.clues direction) 0 (is.clues direction);
-    circles = cells_there state.position.grid next.grid kept.grid.wide kept.grid.high state.circles 0 is.circles;
+    clues = λ direction. texts_there state.engine.grid next.grid kept.grid.wide kept.grid.high (clues_of state.clues direction) 0 (is.clues direction);
+    circles = cells_there state.engine.grid next.grid kept.grid.wide kept.grid.high state.circles 0 is.circles;
   }
 
-  with_size : (grid : Grid) → BarsAreOnEdges grid → IsWellFormed (record { grid = grid; words = state.position.words })
-      → BeganWith words (record state { position = record { grid = grid; words = state.position.words }; clues = no_clues; circles = [] })
+  with_size : (grid : Grid) → BarsAreOnEdges grid → IsWellFormed (record { grid = grid; words = state.engine.words })
+      → BeganWith words (record state { engine = record { grid = grid; words = state.engine.words }; clues = no_clues; circles = [] })
   with_size grid only formed = record {
     grid = formed.grid;
     bars = only;
@@ -267,16 +267,16 @@ module _ (words : Dictionary) (state : State) (is : BeganWith words state) where
 
   -- ---- texts put into fields
 
-  text_put : (target : Target) (text : List ℕ) → has_target state.position.grid target ≡ true → has_nul text ≡ false → BeganWith words (with_text_at state target text)
+  text_put : (target : Target) (text : List ℕ) → has_target state.engine.grid target ≡ true → has_nul text ≡ false → BeganWith words (with_text_at state target text)
   text_put (targets.Text field) text targeted plain = with_texts (with_text_in state.texts field text) (λ name. text_kept state.texts field name text plain is.texts)
-  text_put (targets.Clue cell way) text targeted plain = with_clues (with_clue state.clues cell way text) (clue_kept state.position.grid wide state.clues cell way text targeted plain is.clues)
+  text_put (targets.Clue cell way) text targeted plain = with_clues (with_clue state.clues cell way text) (clue_kept state.engine.grid wide state.clues cell way text targeted plain is.clues)
 
   plain_there : (target : Target) → has_nul (text_at state target) ≡ false
   plain_there (targets.Text name) = is.texts name
-  plain_there (targets.Clue cell Across) = plain_at state.position.grid state.clues.across 0 cell (is.clues Across)
-  plain_there (targets.Clue cell Down) = plain_at state.position.grid state.clues.down 0 cell (is.clues Down)
+  plain_there (targets.Clue cell Across) = plain_at state.engine.grid state.clues.across 0 cell (is.clues Across)
+  plain_there (targets.Clue cell Down) = plain_at state.engine.grid state.clues.down 0 cell (is.clues Down)
 
-  piece_kept : (putting : TextMode) (target : Target) (text : List ℕ) → has_target state.position.grid target ≡ true → has_nul text ≡ false → BeganWith words (with_piece state putting target text)
+  piece_kept : (putting : TextMode) (target : Target) (text : List ℕ) → has_target state.engine.grid target ≡ true → has_nul text ≡ false → BeganWith words (with_piece state putting target text)
   piece_kept Instead target text targeted plain = text_put target text targeted plain
   piece_kept Behind target [] targeted plain = is
   piece_kept Behind target (byte ∷ bytes) targeted plain =
@@ -285,7 +285,7 @@ module _ (words : Dictionary) (state : State) (is : BeganWith words state) where
 
   -- ---- replies
 
-  module _ (reply : Reply) (formed : IsWellFormed reply.state.position) where
+  module _ (reply : Reply) (formed : IsWellFormed reply.state.engine) where
     abbrev Kept : Type 0
     Kept = BeganWith words reply.state
 
@@ -296,10 +296,10 @@ module _ (words : Dictionary) (state : State) (is : BeganWith words state) where
     not_refused : (refusal : Refusal) → ◌≡◌ {A = Result Reply Refusal} (Err refusal) (Ok reply) → Kept
     not_refused refusal e = cc
 
-    left_at : (one : Reply) → (IsWellFormed one.state.position → BeganWith words one.state) → ◌≡◌ {A = Result Reply Refusal} (Ok one) (Ok reply) → Kept
+    left_at : (one : Reply) → (IsWellFormed one.state.engine → BeganWith words one.state) → ◌≡◌ {A = Result Reply Refusal} (Ok one) (Ok reply) → Kept
     left_at one kept e =
         let same = ok_state one reply e in
-        subst (BeganWith words) same (kept (subst (λ (s : State). IsWellFormed s.position) (sym same) formed))
+        subst (BeganWith words) same (kept (subst (λ (s : State). IsWellFormed s.engine) (sym same) formed))
 
     when_shown : (lines : List ℕ) → shown state lines ≡ Ok reply → Kept
     when_shown lines e = left_at (record { lines = lines; state = state }) (λ _. is) e
@@ -307,12 +307,12 @@ module _ (words : Dictionary) (state : State) (is : BeganWith words state) where
     when_edited : (next : State) → BeganWith words next → edited next ≡ Ok reply → Kept
     when_edited next kept e = left_at (record { lines = []; state = next }) (λ _. kept) e
 
-    when_moved : (result : Result Position EditRefusal) → ((next : Position) → result ≡ Ok next → PositionKept words state.position next) → moved state result ≡ Ok reply → Kept
-    when_moved (Ok next) kept e = left_at (record { lines = watch_lines state next; state = record state { position = next } }) (λ good. with_position next (kept next refl) good) e
+    when_moved : (result : Result EngineState EditRefusal) → ((next : EngineState) → result ≡ Ok next → PositionKept words state.engine next) → moved state result ≡ Ok reply → Kept
+    when_moved (Ok next) kept e = left_at (record { lines = watch_lines state next; state = record state { engine = next } }) (λ good. with_position next (kept next refl) good) e
     when_moved (Err refusal) kept e = not_refused (refusal_of refusal) e
 
-    by_edit : (action : Action) → moved state (after state.position action) ≡ Ok reply → Kept
-    by_edit action e = when_moved (after state.position action) (λ next done. edit_kept words state.position next is.grid is.bars is.first action done) e
+    by_edit : (action : Action) → moved state (after state.engine action) ≡ Ok reply → Kept
+    by_edit action e = when_moved (after state.engine action) (λ next done. edit_kept words state.engine next is.grid is.bars is.first action done) e
 
     by_letter : (at : CellArg) (letter : Option ℕ) → with_letter state at letter ≡ Ok reply → Kept
     by_letter at None e = not_refused (refusals.Word (faults.BadLetter 1)) e
@@ -320,22 +320,22 @@ module _ (words : Dictionary) (state : State) (is : BeganWith words state) where
 
     by_erase : (light_found : Option Light) → erased state light_found ≡ Ok reply → Kept
     by_erase None e = not_refused refusals.NoLight e
-    by_erase (Some light) e = by_edit (list_written (emptied (erased_cells state.position light))) e
+    by_erase (Some light) e = by_edit (list_written (emptied (erased_cells state.engine light))) e
 
     by_size : (result : Result Grid GridFault) → ((grid : Grid) → result ≡ Ok grid → BarsAreOnEdges grid) → resized state result ≡ Ok reply → Kept
     by_size (Ok grid) only e =
-        left_at (record { lines = []; state = record state { position = record { grid = grid; words = state.position.words }; clues = no_clues; circles = [] } }) (λ good. with_size grid (only grid refl) good) e
+        left_at (record { lines = []; state = record state { engine = record { grid = grid; words = state.engine.words }; clues = no_clues; circles = [] } }) (λ good. with_size grid (only grid refl) good) e
     by_size (Err fault) only e = not_refused (refusals.Grid fault) e
 
     by_words : (result : Result (List (List ℕ)) WordFault) → matched state result ≡ Ok reply → Kept
     by_words (Ok matches) e = when_shown (flat_map word_line matches) e
     by_words (Err fault) e = not_refused (refusals.Word fault) e
 
-    by_light : (light_found : Option Light) (text : List ℕ) → ((light : Light) → light_found ≡ Some light → is_inside state.position.grid light.start ≡ true) → with_clue_of state light_found text ≡ Ok reply → Kept
+    by_light : (light_found : Option Light) (text : List ℕ) → ((light : Light) → light_found ≡ Some light → is_inside state.engine.grid light.start ≡ true) → with_clue_of state light_found text ≡ Ok reply → Kept
     by_light None text starts e = not_refused refusals.NoLight e
     by_light (Some light) text starts e =
         by_test (has_nul text) (Err refusals.NulByte) (edited (record state { clues = with_clue state.clues light.start light.name.direction text })) (λ _ e. not_refused refusals.NulByte e)
-        (λ plain e. when_edited (record state { clues = with_clue state.clues light.start light.name.direction text }) (with_clues (with_clue state.clues light.start light.name.direction text) (clue_kept state.position.grid wide state.clues light.start light.name.direction text (starts light refl) plain is.clues)) e) e
+        (λ plain e. when_edited (record state { clues = with_clue state.clues light.start light.name.direction text }) (with_clues (with_clue state.clues light.start light.name.direction text) (clue_kept state.engine.grid wide state.clues light.start light.name.direction text (starts light refl) plain is.clues)) e) e
 
     by_text : (field : TextField) (text : List ℕ) → written state field text ≡ Ok reply → Kept
     by_text field text e =
@@ -349,84 +349,84 @@ module _ (words : Dictionary) (state : State) (is : BeganWith words state) where
     by_circle : (cell : Cell) → circle_toggled state cell ≡ Ok reply → Kept
     by_circle cell e =
         let next : State = record state { circles = with_circle state.circles cell (not (is_circled state.circles cell)) } in
-        by_test (not (is_inside state.position.grid cell)) (Err (refusals.Grid grids.OutOfGrid)) (if not (is_open state.position.grid cell) then Err (refusals.Grid grids.OnBlock) else edited next) (λ _ e. not_refused (refusals.Grid grids.OutOfGrid) e)
-        (λ inside e. by_test (not (is_open state.position.grid cell)) (Err (refusals.Grid grids.OnBlock)) (edited next) (λ _ e. not_refused (refusals.Grid grids.OnBlock) e)
-        (λ _ e. when_edited next (with_circles (with_circle state.circles cell (not (is_circled state.circles cell))) (circle_kept state.position.grid wide cell state.circles (not (is_circled state.circles cell)) (not_not (is_inside state.position.grid cell) inside) is.circles)) e) e) e
+        by_test (not (is_inside state.engine.grid cell)) (Err (refusals.Grid grids.OutOfGrid)) (if not (is_open state.engine.grid cell) then Err (refusals.Grid grids.OnBlock) else edited next) (λ _ e. not_refused (refusals.Grid grids.OutOfGrid) e)
+        (λ inside e. by_test (not (is_open state.engine.grid cell)) (Err (refusals.Grid grids.OnBlock)) (edited next) (λ _ e. not_refused (refusals.Grid grids.OnBlock) e)
+        (λ _ e. when_edited next (with_circles (with_circle state.circles cell (not (is_circled state.circles cell))) (circle_kept state.engine.grid wide cell state.circles (not (is_circled state.circles cell)) (not_not (is_inside state.engine.grid cell) inside) is.circles)) e) e) e
 
     by_words_of : (light most : Option ℕ) → worded state light most ≡ Ok reply → Kept
     by_words_of None most e = not_refused refusals.NoLight e
     by_words_of (Some light) most e =
-        when_shown (counted_lines (length (feasible_words (position_of state.position) light)) (first_words most (feasible_words (position_of state.position) light))) e
+        when_shown (counted_lines (length (feasible_words (position_of state.engine) light)) (first_words most (feasible_words (position_of state.engine) light))) e
 
     by_choices_from : (light most : ℕ) (from : Result (Option ℕ) Refusal) → weighed_from state light most from ≡ Ok reply → Kept
-    by_choices_from light most (Ok from) e = when_shown (choice_lines state.position light from most) e
+    by_choices_from light most (Ok from) e = when_shown (choice_lines state.engine light from most) e
     by_choices_from light most (Err refusal) e = not_refused refusal e
 
     by_choices : (light : Option ℕ) (most : ℕ) (first : Option (List ℕ)) → weighed state light most first ≡ Ok reply → Kept
     by_choices None most first e = not_refused refusals.NoLight e
-    by_choices (Some light) most first e = by_choices_from light most (first_index state.position light first) e
+    by_choices (Some light) most first e = by_choices_from light most (first_index state.engine light first) e
 
     by_grades : (names : List LightName) → graded state names ≡ Ok reply → Kept
     by_grades names e =
-        by_test (are_lights state.position.grid names) (shown state (grade_lines state.position names)) (Err refusals.NoLight) (λ _ e. when_shown (grade_lines state.position names) e) (λ _ e. not_refused refusals.NoLight e) e
+        by_test (are_lights state.engine.grid names) (shown state (grade_lines state.engine names)) (Err refusals.NoLight) (λ _ e. when_shown (grade_lines state.engine names) e) (λ _ e. not_refused refusals.NoLight e) e
 
     by_letters : (cell : Cell) → lettered state cell ≡ Ok reply → Kept
     by_letters cell e =
-        let letters = letters_line (feasible_letters (position_of state.position) (index_of state.position.grid cell)) in
-        by_test (not (is_inside state.position.grid cell)) (Err (refusals.Grid grids.OutOfGrid)) (if is_block state.position.grid cell then Err (refusals.Grid grids.OnBlock) else shown state letters) (λ _ e. not_refused (refusals.Grid grids.OutOfGrid) e)
-        (λ _ e. by_test (is_block state.position.grid cell) (Err (refusals.Grid grids.OnBlock)) (shown state letters) (λ _ e. not_refused (refusals.Grid grids.OnBlock) e) (λ _ e. when_shown letters e) e) e
+        let letters = letters_line (feasible_letters (position_of state.engine) (index_of state.engine.grid cell)) in
+        by_test (not (is_inside state.engine.grid cell)) (Err (refusals.Grid grids.OutOfGrid)) (if is_block state.engine.grid cell then Err (refusals.Grid grids.OnBlock) else shown state letters) (λ _ e. not_refused (refusals.Grid grids.OutOfGrid) e)
+        (λ _ e. by_test (is_block state.engine.grid cell) (Err (refusals.Grid grids.OnBlock)) (shown state letters) (λ _ e. not_refused (refusals.Grid grids.OnBlock) e) (λ _ e. when_shown letters e) e) e
 
     by_fill : (past there : Bool) (limit filled none : List ℕ) (entries : List (Option ℕ))
-        → (if past then shown state limit else if there then Ok (record { lines = filled; state = record state { position = filled_in state.position entries } }) else shown state none) ≡ Ok reply → Kept
+        → (if past then shown state limit else if there then Ok (record { lines = filled; state = record state { engine = filled_in state.engine entries } }) else shown state none) ≡ Ok reply → Kept
     by_fill true there limit filled none entries e = when_shown limit e
     by_fill false true limit filled none entries e =
-        left_at (record { lines = filled; state = record state { position = filled_in state.position entries } })
-        (λ good. with_position (filled_in state.position entries) (record { grid = framed state.position.grid _ (refl, refl, refl, refl) is.bars; first = is.first }) good) e
+        left_at (record { lines = filled; state = record state { engine = filled_in state.engine entries } })
+        (λ good. with_position (filled_in state.engine entries) (record { grid = framed state.engine.grid _ (refl, refl, refl, refl) is.bars; first = is.first }) good) e
     by_fill false false limit filled none entries e = when_shown none e
 
     by_tally : (cell : Cell) → tallied state cell ≡ Ok reply → Kept
     by_tally cell e =
-        let lines = tally_lines state.position cell in
-        by_test (not (is_inside state.position.grid cell)) (Err (refusals.Grid grids.OutOfGrid)) (if is_block state.position.grid cell then Err (refusals.Grid grids.OnBlock) else shown state lines) (λ _ e. not_refused (refusals.Grid grids.OutOfGrid) e)
-        (λ _ e. by_test (is_block state.position.grid cell) (Err (refusals.Grid grids.OnBlock)) (shown state lines) (λ _ e. not_refused (refusals.Grid grids.OnBlock) e) (λ _ e. when_shown lines e) e) e
+        let lines = tally_lines state.engine cell in
+        by_test (not (is_inside state.engine.grid cell)) (Err (refusals.Grid grids.OutOfGrid)) (if is_block state.engine.grid cell then Err (refusals.Grid grids.OnBlock) else shown state lines) (λ _ e. not_refused (refusals.Grid grids.OutOfGrid) e)
+        (λ _ e. by_test (is_block state.engine.grid cell) (Err (refusals.Grid grids.OnBlock)) (shown state lines) (λ _ e. not_refused (refusals.Grid grids.OnBlock) e) (λ _ e. when_shown lines e) e) e
 
-    -- the reply has these lines and a state with this position
-    abbrev Tells : List ℕ → Position → Type 0
-    Tells lines position = reply ≡ record { lines = lines; state = record state { position = position } }
+    -- the reply has these lines and a state with this engine
+    abbrev Tells : List ℕ → EngineState → Type 0
+    Tells lines engine = reply ≡ record { lines = lines; state = record state { engine = engine } }
 
-    by_told : (lines : List ℕ) (position next : Position) → Tells lines position → position ≡ next
-        → ◌≡◌ {A = Result Reply Refusal} (Ok (record { lines = lines; state = record state { position = next } })) (Ok reply)
-    by_told lines position next is same = ap Ok (ap (λ (p : Position). record { lines = lines; state = record state { position = p } }) (sym same) ∙ sym is)
+    by_told : (lines : List ℕ) (engine next : EngineState) → Tells lines engine → engine ≡ next
+        → ◌≡◌ {A = Result Reply Refusal} (Ok (record { lines = lines; state = record state { engine = next } })) (Ok reply)
+    by_told lines engine next is same = ap Ok (ap (λ (p : EngineState). record { lines = lines; state = record state { engine = p } }) (sym same) ∙ sym is)
 
-    by_entered : (lines : List ℕ) (position : Position) (entries : List (Option ℕ)) → Tells lines position → position ≡ filled_in state.position entries → Kept
-    by_entered lines position entries told same =
-        left_at (record { lines = lines; state = record state { position = filled_in state.position entries } })
-        (λ good. with_position (filled_in state.position entries) (record { grid = framed state.position.grid _ (refl, refl, refl, refl) is.bars; first = is.first }) good) (by_told lines position (filled_in state.position entries) told same)
+    by_entered : (lines : List ℕ) (engine : EngineState) (entries : List (Option ℕ)) → Tells lines engine → engine ≡ filled_in state.engine entries → Kept
+    by_entered lines engine entries told same =
+        left_at (record { lines = lines; state = record state { engine = filled_in state.engine entries } })
+        (λ good. with_position (filled_in state.engine entries) (record { grid = framed state.engine.grid _ (refl, refl, refl, refl) is.bars; first = is.first }) good) (by_told lines engine (filled_in state.engine entries) told same)
 
-    by_none : (lines : List ℕ) (position : Position) → Tells lines position → position ≡ state.position → Kept
-    by_none lines position told same = when_shown lines (by_told lines position state.position told same)
+    by_none : (lines : List ℕ) (engine : EngineState) → Tells lines engine → engine ≡ state.engine → Kept
+    by_none lines engine told same = when_shown lines (by_told lines engine state.engine told same)
 
-    by_end : (named : ℕ → Bool) (filling : Filling) (position : Position) → Tells (word_line (filling_name filling)) position → IsAutofilled named state.position position filling → Kept
-    by_end named fillings.Filled position told (entries, fill, same) = by_entered _ position entries told same
-    by_end named fillings.NoFill position told (none, same) = by_none _ position told same
-    by_end named fillings.Limit position told same = by_none _ position told same
+    by_end : (named : ℕ → Bool) (filling : Filling) (engine : EngineState) → Tells (word_line (filling_name filling)) engine → IsAutofilled named state.engine engine filling → Kept
+    by_end named fillings.Filled engine told (entries, fill, same) = by_entered _ engine entries told same
+    by_end named fillings.NoFill engine told (none, same) = by_none _ engine told same
+    by_end named fillings.Limit engine told same = by_none _ engine told same
 
-    by_best : (named : ℕ → Bool) (best : Best) (position : Position) → Tells (best_lines best) position → IsBest named state.position position best → Kept
-    by_best named (bests.Filled least bound) position told (filled, proved) = by_entered _ position filled.entries told filled.holds
-    by_best named bests.NoFill position told (none, same) = by_none _ position told same
-    by_best named (bests.Limit bound) position told (above, proved, same) = by_none _ position told same
+    by_best : (named : ℕ → Bool) (best : Best) (engine : EngineState) → Tells (best_lines best) engine → IsBest named state.engine engine best → Kept
+    by_best named (bests.Filled least bound) engine told (filled, proved) = by_entered _ engine filled.entries told filled.holds
+    by_best named bests.NoFill engine told (none, same) = by_none _ engine told same
+    by_best named (bests.Limit bound) engine told (above, proved, same) = by_none _ engine told same
 
-    by_reason : (entries : List (Option ℕ)) → reply ≡ record { lines = entry_lines state.position.grid entries; state = state } → Kept
-    by_reason entries told = when_shown (entry_lines state.position.grid entries) (ap Ok (sym told))
+    by_reason : (entries : List (Option ℕ)) → reply ≡ record { lines = entry_lines state.engine.grid entries; state = state } → Kept
+    by_reason entries told = when_shown (entry_lines state.engine.grid entries) (ap Ok (sym told))
 
     by_put : (putting : TextMode) (field : Field) (spelling : Option (List ℕ)) → put state putting field spelling ≡ Ok reply → Kept
     by_put putting field None e = not_refused refusals.Escape e
     by_put putting field (Some text) e =
         let target = target_of field in
         let next : Result Reply Refusal = edited (with_piece state putting target text) in
-        by_test (not (has_target state.position.grid target)) (Err (refusals.Grid grids.OutOfGrid)) (if has_nul text then Err refusals.NulByte else next) (λ _ e. not_refused (refusals.Grid grids.OutOfGrid) e)
+        by_test (not (has_target state.engine.grid target)) (Err (refusals.Grid grids.OutOfGrid)) (if has_nul text then Err refusals.NulByte else next) (λ _ e. not_refused (refusals.Grid grids.OutOfGrid) e)
         (λ targeted e. by_test (has_nul text) (Err refusals.NulByte) next (λ _ e. not_refused refusals.NulByte e)
-        (λ plain e. when_edited (with_piece state putting target text) (piece_kept putting target text (not_not (has_target state.position.grid target) targeted) plain) e) e) e
+        (λ plain e. when_edited (with_piece state putting target text) (piece_kept putting target text (not_not (has_target state.engine.grid target) targeted) plain) e) e) e
 
     pub reply_kept : (command : Command) → IsDue state command (Ok reply) → Kept
     reply_kept (commands.Size width height) e = by_size (new_grid width height) (λ grid made. size_bars width height grid ((nat_le 1 width && nat_le width 255) && (nat_le 1 height && nat_le height 255)) made) e
@@ -434,45 +434,45 @@ module _ (words : Dictionary) (state : State) (is : BeganWith words state) where
     reply_kept (commands.Add word grade) e = by_edit (word_added word grade) e
     reply_kept (commands.Strike word) e = by_edit (word_struck word) e
     reply_kept (commands.Least grade) e = by_edit (least_chosen grade) e
-    reply_kept (commands.Match pattern) e = by_words (matching_answer state.position.words pattern) e
+    reply_kept (commands.Match pattern) e = by_words (matching_answer state.engine.words pattern) e
     reply_kept (commands.Set at letter) e = by_letter at (letter_of letter) e
     reply_kept (commands.Clear at) e = by_edit (cell_cleared (cell_of at)) e
     reply_kept (commands.Place named word) e = by_edit (word_placed (name_of_light named) word) e
-    reply_kept (commands.Erase named) e = by_erase (light_named state.position.grid named) e
+    reply_kept (commands.Erase named) e = by_erase (light_named state.engine.grid named) e
     reply_kept (commands.Block at) e = by_edit (block_toggled (cell_of at)) e
     reply_kept (commands.Bar at side) e = by_edit (bar_toggled (cell_of at) side) e
     reply_kept (commands.Clue named text) e =
-        by_light (light_named state.position.grid named) text (λ light is_found. light_starts state.position.grid (index_named (lights_of state.position.grid) (name_of_light named)) light is_found) e
+        by_light (light_named state.engine.grid named) text (λ light is_found. light_starts state.engine.grid (index_named (lights_of state.engine.grid) (name_of_light named)) light is_found) e
     reply_kept (commands.Write field text) e = by_text field text e
     reply_kept (commands.Circle at) e = by_circle (cell_of at) e
-    reply_kept commands.Circles e = when_shown (circle_lines state.position.grid state.circles) e
-    reply_kept commands.Show e = when_shown (show_lines state.position.grid) e
-    reply_kept commands.Lights e = when_shown (light_lines state.position.grid) e
-    reply_kept (commands.Words named most) e = by_words_of (index_named (lights_of state.position.grid) (name_of_light named)) most e
-    reply_kept (commands.Choices named most first) e = by_choices (index_named (lights_of state.position.grid) (name_of_light named)) most first e
+    reply_kept commands.Circles e = when_shown (circle_lines state.engine.grid state.circles) e
+    reply_kept commands.Show e = when_shown (show_lines state.engine.grid) e
+    reply_kept commands.Lights e = when_shown (light_lines state.engine.grid) e
+    reply_kept (commands.Words named most) e = by_words_of (index_named (lights_of state.engine.grid) (name_of_light named)) most e
+    reply_kept (commands.Choices named most first) e = by_choices (index_named (lights_of state.engine.grid) (name_of_light named)) most first e
     reply_kept (commands.Letters at) e = by_letters (cell_of at) e
     reply_kept (commands.Tally at) e = by_tally (cell_of at) e
-    reply_kept commands.Duplicates e = when_shown (flat_map (duplicate_line state.position.grid) (duplicates_of state.position)) e
-    reply_kept commands.Unlisted e = when_shown (flat_map (spelled_line state.position.grid) (unlisted_of state.position)) e
+    reply_kept commands.Duplicates e = when_shown (flat_map (duplicate_line state.engine.grid) (duplicates_of state.engine)) e
+    reply_kept commands.Unlisted e = when_shown (flat_map (spelled_line state.engine.grid) (unlisted_of state.engine)) e
     reply_kept (commands.Grades lights) e = by_grades (map name_of_light lights) e
-    reply_kept commands.Unmatched e = when_shown (unmatched_lines state.position) e
-    reply_kept commands.Suggest e = when_shown (suggestion_line state.position (suggestion state.position)) e
+    reply_kept commands.Unmatched e = when_shown (unmatched_lines state.engine) e
+    reply_kept commands.Suggest e = when_shown (suggestion_line state.engine (suggestion state.engine)) e
     reply_kept (commands.Why named) e = by_reason e.entries e.is
     reply_kept (commands.Fill limit) e =
-        by_fill (nat_lt limit (due (position_of state.position))) (found (position_of state.position)) (word_line (filling_name fillings.Limit)) (word_line (filling_name fillings.Filled)) (word_line (filling_name fillings.NoFill))
-        (end (position_of state.position)).board.entries e
-    reply_kept (commands.Autofill limit seed lights) e = by_end (is_named state.position (names_of lights)) e.filling e.position e.is e.done
-    reply_kept (commands.Best limit seed lights) e = by_best (is_named state.position (names_of lights)) e.best e.position e.is e.done
+        by_fill (nat_lt limit (due (position_of state.engine))) (found (position_of state.engine)) (word_line (filling_name fillings.Limit)) (word_line (filling_name fillings.Filled)) (word_line (filling_name fillings.NoFill))
+        (end (position_of state.engine)).board.entries e
+    reply_kept (commands.Autofill limit seed lights) e = by_end (is_named state.engine (names_of lights)) e.filling e.engine e.is e.done
+    reply_kept (commands.Best limit seed lights) e = by_best (is_named state.engine (names_of lights)) e.best e.engine e.is e.done
     reply_kept (commands.Watch is_on) e = when_edited (record state { is_watched = is_on }) (with_watch is_on) e
     reply_kept (commands.Tell telling) e = when_shown (told_lines state telling) e
     reply_kept (commands.Put putting field spelling) e = by_put putting field (text_spelled spelling) e
 
   -- ---- answers
 
-  module _ (next : State) (formed : IsWellFormed next.position) where
+  module _ (next : State) (formed : IsWellFormed next.engine) where
     after_reply : (command : Command) (reply : Result Reply Refusal) → Replies state command reply → next ≡ state_after state reply → BeganWith words next
     after_reply command (Ok reply) (due, owed, fits) same =
-        subst (BeganWith words) (sym same) (reply_kept reply (subst (λ (s : State). IsWellFormed s.position) same formed) command (subst (IsDue state command) fits owed))
+        subst (BeganWith words) (sym same) (reply_kept reply (subst (λ (s : State). IsWellFormed s.engine) same formed) command (subst (IsDue state command) fits owed))
     after_reply command (Err refusal) fits same = subst (BeganWith words) (sym same) is
 
     pub answer_kept : (parsed : Result (Option Command) SyntaxFault) (outcome : Step) (answer : List ℕ) → AnswersParsed state parsed outcome answer next → BeganWith words next
@@ -489,7 +489,7 @@ no_text Copyright = refl
 no_text Notes = refl
 
 pub session_begun : SessionsBegin
-session_begun position formed only fresh = record {
+session_begun engine formed only fresh = record {
   grid = formed.grid;
   bars = only;
   known = formed.dictionary;
@@ -498,6 +498,6 @@ session_begun position formed only fresh = record {
   first = fresh.first;
   begun = refl;
   texts = no_text;
-  clues = no_clues_there position.grid;
+  clues = no_clues_there engine.grid;
   circles = tt;
 }

@@ -31,7 +31,7 @@ pub record IsKept (puzzle : PuzzleShown) : Type 0 where
   pub clues : (direction : Direction) → AreTextsFrom puzzle.grid 0 (clues_of puzzle.clues direction)
   pub circles : AreFrom puzzle.grid 0 puzzle.circles
 
-pub session_on : (words : Dictionary) (puzzle : PuzzleShown) → IsKept puzzle → IsWellFormed (opened_on words puzzle).position → IsFresh words → BeganWith words (opened_on words puzzle)
+pub session_on : (words : Dictionary) (puzzle : PuzzleShown) → IsKept puzzle → IsWellFormed (opened_on words puzzle).engine → IsFresh words → BeganWith words (opened_on words puzzle)
 session_on words puzzle kept formed is = record {
   grid = formed.grid;
   bars = kept.bars;

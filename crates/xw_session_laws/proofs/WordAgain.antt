@@ -20,7 +20,7 @@ use Rattle.xw_commands.specs.declared.command.Command.{Command}
 use Rattle.xw_commands.specs.declared.command.Command.TheVariants.{Add, Strike}
 use Rattle.xw_session.specs.State.{State}
 use Rattle.xw_session.specs.Reply.{reply_to, moved}
-use Rattle.xw_session_laws.specs.Replay.{state_left, replayed, with_words}
+use Rattle.xw_session_laws.specs.Replay.{state_left, left_by, replayed, with_words}
 use Rattle.xw_session_laws.proofs.Replaying.{replayed_both}
 
 -- ---- one element after another
@@ -77,36 +77,36 @@ unlike a b other = elim (cases_Bool (bytes_eq a b)) [ inl same ↦ absurd (other
 
 -- ---- adding a word, and striking a word
 
-module _ (state : State) (word : List ℕ) (entries : List Entry) (fine : IsItself word) (at : row state.position.words (length word) ≡ entries) where
+module _ (state : State) (word : List ℕ) (entries : List Entry) (fine : IsItself word) (at : row state.engine.words (length word) ≡ entries) where
   abbrev words : Dictionary
-  words = state.position.words
+  words = state.engine.words
 
   -- the state with other words of this length
   abbrev with_these : List Entry → State
   with_these es = with_words state (with_row words (length word) es)
 
-  added_so : (grade : Option ℕ) (added : Added) → added_at entries (index_in entries word) ≡ Ok added → state_left (reply_to state (Add word grade)) ≡ Some (with_these (with_added words.least entries word grade added))
+  added_so : (grade : Option ℕ) (added : Added) → added_at entries (index_in entries word) ≡ Ok added → left_by (reply_to state (Add word grade)) ≡ Some (with_these (with_added words.least entries word grade added))
   added_so grade added is =
-      let left : Result Added WordFault → Option State = λ answer. state_left (moved state (with_dictionary state.position (answered (after_add words (map folded word) grade) answer))) in
+      let left : Result Added WordFault → Option State = λ answer. state_left (moved state (with_dictionary state.engine (answered (after_add words (map folded word) grade) answer))) in
       let answer : add_answer words word ≡ Ok added = ap (answer_on add_to words) fine.0 ∙ ap (λ es. add_to es word) at ∙ is in
       ap left answer
       ∙ ap (λ w. Some (with_words state (with_row words (length w) (with_added words.least (row words (length w)) w grade added)))) fine.1
       ∙ ap (λ es. Some (with_these (with_added words.least es word grade added))) at
 
   -- a new word
-  pub added_again : (grade : Option ℕ) → index_in entries word ≡ None → length entries < most_words → state_left (reply_to state (Add word grade)) ≡ Some (with_these (entries ++ new_entry words.least word grade ∷ []))
+  pub added_again : (grade : Option ℕ) → index_in entries word ≡ None → length entries < most_words → left_by (reply_to state (Add word grade)) ≡ Some (with_these (entries ++ new_entry words.least word grade ∷ []))
   added_again grade new room =
       let free : nat_le most_words (length entries) ≡ false = grind (arith, nat_tests, room) in
       added_so grade (New (length entries)) (ap (added_at entries) new ∙ ap (λ b. if b then Err Full else Ok (New (length entries))) free)
 
   -- a word that comes back
   pub returned_again : (grade : Option ℕ) (index : ℕ) → index_in entries word ≡ Some index → (entry_at entries index).active ≡ false
-      → state_left (reply_to state (Add word grade)) ≡ Some (with_these (set entries index (returned words.least grade (entry_at entries index))))
+      → left_by (reply_to state (Add word grade)) ≡ Some (with_these (set entries index (returned words.least grade (entry_at entries index))))
   returned_again grade index known off = added_so grade (Returned index) (ap (added_at entries) known ∙ ap (λ b. if b then Err Known else Ok (Returned index)) off)
 
-  pub struck_again : (index : ℕ) → index_in entries word ≡ Some index → (entry_at entries index).struck ≡ false → state_left (reply_to state (Strike word)) ≡ Some (with_these (with_struck entries index))
+  pub struck_again : (index : ℕ) → index_in entries word ≡ Some index → (entry_at entries index).struck ≡ false → left_by (reply_to state (Strike word)) ≡ Some (with_these (with_struck entries index))
   struck_again index known off =
-      let left : Result ℕ WordFault → Option State = λ answer. state_left (moved state (with_dictionary state.position (answered (after_strike words (map folded word)) answer))) in
+      let left : Result ℕ WordFault → Option State = λ answer. state_left (moved state (with_dictionary state.engine (answered (after_strike words (map folded word)) answer))) in
       let answer : strike_answer words word ≡ Ok index =
       ap (answer_on strike_from words) fine.0 ∙ ap (λ es. strike_from es word) at ∙ ap (struck_at entries) known ∙ ap (λ b. if b then Err Unknown else Ok index) off in
       ap left answer

@@ -83,7 +83,7 @@ module _ (words : Dictionary) (is : IsDictionary words) where
 
 -- ---- the whole dictionary
 
-module _ (state : State) (begun words : Dictionary) (is : IsDictionary words) (was : length begun.rows ≡ 256) (least : begun.least ≡ 0) (now : state.position.words ≡ begun)
+module _ (state : State) (begun words : Dictionary) (is : IsDictionary words) (was : length begun.rows ≡ 256) (least : begun.least ≡ 0) (now : state.engine.words ≡ begun)
     (first : (count : ℕ) → ComeFirst (row begun count) (row words count)) where
   abbrev settled : List (List Entry)
   settled = map (all_limited 0) words.rows
@@ -101,7 +101,7 @@ module _ (state : State) (begun words : Dictionary) (is : IsDictionary words) (w
     within : k < length settled
     within = omega (arith, below, length-settled)
 
-    row_now : row (after k).position.words k ≡ row begun k
+    row_now : row (after k).engine.words k ≡ row begun k
     row_now = mixed_next settled begun.rows as_many k [] within
 
     row_settled : get_or settled k [] ≡ all_limited 0 (row words k)
@@ -117,7 +117,7 @@ module _ (state : State) (begun words : Dictionary) (is : IsDictionary words) (w
           ∙ ap (λ rows. Some (with_words state (record { rows = rows; least = begun.least })))
           (sym (mixed_same settled begun.rows as_many k [] within (none_before ∙ sym (row_settled ∙ ap (all_limited 0) none))))
       | inr several ↦
-          let long : length (after k).position.words.rows ≡ 256 = length-mixed settled begun.rows as_many k [] within ∙ length-settled in
+          let long : length (after k).engine.words.rows ≡ 256 = length-mixed settled begun.rows as_many k [] within ∙ length-settled in
           row_again (after k) k (row words k) (is.words k) several (omega (arith, below)) long least (row begun k) (first k) row_now
           ∙ ap (λ rows. Some (with_words state (record { rows = rows; least = begun.least })))
           (ap (set (mixed settled begun.rows k) k) (sym row_settled) ∙ sym (mixed_more settled begun.rows as_many k [] within))

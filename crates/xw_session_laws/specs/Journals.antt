@@ -24,18 +24,18 @@ IsJournaled start [] bytes end = (bytes ≡ []) × (end ≡ start)
 IsJournaled start (line ∷ lines) bytes end =
     (outcome : Step) × (answer : List ℕ) × (mid : State) × (others : List ℕ)
     × Answers start line outcome answer mid × IsJournaled mid lines others end
-    × (bytes ≡ journal_text start.position.grid line outcome mid.position.grid ++ others)
+    × (bytes ≡ journal_text start.engine.grid line outcome mid.engine.grid ++ others)
 
 -- the lines of a journal, executed in the state where the session started, are all accepted and leave the state where it ended
 abbrev pub JournalsMakeSessionsAgain : Type 0
 JournalsMakeSessionsAgain =
-    (start end : State) (lines : List (List ℕ)) (bytes : List ℕ) → IsGrid start.position.grid → AllHaveNoLf lines → IsJournaled start lines bytes end
+    (start end : State) (lines : List (List ℕ)) (bytes : List ℕ) → IsGrid start.engine.grid → AllHaveNoLf lines → IsJournaled start lines bytes end
     → replayed_lines start (lines_of bytes) ≡ Some end
 
 -- every line of a journal ends with an LF
 abbrev pub JournalsHaveWholeLines : Type 0
 JournalsHaveWholeLines =
-    (start end : State) (lines : List (List ℕ)) (bytes : List ℕ) → IsGrid start.position.grid → AllHaveNoLf lines → IsJournaled start lines bytes end
+    (start end : State) (lines : List (List ℕ)) (bytes : List ℕ) → IsGrid start.engine.grid → AllHaveNoLf lines → IsJournaled start lines bytes end
     → last_piece bytes ≡ []
 
 -- ---- the same laws for the answers of a session
@@ -43,13 +43,13 @@ JournalsHaveWholeLines =
 -- a session that starts in the same state and accepts every line of a journal ends in the same state
 abbrev pub AnsweredJournalsMakeSessionsAgain : Type 0
 AnsweredJournalsMakeSessionsAgain =
-    (start end last : State) (lines : List (List ℕ)) (bytes out : List ℕ) → IsGrid start.position.grid → AllHaveNoLf lines → IsJournaled start lines bytes end
+    (start end last : State) (lines : List (List ℕ)) (bytes out : List ℕ) → IsGrid start.engine.grid → AllHaveNoLf lines → IsJournaled start lines bytes end
     → Spoken Answers start (lines_of bytes) out 0 last → last ≡ end
 
 -- the first line of a journal that a session refuses, if any, is refused for a failed allocation
 abbrev pub JournalsAreRefusedForMemoryOnly : Type 0
 JournalsAreRefusedForMemoryOnly =
-    (start end mid last : State) (lines front rest : List (List ℕ)) (line bytes out answer : List ℕ) → IsGrid start.position.grid → AllHaveNoLf lines → IsJournaled start lines bytes end
+    (start end mid last : State) (lines front rest : List (List ℕ)) (line bytes out answer : List ℕ) → IsGrid start.engine.grid → AllHaveNoLf lines → IsJournaled start lines bytes end
     → lines_of bytes ≡ front ++ line ∷ rest → Spoken Answers start front out 0 mid → Answers mid line Refused answer last
     → WantsMemory mid (command_of line) answer
 
@@ -81,7 +81,7 @@ pub record AreFirstLines (start : State) (lines : List (List ℕ)) (journal : Li
 -- wrote, or not at all, also a search.
 abbrev pub JournalsAreCutAtLines : Type 0
 JournalsAreCutAtLines =
-    (start end : State) (lines : List (List ℕ)) (journal front rest : List ℕ) → IsGrid start.position.grid → AllHaveNoLf lines → IsJournaled start lines journal end
+    (start end : State) (lines : List (List ℕ)) (journal front rest : List ℕ) → IsGrid start.engine.grid → AllHaveNoLf lines → IsJournaled start lines journal end
     → journal ≡ front ++ rest → AreFirstLines start lines journal end (complete (ended_lines front))
 
 -- The lines of a file that count leave the state after some first lines of a journal.
@@ -93,7 +93,7 @@ pub record KeepsFirstLines (start : State) (lines : List (List ℕ)) (journal : 
 -- The first bytes of the file of a journal have a part of its first line only, or keep the first lines of the journal.
 abbrev pub JournalFilesAreCutAtLines : Type 0
 JournalFilesAreCutAtLines =
-    (start end : State) (lines : List (List ℕ)) (journal front rest : List ℕ) → IsGrid start.position.grid → AllHaveNoLf lines → IsJournaled start lines journal end
+    (start end : State) (lines : List (List ℕ)) (journal front rest : List ℕ) → IsGrid start.engine.grid → AllHaveNoLf lines → IsJournaled start lines journal end
     → first_line ++ journal ≡ front ++ rest → (is_part front ≡ true) ⊎ KeepsFirstLines start lines journal end front
 
 -- ---- the journal of a run
@@ -114,7 +114,7 @@ pub record HasJournaled (start : JournaledState) (lines : List (List ℕ)) (end 
 -- a run that answered these lines wrote their journal
 abbrev pub RunsAreJournaled : Type 0
 RunsAreJournaled =
-    (start end : JournaledState) (lines : List (List ℕ)) (out : List ℕ) (refused : ℕ) → IsGrid start.state.position.grid → All AreBytes lines
+    (start end : JournaledState) (lines : List (List ℕ)) (out : List ℕ) (refused : ℕ) → IsGrid start.state.engine.grid → All AreBytes lines
     → Spoken AnswersJournaled start lines out refused end → HasJournaled start lines end
 
 -- some first bytes of a journal of these lines were written between two moments
@@ -129,14 +129,14 @@ pub record HasBegunJournal (start : JournaledState) (lines : List (List ℕ)) (e
 -- If the writer failed, the journal is that of the lines up to the one whose answer was not finished, and has its whole text.
 abbrev pub BrokenRunsAreJournaled : Type 0
 BrokenRunsAreJournaled =
-    (start end : JournaledState) (text begun transcript : List ℕ) → IsGrid start.state.position.grid → AreBytes text
+    (start end : JournaledState) (text begun transcript : List ℕ) → IsGrid start.state.engine.grid → AreBytes text
     → StopsIn AnswersJournaled (BreaksOff AnswersJournaled) start text end begun transcript
     → (lines : List (List ℕ)) × (others : List (List ℕ)) × (lines_of text ≡ lines ++ others) × HasJournaled start lines end
 
 -- If the session stopped, first bytes of the journal of the lines up to the one where it stopped were written.
 abbrev pub StoppedRunsAreJournaled : Type 0
 StoppedRunsAreJournaled =
-    (start end : JournaledState) (text begun transcript : List ℕ) → IsGrid start.state.position.grid → AreBytes text
+    (start end : JournaledState) (text begun transcript : List ℕ) → IsGrid start.state.engine.grid → AreBytes text
     → StopsIn AnswersJournaled StopsAtJournal start text end begun transcript
     → (lines : List (List ℕ)) × (others : List (List ℕ)) × (lines_of text ≡ lines ++ others) × HasBegunJournal start lines end
 
@@ -145,13 +145,13 @@ StoppedRunsAreJournaled =
 -- its lines, executed in the state where the session started, are all accepted and leave the state where the session ended
 abbrev pub JournaledRunsAreMadeAgain : Type 0
 JournaledRunsAreMadeAgain =
-    (start end : JournaledState) (lines : List (List ℕ)) → IsGrid start.state.position.grid → AllHaveNoLf lines → without_flushes start.journal ≡ []
+    (start end : JournaledState) (lines : List (List ℕ)) → IsGrid start.state.engine.grid → AllHaveNoLf lines → without_flushes start.journal ≡ []
     → HasJournaled start lines end → replayed_lines start.state (lines_of (without_flushes end.journal)) ≡ Some end.state
 
 -- its lines that count are the first lines of such a journal
 abbrev pub BegunJournalsAreMadeAgain : Type 0
 BegunJournalsAreMadeAgain =
-    (start end : JournaledState) (lines : List (List ℕ)) → IsGrid start.state.position.grid → AllHaveNoLf lines → without_flushes start.journal ≡ []
+    (start end : JournaledState) (lines : List (List ℕ)) → IsGrid start.state.engine.grid → AllHaveNoLf lines → without_flushes start.journal ≡ []
     → (begun : HasBegunJournal start lines end) → AreFirstLines start.state lines begun.bytes end.state (complete (ended_lines (without_flushes end.journal)))
 
 -- the lines of a text have no LF, and only bytes of the text
@@ -187,7 +187,7 @@ pub record LeavesJournal {R : Type 0} (read : R → List ℕ) (result : RunEnd) 
 -- every run with an empty journal does so, however it ends
 abbrev pub RunsLeaveJournals : {R W : Type 0} → (R → List ℕ) → (R → Bool) → (R → ℕ) → (W → List ℕ) → (W → ℕ) → Type 0
 RunsLeaveJournals {R} {W} read is_at_end read_failures written write_failures =
-    (result : RunEnd) (start end : JournaledState) (source source' : R) (sink sink' : W) → IsGrid start.state.position.grid → AreBytes (read source')
+    (result : RunEnd) (start end : JournaledState) (source source' : R) (sink sink' : W) → IsGrid start.state.engine.grid → AreBytes (read source')
     → without_flushes start.journal ≡ []
     → IsRun AnswersJournaled StopsAtJournal read is_at_end read_failures written write_failures result start end source source' sink sink'
     → LeavesJournal read result start end source source'

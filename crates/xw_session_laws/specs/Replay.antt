@@ -11,7 +11,7 @@ use Rattle.xw_grid.specs.declared.cell.Side.{Side}
 use Rattle.xw_grid.specs.Grid.{Grid, IsGrid, is_inside, is_edge, bars, index_of}
 use Rattle.xw_grid.specs.Edit.{blank}
 use Rattle.xw_grid.specs.Clue.{Texts, ClueMap, no_clues}
-use Rattle.xw_feas.specs.State.{State as Position}
+use Rattle.xw_feas.specs.State.{State as EngineState}
 use Rattle.xw_feas.specs.WellFormed.{IsWellFormed}
 use Rattle.xw_files.specs.declared.fault.ReadFault.{ReadFault}
 use Rattle.xw_grid.specs.Puzzle.{PuzzleShown}
@@ -38,15 +38,20 @@ abbrev pub state_left : Result Reply Refusal → Option State
 state_left (Ok reply) = Some reply.state
 state_left (Err refusal) = None
 
+-- the state after the one reply to a command, or None if it is refused or has no single reply
+abbrev pub left_by : Option (Result Reply Refusal) → Option State
+left_by None = None
+left_by (Some reply) = state_left reply
+
 -- the state after all these commands, or None if one is refused
 abbrev pub replayed : State → List Command → Option State
 replayed state [] = Some state
-replayed state (command ∷ commands) = option_and_then (λ next. replayed next commands) (state_left (reply_to state command))
+replayed state (command ∷ commands) = option_and_then (λ next. replayed next commands) (left_by (reply_to state command))
 
 -- the same for lines
 abbrev pub left_by_line : State → Result (Option Command) SyntaxFault → Option State
 left_by_line state (Ok None) = Some state
-left_by_line state (Ok (Some command)) = state_left (reply_to state command)
+left_by_line state (Ok (Some command)) = left_by (reply_to state command)
 left_by_line state (Err fault) = None
 
 abbrev pub replayed_lines : State → List (List ℕ) → Option State
@@ -60,11 +65,11 @@ bared (Open entered) = Open None
 
 -- the state with its grid replaced
 abbrev pub with_grid : State → Grid → State
-with_grid state grid = record state { position = record state.position { grid = grid } }
+with_grid state grid = record state { engine = record state.engine { grid = grid } }
 
 -- the state with its dictionary replaced
 abbrev pub with_words : State → Dictionary → State
-with_words state words = record state { position = record state.position { words = words } }
+with_words state words = record state { engine = record state.engine { words = words } }
 
 -- ---- the invariant of a session
 
@@ -113,16 +118,16 @@ clues_of clues Down = clues.down
 
 -- the invariant of a session that started with these words
 pub record BeganWith (words : Dictionary) (state : State) : Type 0 where
-  pub grid : IsGrid state.position.grid
-  pub bars : BarsAreOnEdges state.position.grid
+  pub grid : IsGrid state.engine.grid
+  pub bars : BarsAreOnEdges state.engine.grid
   pub known : IsDictionary words
   pub least : words.least ≡ 0
-  pub dictionary : IsDictionary state.position.words
-  pub first : (count : ℕ) → ComeFirst (row words count) (row state.position.words count)
+  pub dictionary : IsDictionary state.engine.words
+  pub first : (count : ℕ) → ComeFirst (row words count) (row state.engine.words count)
   pub begun : state.begun ≡ known_counts words
   pub texts : (name : TextField) → has_nul (text_of_field state.texts name) ≡ false
-  pub clues : (direction : Direction) → AreTextsFrom state.position.grid 0 (clues_of state.clues direction)
-  pub circles : AreFrom state.position.grid 0 state.circles
+  pub clues : (direction : Direction) → AreTextsFrom state.engine.grid 0 (clues_of state.clues direction)
+  pub circles : AreFrom state.engine.grid 0 state.circles
 
 -- no word is left out or struck, and none came back with another grade
 pub record IsFresh (words : Dictionary) : Type 0 where
@@ -132,20 +137,20 @@ pub record IsFresh (words : Dictionary) : Type 0 where
 -- a session started on a dictionary to which nothing was done, with no texts, clues and circles, meets the invariant
 abbrev pub SessionsBegin : Type 0
 SessionsBegin =
-    (position : Position) → IsWellFormed position → BarsAreOnEdges position.grid → IsFresh position.words
-    → BeganWith position.words (record {
-      position = position;
+    (engine : EngineState) → IsWellFormed engine → BarsAreOnEdges engine.grid → IsFresh engine.words
+    → BeganWith engine.words (record {
+      engine = engine;
       texts = record { title = []; author = []; copyright = []; notes = [] };
       clues = no_clues;
       circles = [];
       is_watched = false;
-      begun = known_counts position.words;
+      begun = known_counts engine.words;
     })
 
 -- the state of a session opened with a dictionary and a puzzle
 abbrev pub opened_on : Dictionary → PuzzleShown → State
 opened_on words puzzle = record {
-  position = record { grid = puzzle.grid; words = words };
+  engine = record { grid = puzzle.grid; words = words };
   texts = puzzle.texts;
   clues = puzzle.clues;
   circles = puzzle.circles;
@@ -156,14 +161,14 @@ opened_on words puzzle = record {
 -- a session opened on the puzzle of some bytes, with a dictionary to which nothing was done, meets the invariant
 abbrev pub SessionsOpen : (List ℕ → Result PuzzleShown ReadFault) → Type 0
 SessionsOpen spelled =
-    (words : Dictionary) (bytes : List ℕ) (puzzle : PuzzleShown) → spelled bytes ≡ Ok puzzle → IsWellFormed (opened_on words puzzle).position → IsFresh words
+    (words : Dictionary) (bytes : List ℕ) (puzzle : PuzzleShown) → spelled bytes ≡ Ok puzzle → IsWellFormed (opened_on words puzzle).engine → IsFresh words
     → BeganWith words (opened_on words puzzle)
 
 -- Every line keeps the invariant. The contract of the engine gives the well-formedness of the new state.
 abbrev pub SessionsStay : Type 0
 SessionsStay =
     (words : Dictionary) (state next : State) (line : List ℕ) (outcome : Step) (answer : List ℕ) → BeganWith words state → Answers state line outcome answer next
-    → IsWellFormed next.position → BeganWith words next
+    → IsWellFormed next.engine → BeganWith words next
 
 -- ---- the laws of records
 
@@ -171,7 +176,7 @@ SessionsStay =
 -- rebuild its state, except for the word counts at the start.
 abbrev pub CommandsMakeSessionsAgain : Type 0
 CommandsMakeSessionsAgain =
-    (words : Dictionary) (made state : State) → BeganWith words made → state.position.words ≡ words
+    (words : Dictionary) (made state : State) → BeganWith words made → state.engine.words ≡ words
     → replayed state (record_commands made) ≡ Some (record made { begun = state.begun })
 
 -- each line of a record parses as its command
@@ -183,7 +188,7 @@ LinesAreReadAgain =
 -- the lines of a record rebuild the state too
 abbrev pub LinesMakeSessionsAgain : Type 0
 LinesMakeSessionsAgain =
-    (words : Dictionary) (made state : State) → BeganWith words made → state.position.words ≡ words
+    (words : Dictionary) (made state : State) → BeganWith words made → state.engine.words ≡ words
     → replayed_lines state (lines_of (record_lines made)) ≡ Some (record made { begun = state.begun })
 
 -- ---- the same laws for the answers of a session
@@ -197,12 +202,12 @@ WantsMemory state (Err fault) answer = ⊥
 -- a session that starts with the same words and accepts every line of a record ends in the recorded state
 abbrev pub AnsweredLinesMakeSessionsAgain : Type 0
 AnsweredLinesMakeSessionsAgain =
-    (words : Dictionary) (made state last : State) (out : List ℕ) → BeganWith words made → state.position.words ≡ words
+    (words : Dictionary) (made state last : State) (out : List ℕ) → BeganWith words made → state.engine.words ≡ words
     → Spoken Answers state (lines_of (record_lines made)) out 0 last → last ≡ record made { begun = state.begun }
 
 -- the first line of a record that a session refuses, if any, is refused for a failed allocation
 abbrev pub RecordsAreRefusedForMemoryOnly : Type 0
 RecordsAreRefusedForMemoryOnly =
-    (words : Dictionary) (made state mid last : State) (front rest : List (List ℕ)) (line out answer : List ℕ) → BeganWith words made → state.position.words ≡ words
+    (words : Dictionary) (made state mid last : State) (front rest : List (List ℕ)) (line out answer : List ℕ) → BeganWith words made → state.engine.words ≡ words
     → lines_of (record_lines made) ≡ front ++ line ∷ rest → Spoken Answers state front out 0 mid → Answers mid line Refused answer last
     → WantsMemory mid (command_of line) answer

@@ -26,11 +26,11 @@ LinesAreResumed =
 -- a record that is resumed in a session with the same words at the start rebuilds the recorded state
 abbrev pub RecordsAreResumed : Type 0
 RecordsAreResumed =
-    (words : Dictionary) (made start left : State) (name told : List ℕ) (result : Result ℕ Stop) → BeganWith words made → start.position.words ≡ words
+    (words : Dictionary) (made start left : State) (name told : List ℕ) (result : Result ℕ Stop) → BeganWith words made → start.engine.words ≡ words
     → Resumes name start (lines_of (record_lines made)) result told left → IsRebuilt (record made { begun = start.begun }) result told left
 
 -- a journal that is resumed in the state where its session started leaves the state where that session ended
 abbrev pub JournalsAreResumed : Type 0
 JournalsAreResumed =
-    (start end left : State) (lines : List (List ℕ)) (bytes name told : List ℕ) (result : Result ℕ Stop) → IsGrid start.position.grid → AllHaveNoLf lines
+    (start end left : State) (lines : List (List ℕ)) (bytes name told : List ℕ) (result : Result ℕ Stop) → IsGrid start.engine.grid → AllHaveNoLf lines
     → IsJournaled start lines bytes end → Resumes name start (lines_of bytes) result told left → IsRebuilt end result told left

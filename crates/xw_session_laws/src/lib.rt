@@ -66,32 +66,32 @@ pub fn commands_follow_one_another()
 /// done to it, and the least grade. The session must start with the same words, and nothing done to them: none is left
 /// out or struck, and a word of the start has another grade now only if it came back with it.
 pub fn words_are_made_again()
-    ensures { (state made : State) → IsDictionary state.position.words → IsDictionary made.position.words
-        → state.position.words.least ≡ 0
-        → made.begun ≡ known_counts state.position.words
-        → ((count : ℕ) → ComeFirst (row state.position.words count) (row made.position.words count))
-        → replayed state (section_commands made sections.Words) ≡ Some (with_words state made.position.words) }
+    ensures { (state made : State) → IsDictionary state.engine.words → IsDictionary made.engine.words
+        → state.engine.words.least ≡ 0
+        → made.begun ≡ known_counts state.engine.words
+        → ((count : ℕ) → ComeFirst (row state.engine.words count) (row made.engine.words count))
+        → replayed state (section_commands made sections.Words) ≡ Some (with_words state made.engine.words) }
 {}
 
 /// The text commands of a record put a text of any length into its field.
 pub fn texts_are_made_again()
-    ensures { (state : State) (field : Field) (text : List ℕ) → has_target state.position.grid (target_of field) ≡ true → has_nul text ≡ false
+    ensures { (state : State) (field : Field) (text : List ℕ) → has_target state.engine.grid (target_of field) ≡ true → has_nul text ≡ false
         → replayed state (text_commands field text) ≡ Some (with_text_at state (target_of field) text) }
 {}
 
 /// The `size` command of a record gives a blank grid of this size without clues and circles, `sym` restores the
 /// symmetry, and `watch` turns the watch on or off.
 pub fn size_symmetry_and_watch_are_made_again()
-    ensures size { (state made : State) → IsGrid made.position.grid
+    ensures size { (state made : State) → IsGrid made.engine.grid
         → replayed state (section_commands made sections.Size) ≡ Some (record state {
-          position = record { grid = blank made.position.grid.width made.position.grid.height; words = state.position.words };
+          engine = record { grid = blank made.engine.grid.width made.engine.grid.height; words = state.engine.words };
           clues = no_clues;
           circles = [];
         }) }
-    ensures symmetry { (state made : State) → IsGrid made.position.grid
-        → state.position.grid.width ≡ made.position.grid.width → state.position.grid.height ≡ made.position.grid.height
+    ensures symmetry { (state made : State) → IsGrid made.engine.grid
+        → state.engine.grid.width ≡ made.engine.grid.width → state.engine.grid.height ≡ made.engine.grid.height
         → replayed state (section_commands made sections.Symmetry) ≡ Some (record state {
-          position = record state.position { grid = record state.position.grid { symmetry = made.position.grid.symmetry } };
+          engine = record state.engine { grid = record state.engine.grid { symmetry = made.engine.grid.symmetry } };
         }) }
     ensures watch { (state made : State)
         → replayed state (section_commands made sections.Watch) ≡ Some (record state { is_watched = made.is_watched }) }
@@ -100,50 +100,50 @@ pub fn size_symmetry_and_watch_are_made_again()
 /// The circle commands of a record, executed on a blank grid, restore the circles of all cells of the grid, also those
 /// on blocks.
 pub fn circles_are_made_again()
-    ensures { (state made : State) → IsGrid made.position.grid
-        → replayed (record (with_grid state (blank made.position.grid.width made.position.grid.height)) { circles = [] }) (section_commands made (sections.Cells parts.Circles))
-        ≡ Some (record (with_grid state (blank made.position.grid.width made.position.grid.height)) { circles = filter (is_circled made.circles) (cells made.position.grid) }) }
+    ensures { (state made : State) → IsGrid made.engine.grid
+        → replayed (record (with_grid state (blank made.engine.grid.width made.engine.grid.height)) { circles = [] }) (section_commands made (sections.Cells parts.Circles))
+        ≡ Some (record (with_grid state (blank made.engine.grid.width made.engine.grid.height)) { circles = filter (is_circled made.circles) (cells made.engine.grid) }) }
 {}
 
 /// Circles stored in reading order, all inside the grid, equal the list of circled cells of the grid.
 pub fn circles_are_kept_in_order()
-    ensures { (state : State) → AreFrom state.position.grid 0 state.circles
-        → filter (is_circled state.circles) (cells state.position.grid) ≡ state.circles }
+    ensures { (state : State) → AreFrom state.engine.grid 0 state.circles
+        → filter (is_circled state.circles) (cells state.engine.grid) ≡ state.circles }
 {}
 
 /// The clue commands of a record restore all clues, also those without a light.
 pub fn clues_are_made_again()
-    ensures { (state made : State) → IsGrid made.position.grid
-        → ((direction : Direction) → AreTextsFrom made.position.grid 0 (clues_of made.clues direction))
-        → replayed (record (with_grid state made.position.grid) { clues = no_clues })
+    ensures { (state made : State) → IsGrid made.engine.grid
+        → ((direction : Direction) → AreTextsFrom made.engine.grid 0 (clues_of made.clues direction))
+        → replayed (record (with_grid state made.engine.grid) { clues = no_clues })
         (section_commands made (sections.Cells (parts.Clues Across)) ++ section_commands made (sections.Cells (parts.Clues Down)))
-        ≡ Some (record (with_grid state made.position.grid) { clues = made.clues }) }
+        ≡ Some (record (with_grid state made.engine.grid) { clues = made.clues }) }
 {}
 
 /// The bar commands of a record, executed on a blank grid, restore the bars: first those right of cells, then those
 /// below. The grid must have no bar on its border.
 pub fn bars_are_made_again()
-    ensures right { (state made : State) → IsGrid made.position.grid → BarsAreOnEdges made.position.grid
-        → replayed (with_grid state (blank made.position.grid.width made.position.grid.height)) (section_commands made (sections.Cells (parts.Bars Right)))
-        ≡ Some (with_grid state (barred_right made.position.grid)) }
-    ensures below { (state made : State) → IsGrid made.position.grid → BarsAreOnEdges made.position.grid
-        → replayed (with_grid state (barred_right made.position.grid)) (section_commands made (sections.Cells (parts.Bars Below)))
-        ≡ Some (with_grid state (barred made.position.grid)) }
+    ensures right { (state made : State) → IsGrid made.engine.grid → BarsAreOnEdges made.engine.grid
+        → replayed (with_grid state (blank made.engine.grid.width made.engine.grid.height)) (section_commands made (sections.Cells (parts.Bars Right)))
+        ≡ Some (with_grid state (barred_right made.engine.grid)) }
+    ensures below { (state made : State) → IsGrid made.engine.grid → BarsAreOnEdges made.engine.grid
+        → replayed (with_grid state (barred_right made.engine.grid)) (section_commands made (sections.Cells (parts.Bars Below)))
+        ≡ Some (with_grid state (barred made.engine.grid)) }
 {}
 
 /// The block commands of a record, executed on an empty grid without symmetry, restore exactly the blocks.
 pub fn blocks_are_made_again()
-    ensures { (state made : State) → IsGrid made.position.grid
-        → replayed (with_grid state (record made.position.grid { squares = replicate (made.position.grid.width * made.position.grid.height) (Open None); symmetry = kinds.None }))
+    ensures { (state made : State) → IsGrid made.engine.grid
+        → replayed (with_grid state (record made.engine.grid { squares = replicate (made.engine.grid.width * made.engine.grid.height) (Open None); symmetry = kinds.None }))
         (section_commands made (sections.Cells parts.Blocks))
-        ≡ Some (with_grid state (record made.position.grid { squares = map bared made.position.grid.squares; symmetry = kinds.None })) }
+        ≡ Some (with_grid state (record made.engine.grid { squares = map bared made.engine.grid.squares; symmetry = kinds.None })) }
 {}
 
 /// The letter commands of a record, executed on a grid that has the blocks but no letters, restore the grid.
 pub fn letters_are_made_again()
-    ensures { (state made : State) → IsGrid made.position.grid
-        → replayed (with_grid state (record made.position.grid { squares = map bared made.position.grid.squares })) (section_commands made (sections.Cells parts.Letters))
-        ≡ Some (with_grid state made.position.grid) }
+    ensures { (state made : State) → IsGrid made.engine.grid
+        → replayed (with_grid state (record made.engine.grid { squares = map bared made.engine.grid.squares })) (section_commands made (sections.Cells parts.Letters))
+        ≡ Some (with_grid state made.engine.grid) }
 {}
 
 /// The commands of a record, executed in order, rebuild the session.

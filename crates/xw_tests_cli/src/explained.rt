@@ -2,11 +2,11 @@
 use std::cell::Cell;
 use std::process::Abort;
 use std::test::Fail;
-use xw_cli::arguments::Usage;
-use xw_cli::explaining::explain;
-use xw_cli::failure::Status;
-use xw_cli::outlet::Output;
+use xw_arguments::Usage;
 use xw_lines::ToWrite;
+use xw_puzzle_files::explaining::explain;
+use xw_puzzle_files::failure::Status;
+use xw_puzzle_files::outlet::Output;
 
 /// The expected status and output.
 #[derive(Clone, Copy)]

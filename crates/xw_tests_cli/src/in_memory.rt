@@ -7,8 +7,6 @@ use std::cell::Cell;
 use std::io::{self, ErrorKind, Write};
 use std::process::Abort;
 use std::test::Fail;
-use xw_cli::failure::Status;
-use xw_cli::outlet::{Output, Watched};
 use xw_cli::start::answer_words;
 use xw_disk::appended::JournalWriter;
 use xw_disk::asked::Asked;
@@ -16,6 +14,8 @@ use xw_disk::log::DiskLog;
 use xw_disk::{Disk, DiskFault, Start};
 use xw_lines::{FromRead, ToWrite};
 use xw_plain::plain::Plain;
+use xw_puzzle_files::failure::Status;
+use xw_puzzle_files::outlet::{Errors, Output, Watched};
 
 /// A puzzle of 2 by 2 cells as a text file.
 const TEXT: &[u8] =
@@ -302,7 +302,7 @@ fn passes(rt: &(impl Abort + AllocGlobal), case: &Case, at: usize) -> Result<(),
         case.words,
         &mut FromRead::new(case.input),
         &mut Output::new(ToWrite::new(Watched::new(full, &mark)), &mark),
-        &mut ToWrite::new(&mut errors),
+        &mut Errors::new(ToWrite::new(&mut errors), false),
     );
     assert_eq!(rt; status, case.status, "of case {at}");
     if case.status != Status::Usage {

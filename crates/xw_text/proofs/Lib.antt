@@ -1,3 +1,4 @@
 pub mod Position
 pub mod LineLemmas
 pub mod FirstLineLemmas
+pub mod DigitLemmas

@@ -1,4 +1,5 @@
-//! The lines of a text: what they are, and how to split off the first one.
+//! The lines of a text and its numbers: what they are, how to split off the first line, and the value of digits.
 #![tactic(auto)]
 
+pub mod digits;
 pub mod lines;

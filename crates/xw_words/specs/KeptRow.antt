@@ -1,16 +1,16 @@
 -- How a `Row` represents the words of one length.
-use Rattle.std.specs.Prelude.{◌≡◌, ℕ, ◌+◌, ◌*◌, ◌/◌, ◌%◌, ◌<◌, ◌≤◌, length, nat_lt, ◌&&◌, vec_capacity}
+use Rattle.std.specs.Prelude.{◌≡◌, ℕ, ◌+◌, ◌*◌, ◌/◌, ◌%◌, ◌<◌, ◌≤◌, length, nat_lt, vec_capacity}
 use Rattle.xw_words.specs.Row.{Row, entries_of}
 use Rattle.xw_words.specs.Index.{word_in, IsIndex}
 use Rattle.xw_words.specs.Columns.{column_at, IsColumn}
 use Rattle.xw_words.specs.declared.row.Row.TheInside.{Inside}
 
--- the words that the representation stands for; it has room if `reserved` and the index have room
+-- the words that the representation stands for
 abbrev pub row_of : Inside → Row
-row_of r = record { word_len = r.word_len; entries = entries_of r.word_len r.letters.items r.active.bits r.marks.items; room = nat_lt (length r.active.bits) r.reserved && r.index.room }
+row_of r = record { word_len = r.word_len; entries = entries_of r.word_len r.letters.items r.active.bits r.marks.items; room = nat_lt (length r.active.bits) r.reserved }
 
--- the invariant of a row: letters, flags, marks, index and columns describe the same words; all but the
--- index, which reserves its own room, have room for `reserved` words
+-- the invariant of a row: letters, flags, marks, index and columns describe the same words, and have room for
+-- `reserved` words
 pub record IsKeptRow (r : Inside) : Type 0 where
   pub short : r.word_len ≤ 255
   pub letters : length r.letters.items ≡ length r.active.bits * r.word_len
@@ -19,7 +19,9 @@ pub record IsKeptRow (r : Inside) : Type 0 where
   pub within : length r.active.bits ≤ r.reserved
   pub reserved_few : r.reserved ≤ 1048576
   pub long : 0 < r.reserved → 2 ≤ r.word_len
-  pub index : IsIndex (word_in r.word_len r.letters.items) (length r.active.bits) r.index.indices
+  pub index : IsIndex (word_in r.word_len r.letters.items) (length r.active.bits) r.index
+  pub index_heads : 0 < r.reserved → 0 < length r.index.heads
+  pub index_room : r.reserved ≤ r.index.room
   pub column_count : length r.columns.items ≤ 26 * r.word_len
   pub all_columns : 0 < r.reserved → length r.columns.items ≡ 26 * r.word_len
   pub columns : (i : ℕ) → i < length r.columns.items → IsColumn (entries_of r.word_len r.letters.items r.active.bits r.marks.items) (i / 26) (65 + i % 26) (column_at r.columns.items i).bits

@@ -1,17 +1,16 @@
 //! The grade that a line of a word list gives its word.
-ghost use Rattle.std.specs.Prelude.{◌≡◌, true, position, reverse};
-ghost use Rattle.std.specs.List.{list_all};
-ghost use Rattle.std.specs.Str.Parse.{digits_value};
+ghost use Rattle.std.specs.Prelude.{◌≡◌, position, reverse};
 ghost use Rattle.xw_words.specs.Dictionary.{capped};
-ghost use Rattle.xw_words.specs.WordList.{is_semicolon as is_semicolon_byte, is_blank as is_blank_byte, is_ink as is_ink_byte, is_digit as is_digit_byte, is_number as is_number_text, is_negative as is_negative_text, after_semicolon as text_after_semicolon, before_semicolon as text_before_semicolon, trimmed_start as text_trimmed_at_start, trimmed_end as text_trimmed_at_end, score_field as score_field_of, score_in as score_in_field, score_of};
+ghost use Rattle.xw_words.specs.WordList.{is_semicolon as is_semicolon_byte, is_blank as is_blank_byte, is_ink as is_ink_byte, is_negative as is_negative_text, after_semicolon as text_after_semicolon, before_semicolon as text_before_semicolon, trimmed_start as text_trimmed_at_start, trimmed_end as text_trimmed_at_end, score_field as score_field_of, score_in as score_in_field, score_of};
 
 use crate::row::BEST_GRADE;
+use xw_text::digits::{is_number, value};
 
 /// The maximum number of digits of a score.
 const MOST_DIGITS: usize = 9;
 
 /// The score of a line that gives none.
-const USUAL_SCORE: u32 = 50;
+const USUAL_SCORE: u64 = 50;
 
 fn first_semicolon(text: &[u8]) -> Option<usize>
     ensures { result ≡ position is_semicolon_byte text.now }
@@ -90,49 +89,19 @@ fn score_field(line: &[u8]) -> &[u8]
     trimmed_end(trimmed_start(before_semicolon(after_semicolon(line))))
 }
 
-fn is_digit(byte: u8) -> bool
-    ensures { result ≡ is_digit_byte byte }
-{
-    byte.is_ascii_digit()
-}
-
-fn all_digits(text: &[u8]) -> bool
-    ensures { result ≡ list_all is_digit_byte text.now }
-{
-    text.iter().all(|byte| is_digit(*byte))
-}
-
-/// Whether a text is 1 to 9 decimal digits.
-fn is_number(text: &[u8]) -> bool
-    ensures { result ≡ is_number_text text.now }
-{
-    (1..=MOST_DIGITS).contains(&text.len()) && all_digits(text)
-}
-
 /// Whether a text is a minus sign and a number.
 fn is_negative(text: &[u8]) -> bool
     ensures { result ≡ is_negative_text text.now }
 {
-    text.starts_with(b"-") && is_number(&text[1..])
-}
-
-/// The value of decimal digits.
-fn value(digits: &[u8]) -> u32
-    requires { is_number_text digits.now ≡ true }
-    ensures { result ≡ digits_value 10 digits.now }
-{
-    let mut value = 0;
-    for digit in digits {
-        value = 10 * value + u32::from(*digit - b'0');
-    }
-    value
+    text.starts_with(b"-") && is_number(&text[1..], MOST_DIGITS)
 }
 
 /// The score that a field gives: its number, 0 for a negative one, 50 for anything else.
-fn score_in(field: &[u8]) -> u32
+#[tactic(auto, using(xw_text::proofs::DigitLemmas::nine_digits))]
+fn score_in(field: &[u8]) -> u64
     ensures { result ≡ score_in_field field.now }
 {
-    if is_number(field) {
+    if is_number(field, MOST_DIGITS) {
         value(field)
     } else if is_negative(field) {
         0
@@ -145,5 +114,5 @@ fn score_in(field: &[u8]) -> u32
 pub fn grade_of(line: &[u8]) -> u8
     ensures { result ≡ capped (score_of line.now) }
 {
-    score_in(score_field(line)).min(u32::from(BEST_GRADE)) as u8
+    score_in(score_field(line)).min(u64::from(BEST_GRADE)) as u8
 }

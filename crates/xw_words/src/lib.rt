@@ -2,7 +2,6 @@
 #![tactic(auto)]
 
 pub mod bank;
-mod block;
 mod columns;
 pub mod counted;
 pub mod fault;

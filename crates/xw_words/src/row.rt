@@ -293,24 +293,6 @@ impl Row {
         self.index.find(&self.letters, word)
     }
 
-    /// Notes where a word is or belongs in the index, so that a search for it is short.
-    fn note(&mut self, word: &[Letter])
-        requires { length word.now ≡ self.old.word_len }
-        ensures { self.new ≡ self.old }
-    {
-        self.index.note(&self.letters, word);
-    }
-
-    /// Like `find`. It notes where the word belongs, so that adding it is quick.
-    fn seek(&mut self, word: &[Letter]) -> Option<usize>
-        requires { length word.now ≡ self.old.word_len }
-        ensures same { self.new ≡ self.old }
-        ensures index { result ≡ index_in self.old.entries word.now }
-    {
-        self.note(word);
-        self.find(word)
-    }
-
     /// A bit for each word: whether it is active.
     pub fn active_row(&self) -> &BitRow
         ensures len { length result.now.bits ≡ length self.now.entries }
@@ -468,7 +450,7 @@ impl Row {
         ensures room_at_err { OnErr result (self.new.room ≡ self.old.room) }
         ensures room_at_return { (index : ℕ) → result ≡ Ok (Added.Returned index) → self.new.room ≡ self.old.room }
     {
-        match self.seek(word) {
+        match self.find(word) {
             Some(index) => self.add_again(index, grade, least),
             None => self.add_new(alloc, word, grade, least),
         }
@@ -578,12 +560,13 @@ impl Row {
         ensures refused { IfErr result (λ fault. fault ≡ WordFault.Memory) }
         ensures err { OnErr result (self.new.room ≡ self.old.room) }
     {
-        self.index.reserve(alloc)?;
         let known = self.active.len();
         if known < self.reserved {
             return Ok(());
         }
         let words = grown(known, expected);
+        self.index
+            .reserve(alloc, &self.letters, self.word_len, words)?;
         grow_columns(alloc, &mut self.columns, LETTERS * self.word_len, words)?;
         reserve_words(
             &mut self.active,
@@ -607,7 +590,7 @@ impl Row {
         ensures long { 2 ≤ length word.now }
     {
         let index = self.active.len();
-        self.index.insert(&self.letters, word, index as u32);
+        self.index.insert(word);
         push_word(&mut self.columns, word, index);
         self.active.push(true);
         let grade = grade_or(least, grade, BEST_GRADE);

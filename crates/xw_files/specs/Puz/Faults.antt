@@ -71,7 +71,7 @@ IsWrong fields Cib = fields.header.cib_sum ≢ (sums_of fields).cib
 IsWrong fields File = fields.header.file_sum ≢ (sums_of fields).file
 IsWrong fields (Masked k) = (1 ≤ k) × (k ≤ 8) × (slice_index fields.header.masked (k - 1) ≢ slice_index (masked_of (sums_of fields)) (k - 1))
 
--- This fault holds of the bytes, whether or not others do. `Memory` and the faults of text files hold of no bytes.
+-- The bytes have this fault, whether or not they have others. No bytes have `Memory` or a fault of text files.
 abbrev pub HasFault : List ℕ → ReadFault → Type 0
 HasFault bytes (Short part.Header) = length bytes < 52
 HasFault bytes Magic = part_at 2 12 bytes ≢ magic

@@ -22,8 +22,8 @@ BytesAreCut = (bytes : List ℕ) → AreBytes bytes → (sections : List Section
 abbrev pub CutsAreOne : Type 0
 CutsAreOne = (bytes : List ℕ) (sections others : List Section) (tail end : List ℕ) → AreSections bytes sections tail → AreSections bytes others end → (sections ≡ others) × (tail ≡ end)
 
--- What is written reads back with the same file part, even with bytes appended. If no open cell is circled, the appended
--- bytes must have no GEXT section.
+-- What is written reads back with the same file part, even with bytes appended. If no open cell is circled, the
+-- appended bytes must have no GEXT section.
 abbrev pub WrittenIsRead : Type 0
 WrittenIsRead = (puzzle : PuzzleShown) (bytes tail : List ℕ) → IsGrid puzzle.grid → written puzzle ≡ Ok bytes → AreBytes (bytes ++ tail) → (circled_cells puzzle ≡ [] → HasNoGext tail) →
     (read : PuzzleShown) × (puzzle_at (bytes ++ tail) ≡ Ok read) × (part_of read ≡ part_of puzzle)

@@ -38,7 +38,7 @@ pub record IsPuz (bytes : List ℕ) (puzzle : PuzzleShown) : Type 0 where
   pub clues : light_clues puzzle ≡ fields.clues
   pub circles : AreMarked puzzle (first_gext sections)
 
--- With any bytes appended, the bytes are a file of the puzzle. If no open cell is circled, the appended bytes must have
--- no GEXT section.
+-- With any bytes appended, the bytes are a file of the puzzle. If no open cell is circled, the appended bytes must
+-- have no GEXT section.
 abbrev pub IsPuzBefore : List ℕ → PuzzleShown → Type 0
 IsPuzBefore bytes puzzle = (tail : List ℕ) → AreBytes tail → (circled_cells puzzle ≡ [] → HasNoGext tail) → IsPuz (bytes ++ tail) puzzle

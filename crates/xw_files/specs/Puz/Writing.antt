@@ -98,7 +98,8 @@ abbrev pub clue_with_nul : ℕ → List (List ℕ) → Option TextName
 clue_with_nul k [] = None
 clue_with_nul k (clue ∷ clues) = if has_nul clue then Some (Clue k) else clue_with_nul (k + 1) clues
 
--- no clue of the lights `passed` has a NUL; the first of them is clue number `first`, and `next` is the number after them
+-- no clue of the lights `passed` has a NUL; the first of them is clue number `first`, and `next` is the number after
+-- them
 abbrev pub PassesClues : ClueMap → List Light → ℕ → ℕ → Type 0
 PassesClues clues passed first next = (lights : List Light) → clue_with_nul first (map (clue_of clues) (passed ++ lights)) ≡ clue_with_nul next (map (clue_of clues) lights)
 

@@ -91,11 +91,12 @@ abbrev pub HasBadByte : ℕ → Option (List ℕ) → Type 0
 HasBadByte col None = ⊥
 HasBadByte col (Some line) = (byte : ℕ) × (1 ≤ col) × (slice_get line (col - 1) ≡ Some byte) × (is_bad_square byte ≡ true)
 
--- there is a size line, and P holds of its width and height
+-- there is a size line, and P holds for its width and height
 abbrev pub WithSize : Lines → (ℕ → ℕ → Type 0) → Type 0
 WithSize lines P = (width : ℕ) × (height : ℕ) × HasSize (below (from_size lines)) width height × P width height
 
--- There is a size line, the grid has this row, and P holds of the width and of the row's line. Row 1 is the line after <GRID>.
+-- There is a size line, the grid has this row, and P holds for the width and the row's line. Row 1 is the line after
+-- <GRID>.
 abbrev pub WithRow : Lines → ℕ → (ℕ → Option (List ℕ) → Type 0) → Type 0
 WithRow lines row P = WithSize lines (λ width height. (1 ≤ row) × (row ≤ height) × P width (slice_get (from_grid lines) row))
 
@@ -109,7 +110,8 @@ CountsApart direction grid lines = count_plain lines ≢ length (starts grid dir
 
 -- ---- faults
 
--- Each fault is defined by itself, so it may hold even if lines above it are wrong too. The order below says which one is first.
+-- Each fault is defined by itself, so it may hold even if lines above it are wrong too. The order below says which one
+-- is first.
 
 -- the lines have a fault, whether or not they have others
 abbrev pub LinesHave : Lines → ReadFault → Type 0
@@ -155,7 +157,8 @@ location_of faults.DownCount = 12
 location_of (faults.Tag tags.Notepad) = 13
 location_of fault = 14
 
--- the order within one part: of NULs, the offset; in the grid, the row, and then 0 for its line or the column of a cell
+-- the order within one part: of NULs, the offset; in the grid, the row, and then 0 for its line or the column of a
+-- cell
 abbrev pub within_location : ReadFault → ℕ × ℕ
 within_location (faults.NulByte offset) = (offset, 0)
 within_location (faults.GridLine row) = (row, 0)

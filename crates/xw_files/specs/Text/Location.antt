@@ -19,7 +19,8 @@ abbrev pub after : List ℕ → List (List ℕ) → List (List ℕ)
 after name [] = []
 after name (line ∷ lines) = if names line name then lines else after name lines
 
--- the lines from the first one on that is neither blank nor one of the first `due` other lines; a tag line always remains
+-- the lines from the first one on that is neither blank nor one of the first `due` other lines; a tag line always
+-- remains
 abbrev pub left_after : ℕ → List (List ℕ) → List (List ℕ)
 left_after due [] = []
 left_after due (line ∷ lines) =
@@ -51,7 +52,8 @@ grid_of_text bytes = do
   grid ← grid_at texts.1
   Ok grid.0
 
--- the number of lines that the format has between the tag line above a fault and the fault: a text, a size, rows or clues
+-- the number of lines that the format has between the tag line above a fault and the fault: a text, a size, rows or
+-- clues
 abbrev pub lines_due : List ℕ → ReadFault → Result ℕ ReadFault
 lines_due bytes (faults.Tag tags.Author) = Ok 1
 lines_due bytes (faults.Tag tags.Copyright) = Ok 1

@@ -9,8 +9,8 @@ use crate::puz::header::{HEADER_LENGTH, Header};
 use crate::puz::{header, text};
 use std::alloc::Global;
 
-/// The fields of a file. The boards `solution` and `state` have a byte for each cell, in reading order. Texts have no NUL at
-/// their end. There are as many clues as the header says. `rest` is everything after the notes.
+/// The fields of a file. The boards `solution` and `state` have a byte for each cell, in reading order. Texts have no
+/// NUL at their end. There are as many clues as the header says. `rest` is everything after the notes.
 #[derive(Drop)]
 pub struct Fields<'a> {
     pub header: Header,

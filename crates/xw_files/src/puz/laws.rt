@@ -18,7 +18,7 @@ pub fn what_is_written_is_read()
     ensures { WrittenIsRead }
 {}
 
-/// Reading stops at the first fault that holds of the bytes, and only one fault is the first.
+/// Reading stops at the first fault of the bytes, and only one fault is the first.
 pub fn reading_finds_the_first_fault()
     ensures found { FirstFaultIsFound }
     ensures one { FirstFaultIsOne }

@@ -80,7 +80,8 @@ fn pass_cell(grid: &Grid, clues: &Clues, cell: Cell, number: usize) -> Result<us
     pass_light(grid, clues, Direction::Down, cell, number)
 }
 
-/// Returns the clue number after the light of a direction that begins at a cell, if any, or its clue if that has a NUL.
+/// Returns the clue number after the light of a direction that begins at a cell, if any, or its clue if that has a
+/// NUL.
 fn pass_light(
     grid: &Grid,
     clues: &Clues,

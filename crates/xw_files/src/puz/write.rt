@@ -20,8 +20,8 @@ use xw_grid::grid::Grid;
 use xw_grid::lights::Lights;
 use xw_grid::puzzle::Puzzle;
 
-/// Writes a puzzle as a `.puz` file. Returns the first fault that applies, in the order `Barred`, `NotFilled`, `Field`.
-/// Returns `Memory` if an allocation fails, which is possible only if no other fault applies.
+/// Writes a puzzle as a `.puz` file. Returns the first fault that applies, in the order `Barred`, `NotFilled`,
+/// `Field`. Returns `Memory` if an allocation fails, which is possible only if no other fault applies.
 pub fn write_puz(alloc: Global, puzzle: &Puzzle) -> Result<Vec<u8>, WriteFault>
     ensures ok { IfOk result (λ bytes. written (puzzle_view puzzle.now) ≡ Ok bytes.items) }
     ensures refused { IfErr result (λ fault. fault ≢ faults.Memory → written (puzzle_view puzzle.now) ≡ Err fault) }
@@ -131,9 +131,7 @@ fn clues_of<'a>(
 {
     let mut texts = Vec::new(alloc);
     for index in 0..lights.len() {
-        let Some(light) = lights.get(index) else {
-            return Ok(texts);
-        };
+        let light = lights.at(index);
         texts.push(clues.get(light.start, light.name.direction))?;
     }
     Ok(texts)

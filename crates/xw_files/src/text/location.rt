@@ -136,8 +136,8 @@ fn location_before(count: usize, left: usize) -> TextLocation
     }
 }
 
-/// Returns how many lines are left after the first `due` lines under a tag line, or from the start of the file if there
-/// is no tag.
+/// Returns how many lines are left after the first `due` lines under a tag line, or from the start of the file if
+/// there is no tag.
 fn count_left(lines: &[&[u8]], tag: Option<&[u8]>, due: usize) -> usize
     ensures { result ≡ length (left_after due (under (option_map (λ name. name.now) tag.entry) (map (λ line. line.now) lines.now))) }
 {
@@ -147,7 +147,8 @@ fn count_left(lines: &[&[u8]], tag: Option<&[u8]>, due: usize) -> usize
     }
 }
 
-/// Returns the location after the first `due` lines under a tag line, or from the start of the file if there is no tag.
+/// Returns the location after the first `due` lines under a tag line, or from the start of the file if there is no
+/// tag.
 fn location_under(
     alloc: Global,
     bytes: &[u8],
@@ -169,8 +170,8 @@ fn line_at(bytes: &[u8], offset: usize) -> usize
     before.iter().filter(|byte| **byte == b'\n').count() + 1
 }
 
-/// Returns the location at which `read_text` reports `fault`. Returns `None` if the fault has no location of its own. Returns
-/// a read fault if the grid is needed and cannot be read, and `Memory` if an allocation fails.
+/// Returns the location at which `read_text` reports `fault`. Returns `None` if the fault has no location of its own.
+/// Returns a read fault if the grid is needed and cannot be read, and `Memory` if an allocation fails.
 pub fn text_location(
     alloc: Global,
     bytes: &[u8],

@@ -1,4 +1,4 @@
--- What a search for the best fill knows on its way.
+-- What a search for the best fill has found so far.
 use Rattle.std.specs.Prelude.{◌≡◌, ℕ, ◌<◌, ◌≤◌, not, Bool, true, List, length, IfSome}
 use Rattle.xw_words.specs.Dictionary.{best_grade, with_least}
 use Rattle.xw_feas.specs.State.{State}
@@ -38,7 +38,8 @@ pub record AreFresh (start : Position) (fresh : List Bool) : Type 0 where
   pub long : length fresh ≡ light_count start
   pub are : (light : ℕ) → light < light_count start → flags fresh light ≡ not (is_entered start light)
 
--- what a search for a fill with the words of a grade and better found: a fill that is one at `least`; or that there is none
+-- what a search for a fill with the words of a grade and better found: a fill that is one at `least`; or that there is
+-- none
 abbrev pub IsProbed : (ℕ → Bool) → State → ℕ → State → Probe → Type 0
 IsProbed named before grade after (Filled least) = (grade ≤ least) × IsFilledAt named before after least
 IsProbed named before grade after NoFill = HasNoneAt named before grade × (after ≡ before)

@@ -1,5 +1,5 @@
--- A search notes which lights are wholly entered. The note of a light is the number of placements after which the light
--- was first seen wholly entered.
+-- A search notes which lights are wholly entered. The note of a light is the number of placements after which the
+-- light was first seen wholly entered.
 use Rattle.std.specs.Prelude.{◌≡◌, ℕ, ◌<◌, ◌≤◌, Bool, true, false, not, nat_lt, ◌&&◌, ◌==◌, List, slice_index_or, Option, Some, None, is_some}
 use Rattle.xw_fill.specs.Position.{Position}
 use Rattle.xw_fill.specs.Below.{any_below}

@@ -1,4 +1,5 @@
--- How far a search for a fill of the named lights has come: what holds of the entries that it has made since its start.
+-- The progress of a search for a fill of the named lights: what holds for the entries that it has made since its
+-- start.
 use Rattle.std.specs.Prelude.{◌≡◌, ◌⊎◌, ℕ, ◌<◌, ◌≢◌, Bool, true, false, ◌&&◌, ◌||◌, List, [], ◌∷◌, ◌++◌, length, slice_set, slice_index_or, All, Contains, Option, Some, None, is_none}
 use Rattle.std.specs.List.{list_any}
 use Rattle.xw_letters.specs.LetterSet.{has}
@@ -147,7 +148,8 @@ abbrev pub HasEntered : (ℕ → Bool) → State → State → Filling → Type 
 HasEntered named before after Filled = IsFillOf named (position_of before) (entries_of after) × DiffersInEntries before after
 HasEntered named before after other = Unit {0}
 
--- a letter may be tried in a cell: the cell is empty and to be filled, the letter is feasible, and nothing rules out a fill yet
+-- a letter may be tried in a cell: the cell is empty and to be filled, the letter is feasible, and nothing rules out a
+-- fill yet
 pub record MayTry (named : ℕ → Bool) (start : Position) (now : List (Option ℕ)) (cell letter : ℕ) : Type 0 where
   pub is_open : IsOpen named start now
   pub target : is_target named start cell ≡ true
@@ -173,8 +175,8 @@ pub record IsLetterEntered (frame : Frame) (before after : State) : Type 0 where
   pub entered : entries_of after ≡ with_frame (entries_of before) frame
   pub entries : DiffersInEntries before after
 
--- The result of trying the letter of a frame. `true`: the letter stays, and nothing rules it out. `false`: something ruled
--- it out, and it was taken back.
+-- The result of trying the letter of a frame. `true`: the letter stays, and nothing rules it out. `false`: something
+-- ruled it out, and it was taken back.
 abbrev pub IsTried : (ℕ → Bool) → Frame → Bool → State → List Frame → State → List Frame → Type 0
 IsTried watched frame true before frames after frames_after =
     (frames_after ≡ frames ++ frame ∷ []) × IsLetterEntered frame before after × AreAlive watched (position_of after) × IsApartAt (position_of after) frame.cell

@@ -28,8 +28,8 @@ pub record IsReady {E S M : Type 0} (saved : S → State) (stack : Stack E M S) 
   pub root : IsTwin (saved stack.root) now
   pub marks : AreTwins saved stack.marks now
 
--- the placements lead to the state, and the marks hold the states before the last of them; after `prepare` the first free
--- snapshot holds the state
+-- the placements lead to the state, and the marks hold the states before the last of them; after `prepare` the first
+-- free snapshot holds the state
 pub record StandsAt {E S M : Type 0} (saved : S → State) (is_placed : M → State → State → Type 0) (stack : Stack E M S) (now : State) : Type 0 where
   pub states : List State
   pub through : LeadThrough is_placed stack.placements.items states now

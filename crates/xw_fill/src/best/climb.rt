@@ -1,5 +1,5 @@
 //! The search for the best fill: which grades it tries, and what it keeps.
-ghost use Rattle.std.specs.Prelude.{◌≡◌, ◌<◌, ◌≤◌, ◌-◌, IfOk, IfErr, IfSome};
+ghost use Rattle.std.specs.Prelude.{◌≡◌, ◌<◌, ◌≤◌, ◌-◌, IfOk, IfSome};
 ghost use Rattle.xw_words.specs.Dictionary.{best_grade};
 ghost use Rattle.xw_fill.specs.Position.{position_of};
 ghost use Rattle.xw_fill.specs.NamedFill.{flags};
@@ -12,10 +12,8 @@ use crate::best::grades::{NO_BOUND, fresh_lights};
 use crate::best::probe::{Probe, bound_of, probe_at};
 use crate::named_lights::plan::Plan;
 use crate::named_lights::run::Effort;
-use std::alloc::Global;
-use xw_feas::edit::Refusal;
+use std::alloc::{AllocError, Global};
 use xw_feas::searchable::Searchable;
-use xw_grid::fault::GridFault;
 
 /// How many placements each grade gets in the first two passes. In each later pair of passes it gets twice as many.
 const BUDGET: u64 = 1000;
@@ -23,13 +21,15 @@ const BUDGET: u64 = 1000;
 /// More passes than any search has: before the last of them the budget is greater than every limit.
 const PASSES: u32 = 128;
 
-/// Where a search for the best fill stands. It goes by pairs of passes, each of which halves the grades. The first pass
-/// takes a grade as too great if its budget does not serve for it, and so finds fills; the second takes it as too small, and
-/// so finds bounds. No proof depends on it.
+/// The progress of a search for the best fill. Passes come in pairs, and each pass bisects the grades. If the budget
+/// runs out at a grade, the first pass takes the grade as too great, and so finds fills. The second pass takes it as
+/// too small, and so finds bounds. No proof depends on this.
 /// - `budget`: how many placements each grade gets.
-/// - `spent`: how many of these the present grade had.
+/// - `spent`: how many of these the current grade has used.
 /// - `is_second`: whether it is the second pass.
-/// - `low`, `high`: the grades that are left to the pass, from `low` to below `high`.
+/// - `low`, `high`: the pass still has the grades from `low` to below `high`.
+/// - `ceiling`: the least grade at which this search, or one that it continues, found that there is no fill. Grades
+///   from it on are tried only if no grade below it can have a fill.
 #[derive(Clone, Copy)]
 pub struct Pace {
     budget: u64,
@@ -37,6 +37,7 @@ pub struct Pace {
     is_second: bool,
     low: u8,
     high: u8,
+    ceiling: u8,
 }
 
 impl Pace {
@@ -48,11 +49,19 @@ impl Pace {
             is_second: false,
             low: 0,
             high: NO_BOUND,
+            ceiling: NO_BOUND,
         }
     }
 
-    /// Goes on to the next pass.
-    fn turn(&mut self) {
+    /// Starts the next pass. `least` is the least grade at which a fill would be new. If it is not below the ceiling,
+    /// which an earlier search found, the pass tries this grade alone.
+    fn turn(&mut self, least: u8) {
+        if self.ceiling <= least {
+            self.ceiling = NO_BOUND;
+            self.low = least;
+            self.high = least.saturating_add(1);
+            return;
+        }
         if self.is_second {
             self.budget = self.budget.saturating_mul(2);
         }
@@ -67,15 +76,15 @@ impl Pace {
         ensures high { self.new.high ≤ high }
     {
         self.low = self.low.max(low);
-        self.high = self.high.min(high);
+        self.high = self.high.min(high).min(self.ceiling);
     }
 
-    /// How many placements the present grade still gets.
+    /// How many placements the current grade still gets.
     fn share(&self) -> u64 {
         self.budget.saturating_sub(self.spent)
     }
 
-    /// Counts placements that did not serve. Returns whether the present grade gets no more.
+    /// Counts placements that decided nothing. Returns whether the budget of the current grade is used up.
     fn spend(&mut self, placements: u64) -> bool
         ensures low { self.new.low ≡ self.old.low }
         ensures high { self.new.high ≡ self.old.high }
@@ -84,7 +93,7 @@ impl Pace {
         self.spent >= self.budget
     }
 
-    /// Leaves out the grades that a search at one of them decided.
+    /// Leaves out the grades that a search at `grade` decided.
     fn narrow(&mut self, grade: u8, probe: Probe)
         requires low { self.old.low ≤ grade }
         requires high { grade < self.old.high }
@@ -96,7 +105,10 @@ impl Pace {
         self.spent = 0;
         match probe {
             Probe::Filled(least) => self.low = least + 1,
-            Probe::NoFill => self.high = grade,
+            Probe::NoFill => {
+                self.high = grade;
+                self.ceiling = grade;
+            }
             Probe::Limit if self.is_second => self.low = grade + 1,
             Probe::Limit => self.high = grade,
         }
@@ -123,12 +135,16 @@ pub struct Climb<E: Searchable> {
 }
 
 impl<E: Searchable> Climb<E> {
-    /// A search that has found nothing yet but a bound. It is refused only if an allocation fails.
-    pub fn new(alloc: Global, engine: &mut E, plan: Plan, limit: u64) -> Result<Climb<E>, Refusal>
+    /// A search that has found a bound and nothing else.
+    pub fn new(
+        alloc: Global,
+        engine: &mut E,
+        plan: Plan,
+        limit: u64,
+    ) -> Result<Climb<E>, AllocError>
         requires plan { IsPlan (position_of (E.state engine.old)) plan }
         ensures climbing { IfOk result (λ climb. IsClimbing E.saved climb (E.state engine.old)) }
         ensures plan { IfOk result (λ climb. climb.plan ≡ plan) }
-        ensures memory { IfErr result (λ refusal. refusal ≡ Refusal.Grid GridFault.Memory) }
         ensures unchanged { E.state engine.new ≡ E.state engine.old }
     {
         let fresh = fresh_lights(alloc, engine)?;
@@ -173,7 +189,8 @@ impl<E: Searchable> Climb<E> {
         self.found = Some(grade);
     }
 
-    /// Looks for a fill with the words of a grade and better, with at most `limit` placements, and keeps what it finds.
+    /// Looks for a fill with the words of a grade and better, with at most `limit` placements, and keeps what it
+    /// finds.
     fn step(
         &mut self,
         alloc: Global,
@@ -181,7 +198,7 @@ impl<E: Searchable> Climb<E> {
         grade: u8,
         limit: u64,
         effort: &mut Effort,
-    ) -> Result<Probe, Refusal>
+    ) -> Result<Probe, AllocError>
         requires climbing { IsClimbing E.saved self.old (E.state engine.old) }
         requires above { self.old.least ≤ grade }
         requires graded { grade ≤ best_grade }
@@ -189,7 +206,6 @@ impl<E: Searchable> Climb<E> {
         ensures unchanged { E.state engine.new ≡ E.state engine.old }
         ensures plan { self.new.plan ≡ self.old.plan }
         ensures found { IfOk result (IsAtLeast grade) }
-        ensures memory { IfErr result (λ refusal. refusal ≡ Refusal.Grid GridFault.Memory) }
     {
         let probe = probe_at(
             alloc,
@@ -210,19 +226,18 @@ impl<E: Searchable> Climb<E> {
         Ok(probe)
     }
 
-    /// One pass, as far as the placements that are left go.
+    /// Runs one pass, until it has tried all its grades or no placement is left.
     fn pass(
         &mut self,
         alloc: Global,
         engine: &mut E,
         effort: &mut Effort,
         pace: &mut Pace,
-    ) -> Result<(), Refusal>
+    ) -> Result<(), AllocError>
         requires climbing { IsClimbing E.saved self.old (E.state engine.old) }
         ensures climbing { IsClimbing E.saved self.new (E.state engine.new) }
         ensures unchanged { E.state engine.new ≡ E.state engine.old }
         ensures plan { self.new.plan ≡ self.old.plan }
-        ensures memory { IfErr result (λ refusal. refusal ≡ Refusal.Grid GridFault.Memory) }
     {
         pace.keep_within(self.next_grade(), self.bound);
         while pace.low < pace.high && self.left > 0 {
@@ -247,19 +262,18 @@ impl<E: Searchable> Climb<E> {
         engine: &mut E,
         effort: &mut Effort,
         pace: &mut Pace,
-    ) -> Result<(), Refusal>
+    ) -> Result<(), AllocError>
         requires climbing { IsClimbing E.saved self.old (E.state engine.old) }
         ensures climbing { IsClimbing E.saved self.new (E.state engine.new) }
         ensures unchanged { E.state engine.new ≡ E.state engine.old }
         ensures plan { self.new.plan ≡ self.old.plan }
-        ensures memory { IfErr result (λ refusal. refusal ≡ Refusal.Grid GridFault.Memory) }
     {
         for _pass in 0..PASSES {
             self.pass(alloc, engine, effort, pace)?;
             if self.left == 0 || self.next_grade() >= self.bound {
                 break;
             }
-            pace.turn();
+            pace.turn(self.next_grade());
         }
         Ok(())
     }

@@ -1,4 +1,4 @@
-//! Which grade a grid can have.
+//! Tests which grades a fill of a grid can have.
 ghost use Rattle.std.specs.Prelude.{◌≡◌, ℕ, suc, ◌<◌, ◌≤◌, not, true, false, length, IfOk, IfErr};
 ghost use Rattle.xw_words.specs.Dictionary.{best_grade};
 ghost use Rattle.xw_fill.specs.Position.{position_of};
@@ -10,10 +10,9 @@ ghost use Rattle.xw_fill.specs.Inner.Climbing.{DiffersInLeast, IsDeadAt, AreAliv
 use crate::listing::{size_of, word_index};
 use crate::named_lights::checks::first_dead;
 use crate::scan::{is_entered, light_count};
-use std::alloc::Global;
-use xw_feas::edit::{Edit, Refusal};
+use std::alloc::{AllocError, Global};
+use xw_feas::edit::Edit;
 use xw_feas::feasible::Feasible;
-use xw_grid::fault::GridFault;
 /// The greatest grade of a word.
 pub const BEST_GRADE: u8 = 100;
 
@@ -38,8 +37,8 @@ fn is_dead_at<E: Feasible>(engine: &mut E, watched: &[bool], grade: u8) -> bool
     first_dead(engine, watched).is_some()
 }
 
-/// Halves the grades from `from` to below `to` until it comes to one at which a watched light has no feasible word, though
-/// each has one at the grade below. Returns `to` if there is none. Leaves another least grade.
+/// Finds, by bisection from `from` to below `to`, a grade at which a watched light has no feasible word although each
+/// has one at the grade below. Returns `to` if there is none. Changes the least grade.
 pub fn first_deadly<E: Feasible>(engine: &mut E, watched: &[bool], from: u8, to: u8) -> u8
     requires long { length watched.now ≡ light_count (position_of (E.state engine.old)) }
     requires ordered { from ≤ to }
@@ -76,7 +75,7 @@ fn grade_of<E: Feasible>(engine: &E, light: usize) -> u8
     }
 }
 
-/// The least grade of the words that the flagged lights spell which are wholly entered; `BEST_GRADE` if none is.
+/// The least grade of the words that the wholly entered flagged lights spell; `BEST_GRADE` if there are none.
 pub fn worst_grade<E: Feasible>(engine: &E, flagged: &[bool]) -> u8
     requires long { length flagged.now ≡ light_count (position_of (E.state engine.now)) }
     ensures within { result ≤ best_grade }
@@ -92,16 +91,13 @@ pub fn worst_grade<E: Feasible>(engine: &E, flagged: &[bool]) -> u8
     worst
 }
 
-/// A flag for each light: whether it is not wholly entered. It is refused only if an allocation fails.
-pub fn fresh_lights<E: Feasible>(alloc: Global, engine: &E) -> Result<Vec<bool>, Refusal>
-    ensures ok { IfOk result (λ fresh. AreFresh (position_of (E.state engine.now)) fresh.items) }
-    ensures memory { IfErr result (λ refusal. refusal ≡ Refusal.Grid GridFault.Memory) }
+/// A flag for each light: whether it is not wholly entered.
+pub fn fresh_lights<E: Feasible>(alloc: Global, engine: &E) -> Result<Vec<bool>, AllocError>
+    ensures { IfOk result (λ fresh. AreFresh (position_of (E.state engine.now)) fresh.items) }
 {
     let mut fresh = Vec::new(alloc);
     for light in 0..light_count(engine) {
-        fresh
-            .push(!is_entered(engine, light))
-            .map_err(|_| Refusal::Grid(GridFault::Memory))?;
+        fresh.push(!is_entered(engine, light))?;
     }
     Ok(fresh)
 }

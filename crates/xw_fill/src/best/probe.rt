@@ -1,5 +1,5 @@
 //! A search for a fill with the words of a grade and better.
-ghost use Rattle.std.specs.Prelude.{◌≡◌, ◌⊎◌, ℕ, suc, ◌≤◌, length, IfOk, IfErr, OnErr};
+ghost use Rattle.std.specs.Prelude.{◌≡◌, ◌⊎◌, ℕ, suc, ◌≤◌, length, IfOk, OnErr};
 ghost use Rattle.xw_words.specs.Dictionary.{best_grade};
 ghost use Rattle.xw_fill.specs.Position.{position_of};
 ghost use Rattle.xw_fill.specs.Search.{light_count};
@@ -13,11 +13,9 @@ use crate::named_lights::fill_planned;
 use crate::named_lights::plan::Plan;
 use crate::named_lights::run::Effort;
 use crate::search::Filling;
-use std::alloc::Global;
-use xw_feas::edit::Refusal;
+use std::alloc::{AllocError, Global};
 use xw_feas::feasible::Feasible;
 use xw_feas::searchable::Searchable;
-use xw_grid::fault::GridFault;
 
 /// What a search with the words of a grade and better found.
 /// - `Filled`: the grid holds a fill, and this is the greatest grade at which it is one.
@@ -30,8 +28,8 @@ pub enum Probe {
     Limit,
 }
 
-/// A bound that needs no search: at this grade a watched light has no feasible word. `least` is the least grade of active
-/// words, and stays.
+/// A bound that needs no search: at this grade a watched light has no feasible word. The least grade of active words,
+/// `least`, stays as it was.
 pub fn bound_of<E: Feasible>(engine: &mut E, plan: &Plan, least: u8) -> u8
     requires plan { IsPlan (position_of (E.state engine.old)) plan.now }
     requires least { least ≡ (E.state engine.old).words.least }
@@ -43,8 +41,8 @@ pub fn bound_of<E: Feasible>(engine: &mut E, plan: &Plan, least: u8) -> u8
     bound
 }
 
-/// The greatest grade at which the flagged lights spell active words and each watched light has a feasible word, as they do
-/// at `grade`. Leaves another least grade.
+/// The greatest grade at which the flagged lights spell active words and each watched light has a feasible word, as
+/// they do at `grade`. Changes the least grade.
 fn greatest_grade<E: Feasible>(engine: &mut E, watched: &[bool], fresh: &[bool], grade: u8) -> u8
     requires watched { length watched.now ≡ light_count (position_of (E.state engine.old)) }
     requires fresh { length fresh.now ≡ light_count (position_of (E.state engine.old)) }
@@ -62,8 +60,8 @@ fn greatest_grade<E: Feasible>(engine: &mut E, watched: &[bool], fresh: &[bool],
     first_deadly(engine, watched, grade + 1, worst + 1) - 1
 }
 
-/// Looks for a fill with the words of a grade and better, with at most `limit` placements. `fresh` has a flag for each
-/// light that is not wholly entered; `least` is the least grade of active words, and stays.
+/// Looks for a fill with the words of a grade and better, with at most `limit` placements. `fresh` flags the lights
+/// that are not wholly entered. The least grade of active words, `least`, stays as it was.
 pub fn probe_at<E: Searchable>(
     alloc: Global,
     engine: &mut E,
@@ -73,14 +71,13 @@ pub fn probe_at<E: Searchable>(
     grade: u8,
     limit: u64,
     effort: &mut Effort,
-) -> Result<Probe, Refusal>
+) -> Result<Probe, AllocError>
     requires plan { IsPlan (position_of (E.state engine.old)) plan.now }
     requires fresh { AreFresh (position_of (E.state engine.old)) fresh.now }
     requires least { least ≡ (E.state engine.old).words.least }
     requires above { least ≤ grade }
     requires graded { grade ≤ best_grade }
     ensures ok { IfOk result (IsProbed (flags plan.now.named.items) (E.state engine.old) grade (E.state engine.new)) }
-    ensures memory { IfErr result (λ refusal. refusal ≡ Refusal.Grid GridFault.Memory) }
     ensures unchanged { OnErr result (E.state engine.new ≡ E.state engine.old) }
 {
     choose_least(engine, grade);
@@ -92,7 +89,7 @@ pub fn probe_at<E: Searchable>(
             Filling::NoFill => Probe::NoFill,
             Filling::Limit => Probe::Limit,
         }),
-        Err(refusal) => Err(refusal),
+        Err(failed) => Err(failed),
     };
     choose_least(engine, least);
     probe

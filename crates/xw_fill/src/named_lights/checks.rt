@@ -1,4 +1,4 @@
-//! What speaks against a fill.
+//! Tests whether a position rules out a fill.
 ghost use Rattle.std.specs.Prelude.{◌≡◌, ◌<◌, length, true, false, IfSome, IfNone};
 ghost use Rattle.xw_feas.specs.Board.{board_of};
 ghost use Rattle.xw_fill.specs.Position.{position_of};

@@ -1,5 +1,5 @@
-//! Which cell a search fills next, and with which letter. No proof depends on the order: only on which cells and letters
-//! are left.
+//! Which cell a search fills next, and with which letter. Proofs depend on which cells and letters are left, and not
+//! on their order.
 ghost use Rattle.std.specs.Prelude.{◌≡◌, ◌≤◌, ◌<◌, ℕ, All, Contains, length, true, false, is_some, slice_index, IfSome, IfNone, None};
 ghost use Rattle.xw_letters.specs.LetterSet.{has};
 ghost use Rattle.xw_feas.specs.Board.{board_of, is_open};
@@ -26,8 +26,8 @@ pub fn letters_at<E: Feasible>(engine: &E, cell: usize) -> LetterSet
     }
 }
 
-/// A number for a cell that a seed turns: cells that are otherwise alike are taken by it, the smallest first. With seed 0
-/// it is the same for all.
+/// The tie-break number of a cell, which depends on the seed. Of cells that are otherwise alike, the one with the
+/// smallest number comes first. With seed 0 it is 0 for all cells.
 fn turn_of(cell: usize, seed: u64) -> u64 {
     if seed == 0 {
         return 0;
@@ -47,7 +47,7 @@ fn weight_of(weights: &[u64], light: Option<usize>) -> u64 {
     }
 }
 
-/// How a cell compares with others: the one with the fewest letters for the weight of its lights is taken first.
+/// The rank of a cell. The cell with the fewest letters in proportion to the weight of its lights comes first.
 #[derive(Clone, Copy)]
 struct Rank {
     letters: u64,
@@ -56,7 +56,7 @@ struct Rank {
 }
 
 impl Rank {
-    /// Whether a cell of this rank is taken before one of the other.
+    /// Whether a cell of this rank comes before one of the other rank.
     fn is_before(&self, other: &Rank) -> bool {
         let own = self.letters.saturating_mul(other.weight);
         let others = other.letters.saturating_mul(self.weight);
@@ -76,7 +76,7 @@ fn rank_of<E: Feasible>(engine: &E, cell: usize, weights: &[u64], seed: u64) -> 
     }
 }
 
-/// The cell to fill next among some open cells: of those that are empty, the one with the first rank.
+/// The cell to fill next among some open cells: the empty one whose rank comes first.
 pub fn next_cell<E: Feasible>(
     engine: &E,
     targets: &[usize],
@@ -106,7 +106,8 @@ pub fn next_cell<E: Feasible>(
     best
 }
 
-/// How many feasible words of a light have a letter at a cell, or their weight; 0 if the light does not pass through it.
+/// How many feasible words of a light have a letter at a cell, or their weight; 0 if the light does not pass through
+/// it.
 fn tally_at<E: Searchable>(
     engine: &E,
     light: Option<usize>,
@@ -131,8 +132,8 @@ fn tally_at<E: Searchable>(
     0
 }
 
-/// How promising a letter is at a cell: the product of how many words it leaves to each light, plus one. If `weighted`,
-/// words of better grades count for more.
+/// How promising a letter is at a cell: the product of how many words it leaves to each light, plus one. If
+/// `weighted`, words of better grades count for more.
 fn promise_of<E: Searchable>(engine: &E, cell: usize, letter: Letter, weighted: bool) -> u64
     requires { is_open (board_of (E.state engine.now).grid) cell ≡ true }
 {

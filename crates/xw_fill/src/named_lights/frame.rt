@@ -7,7 +7,7 @@ ghost use Rattle.xw_fill.specs.Position.{position_of, DiffersInEntries};
 ghost use Rattle.xw_fill.specs.Inner.Progress.{entries_of, CanBeEntered, IsLetterEntered, IsLetterSet, IsDead};
 
 use crate::placement::Placement;
-use xw_feas::edit::Edit;
+use xw_feas::edit::{Edit, EntryEdit};
 use xw_feas::feasible::Feasible;
 use xw_feas::searchable::Searchable;
 use xw_letters::letter::Letter;
@@ -31,8 +31,8 @@ fn set_letter<E: Feasible>(engine: &mut E, cell: usize, letter: Letter)
     let _ = engine.edit(&Edit::Set(cell, letter));
 }
 
-/// Enters a letter in an open cell, by the cell's index, unless a watched light has no feasible word then: the engine may
-/// stop at such a light, and returns it. Then nothing changes.
+/// Enters a letter in an open cell, by the cell's index. If this leaves a watched light without a feasible word, the
+/// engine may return that light instead, and then nothing changes.
 fn try_letter<E: Searchable>(
     engine: &mut E,
     cell: usize,
@@ -47,7 +47,7 @@ fn try_letter<E: Searchable>(
     ensures dead { IfSome result (λ light. (there : State) × IsLetterSet cell letter (E.state engine.old) there × IsDead (flags watched.now) (position_of there) light) }
 {
     let cell = engine.grid().cell_at(cell);
-    match engine.try_edit(&Edit::Set(cell, letter), watched, mark) {
+    match engine.try_edit(&EntryEdit::Set(cell, letter), watched, mark) {
         Ok(dead) => dead,
         Err(_) => unreachable!(),
     }

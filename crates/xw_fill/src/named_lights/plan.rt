@@ -1,5 +1,5 @@
 //! The cells that a search fills, and the lights that it watches.
-ghost use Rattle.std.specs.Prelude.{◌≡◌, ◌<◌, ℕ, length, Bool, true, false, IfOk, IfErr, Option, Some, None};
+ghost use Rattle.std.specs.Prelude.{◌≡◌, ◌<◌, ℕ, length, Bool, true, false, IfOk, Option, Some, None};
 ghost use Rattle.xw_feas.specs.Board.{board_of, light_at};
 ghost use Rattle.xw_fill.specs.Position.{position_of};
 ghost use Rattle.xw_fill.specs.Search.{light_count};
@@ -7,10 +7,8 @@ ghost use Rattle.xw_fill.specs.NamedFill.{flags, is_in_named};
 ghost use Rattle.xw_fill.specs.Inner.Progress.{is_target, has_target, AreTargets, AreWatched, is_flagged, IsPlan};
 
 use crate::scan::{board, light_count};
-use std::alloc::Global;
-use xw_feas::edit::Refusal;
+use std::alloc::{AllocError, Global};
 use xw_feas::feasible::Feasible;
-use xw_grid::fault::GridFault;
 
 /// What a search fills: flags for the named lights and for the lights to watch, and the indices of the cells to fill.
 #[derive(Drop)]
@@ -62,42 +60,43 @@ fn has_target<E: Feasible>(engine: &E, named: &[bool], light: usize) -> bool
 }
 
 /// The cells to be filled, in reading order.
-fn targets_of<E: Feasible>(alloc: Global, engine: &E, named: &[bool]) -> Result<Vec<usize>, Refusal>
-    ensures ok { IfOk result (λ targets. AreTargets (flags named.now) (position_of (E.state engine.now)) targets.items) }
-    ensures memory { IfErr result (λ refusal. refusal ≡ Refusal.Grid GridFault.Memory) }
+fn targets_of<E: Feasible>(
+    alloc: Global,
+    engine: &E,
+    named: &[bool],
+) -> Result<Vec<usize>, AllocError>
+    ensures { IfOk result (λ targets. AreTargets (flags named.now) (position_of (E.state engine.now)) targets.items) }
 {
     let mut targets = Vec::new(alloc);
     for cell in 0..board(engine).cell_count() {
         if is_target(engine, named, cell) {
-            targets
-                .push(cell)
-                .map_err(|_| Refusal::Grid(GridFault::Memory))?;
+            targets.push(cell)?;
         }
     }
     Ok(targets)
 }
 
 /// A flag for each light: whether it is watched.
-fn watched_of<E: Feasible>(alloc: Global, engine: &E, named: &[bool]) -> Result<Vec<bool>, Refusal>
-    ensures ok { IfOk result (λ watched. AreWatched (flags named.now) (position_of (E.state engine.now)) watched.items) }
-    ensures memory { IfErr result (λ refusal. refusal ≡ Refusal.Grid GridFault.Memory) }
+fn watched_of<E: Feasible>(
+    alloc: Global,
+    engine: &E,
+    named: &[bool],
+) -> Result<Vec<bool>, AllocError>
+    ensures { IfOk result (λ watched. AreWatched (flags named.now) (position_of (E.state engine.now)) watched.items) }
 {
     let mut watched = Vec::new(alloc);
     for light in 0..light_count(engine) {
         let flag = is_flagged(named, Some(light)) || has_target(engine, named, light);
-        watched
-            .push(flag)
-            .map_err(|_| Refusal::Grid(GridFault::Memory))?;
+        watched.push(flag)?;
     }
     Ok(watched)
 }
 
 impl Plan {
-    /// The plan to fill the named lights of an engine. It is refused only if an allocation fails.
-    pub fn of<E: Feasible>(alloc: Global, engine: &E, named: Vec<bool>) -> Result<Plan, Refusal>
+    /// The plan to fill the named lights of an engine.
+    pub fn of<E: Feasible>(alloc: Global, engine: &E, named: Vec<bool>) -> Result<Plan, AllocError>
         ensures named { IfOk result (λ plan. plan.named ≡ named) }
         ensures ok { IfOk result (λ plan. IsPlan (position_of (E.state engine.now)) plan) }
-        ensures memory { IfErr result (λ refusal. refusal ≡ Refusal.Grid GridFault.Memory) }
     {
         let targets = targets_of(alloc, engine, &named)?;
         let watched = watched_of(alloc, engine, &named)?;

@@ -40,8 +40,8 @@ const CUT: u64 = 100;
 /// - `weights`: a weight for each light, which grows when the light fails.
 /// - `cut`: after how many failures the next run is cut.
 /// - `graded`: whether words have different grades.
-/// - `weighted`: whether words of better grades count for more in the next run. If words have grades, every other run has
-///   plain counts: the hardest grids fill only so.
+/// - `weighted`: whether words of better grades count for more in the next run. If words have grades, every other run
+///   uses plain counts, since the hardest grids fill only that way.
 /// - `left`: how many placements are left.
 #[derive(Drop)]
 pub struct Effort {
@@ -70,7 +70,7 @@ impl Effort {
         })
     }
 
-    /// Begins another search, which keeps the weights: its runs are cut as those of a first search are.
+    /// Begins another search with the same weights, and with the cut of a first run.
     pub fn restart(&mut self) {
         self.cut = CUT;
         self.weighted = self.graded;
@@ -86,8 +86,8 @@ fn blame(weights: &mut Vec<u64>, light: usize)
     }
 }
 
-/// Whether something speaks against a fill after a letter was entered in a cell: a watched light has no feasible word, and
-/// is blamed, or a word stands twice.
+/// Whether the letter that was entered in a cell rules out a fill: a watched light has no feasible word, or a word is
+/// repeated. Counts a failure of a light in the first case.
 fn is_refuted<E: Searchable>(
     engine: &E,
     watched: &[bool],
@@ -107,7 +107,7 @@ fn is_refuted<E: Searchable>(
     has_repeat_at(engine, cell)
 }
 
-/// Tries the letter of a frame. Returns whether it stands; if not, the search is back where it was.
+/// Tries the letter of a frame. Returns whether the letter stays; if not, the search is back where it was.
 fn try_letter<E: Searchable>(
     engine: &mut E,
     stack: &mut Stack<E, Frame>,
@@ -136,7 +136,7 @@ fn try_letter<E: Searchable>(
     Ok(true)
 }
 
-/// The letters, and one more.
+/// The letters with one more.
 fn with_letter(letters: LetterSet, letter: Letter) -> LetterSet
     ensures { (other : ℕ) → has result other ≡ (has letters other || (other == letter)) }
 {
@@ -145,8 +145,8 @@ fn with_letter(letters: LetterSet, letter: Letter) -> LetterSet
     more
 }
 
-/// Searches from a position against which nothing speaks, until it holds a fill, or no fill is left, or no placement is
-/// left, or as many letters as `cut` says failed. The cells with letters are in `stack`.
+/// Searches from a position that does not rule out a fill. Ends when the grid holds a fill, no fill exists, no
+/// placement is left, or `cut` letters have failed. `stack` has the cells with letters.
 fn search<E: Searchable>(
     engine: &mut E,
     stack: &mut Stack<E, Frame>,

@@ -17,7 +17,7 @@ use Rattle.xw_feas.proofs.BoardLemmas.{length-open_cells, length-lights, light_i
 use Rattle.xw_feas.proofs.FormedLemmas.{length-light_at}
 use Rattle.xw_net.specs.Marks.{IsPositionIn, cell_at, slot_at}
 use Rattle.xw_net.specs.Room.{counts_of, size_at, no_row, AreFalse, HaveRoom, HasRoom}
-use Rattle.xw_net.specs.Blank.{IsBlank}
+use Rattle.xw_net.specs.Inner.Blank.{IsBlank}
 use Rattle.xw_net.specs.Nets.{bits_for, word_stands, held_in, pending_in, queued_in}
 use Rattle.xw_net.specs.Spread.{bits_in}
 use Rattle.xw_net.specs.Worklist.{is_marked}
@@ -28,7 +28,7 @@ use Rattle.xw_net.proofs.Nets.RowRoom.{bits_are}
 use Rattle.xw_net.proofs.Nets.SlotsApart.{side_small}
 
 abbrev far_on : ℕ
-far_on = 2 ^ 64 - 1
+far_on = 2 ^ 32 - 1
 
 abbrev none : ℕ
 none = 0

@@ -18,7 +18,7 @@ use Rattle.xw_feas.specs.Flags.{set_has}
 use Rattle.xw_feas.specs.State.{State}
 use Rattle.xw_feas.proofs.BoardLemmas.{length-lights, length-open_cells}
 use Rattle.xw_feas.proofs.FormedLemmas.{length-light_at}
-use Rattle.xw_net.specs.Blank.{IsBlank}
+use Rattle.xw_net.specs.Inner.Blank.{IsBlank}
 use Rattle.xw_net.specs.Copy.{IsReusable, CanCopy, IsCopy, AreRowsCopied}
 use Rattle.xw_net.specs.Brought.{IsBase}
 use Rattle.xw_net.specs.Filled.{IsWholeNet, IsQuiet, IsFilled, IsStoppedAt}

@@ -11,7 +11,7 @@ use Rattle.xw_feas.proofs.BoardLemmas.{length-lights}
 use Rattle.xw_net.specs.Copy.{IsReusable}
 use Rattle.xw_net.specs.Filled.{IsFresh}
 use Rattle.xw_net.specs.Fit.{IsAtRest}
-use Rattle.xw_net.specs.Forget.{nowhere}
+use Rattle.xw_net.specs.Inner.Forget.{nowhere}
 use Rattle.xw_net.specs.Nets.{word_stands, held_in, pending_in, queued_in}
 use Rattle.xw_net.specs.Room.{counts_of, HaveBits, HaveRoom}
 use Rattle.xw_net.specs.Worklist.{is_marked}

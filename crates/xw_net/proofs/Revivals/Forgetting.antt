@@ -4,7 +4,7 @@ use Rattle.std.specs.Prelude.{Option}
 use Rattle.std.proofs.lemmas.Bool.{eqb-true, ltb-true}
 use Rattle.xw_grid.specs.declared.lights.Light.{Light}
 use Rattle.xw_feas.specs.Board.{Board}
-use Rattle.xw_net.specs.Forget.{nowhere, cut, lose, lost_from, Forgets}
+use Rattle.xw_net.specs.Inner.Forget.{nowhere, cut, lose, lost_from, Forgets}
 use Rattle.xw_net.specs.Marks.{slot_at}
 use Rattle.xw_net.specs.Renumber.{same_before}
 use Rattle.xw_net.proofs.Edits.SameLights.{none_new}

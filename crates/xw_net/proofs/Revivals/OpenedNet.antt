@@ -29,7 +29,7 @@ use Rattle.xw_net.specs.Brought.{IsBegun}
 use Rattle.xw_net.specs.Marks.{IsHolding}
 use Rattle.xw_net.specs.Base.{base_bits}
 use Rattle.xw_net.specs.Begin.{may_have, IsStarted, IsPrepared}
-use Rattle.xw_net.specs.Forget.{lost_from, Forgets}
+use Rattle.xw_net.specs.Inner.Forget.{lost_from, Forgets}
 use Rattle.xw_net.specs.Gone.{IsFreed}
 use Rattle.xw_net.specs.Opened.{arrays_of, IsTouched, MayGain, IsOpening, IsMoved, IsOpened}
 use Rattle.xw_net.specs.Opened.IsTouched.{by_light, by_cell, by_word}

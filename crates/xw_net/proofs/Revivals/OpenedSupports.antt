@@ -21,7 +21,7 @@ use Rattle.xw_feas.proofs.BoardLemmas.{length-lights}
 use Rattle.xw_net.specs.Worklist.{is_marked}
 use Rattle.xw_net.specs.Marks.{IsHolding}
 use Rattle.xw_net.specs.Begin.{may_have}
-use Rattle.xw_net.specs.Forget.{nowhere, lose, lost_from, Forgets}
+use Rattle.xw_net.specs.Inner.Forget.{nowhere, lose, lost_from, Forgets}
 use Rattle.xw_net.specs.Opened.{arrays_of, IsOpening, IsMoved}
 use Rattle.xw_net.proofs.Nets.RowRoom.{known_few}
 use Rattle.xw_net.proofs.Edits.SameLights.{same_is_matching}

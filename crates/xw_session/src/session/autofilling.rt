@@ -49,7 +49,7 @@ pub(crate) fn are_lights<E: Feasible>(engine: &E, lights: LightArgs<'_>) -> bool
     true
 }
 
-/// Returns the names of lights. Returns `NoLight` if the grid has not each of them, and `Memory` if an allocation fails.
+/// Returns the names of lights. Returns `NoLight` if the grid lacks one of them, and `Memory` if an allocation fails.
 pub(crate) fn names_of<E: Searchable>(
     alloc: Global,
     engine: &E,
@@ -70,8 +70,8 @@ pub(crate) fn names_of<E: Searchable>(
     Ok(names)
 }
 
-/// Fills these lights, or all lights if there are none, if a search finds a fill within its limit. Goes on with the search
-/// that left the hint, if it was for the same lights and seed.
+/// Fills these lights, or all lights if there are none, if a search finds a fill within its limit. Continues the
+/// search that left the hint, if it was for the same lights and seed.
 fn filled<E: Searchable>(
     alloc: Global,
     engine: &mut E,
@@ -112,7 +112,8 @@ impl<E: Searchable> Session<E> {
             seed,
             &mut self.hints.autofill,
         );
-        self.hints.forget_if(matches!(filled, Ok(Filling::Filled)));
+        self.hints
+            .end_autofill_if(matches!(filled, Ok(Filling::Filled)));
         end_filling(sink, filled)
     }
 }

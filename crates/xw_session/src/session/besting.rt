@@ -23,8 +23,8 @@ use xw_fill::search::Filling;
 use xw_lines::device::{Sink, WriteFailed};
 use xw_lines::outcome::Step;
 
-/// Fills these lights, or all lights if there are none, with the best fill that a search finds within its limit. Goes on
-/// with the search that left the hint, if it was for the same lights and seed.
+/// Fills these lights, or all lights if there are none, with the best fill that a search finds within its limit.
+/// Continues the search that left the hint, if it was for the same lights and seed and began with the same entries.
 fn best_filled<E: Searchable>(
     alloc: Global,
     engine: &mut E,
@@ -105,7 +105,7 @@ impl<E: Searchable> Session<E> {
             &mut self.hints.best,
         );
         self.hints
-            .forget_if(matches!(best, Ok(Best::Filled { .. })));
+            .end_autofill_if(matches!(best, Ok(Best::Filled { .. })));
         end_best(sink, best)
     }
 }

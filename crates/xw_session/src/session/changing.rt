@@ -51,7 +51,7 @@ impl<E: Feasible> Session<E> {
     }
 
     pub(crate) fn light(&self, named: LightArg) -> Option<Light>
-        ensures { result ≡ light_named_so self.now.position.grid named }
+        ensures { result ≡ light_named_so self.now.engine.grid named }
     {
         self.engine.grid().well_formed();
         match light_name(named) {

@@ -129,8 +129,8 @@ fn write_entered<E: Feasible, W: Sink>(
     write_entered_choice(sink, word.bytes(), fewest_words(engine))
 }
 
-/// Writes the first feasible words of a light from an index on, at most `most`, with what each leaves. Leaves the engine's
-/// state as it was.
+/// Writes the first feasible words of a light from an index on, at most `most`, with what each leaves. Leaves the
+/// engine's state as it was.
 fn write_weighed<E: Feasible, W: Sink>(
     sink: &mut W,
     engine: &mut E,
@@ -149,8 +149,8 @@ fn write_weighed<E: Feasible, W: Sink>(
     }
 }
 
-/// Returns the index of the known word that a command names, active or struck. Returns `BadLetter` for a byte that is not
-/// a letter, then `PlaceLength` if the light has another length, and then `Unknown` if the word is not known.
+/// Returns the index of the known word that a command names, active or struck. Returns `BadLetter` for a byte that is
+/// not a letter, then `PlaceLength` if the light has another length, and then `Unknown` if the word is not known.
 fn spelled_index<E: Feasible>(
     engine: &E,
     light: usize,
@@ -193,7 +193,7 @@ impl<E: Feasible> Session<E> {
 
     /// Returns the index of the light that a command names.
     fn light_index(&self, named: LightArg) -> Option<usize>
-        ensures { result ≡ index_named (lights_of self.now.position.grid) (name_of_light named) }
+        ensures { result ≡ index_named (lights_of self.now.engine.grid) (name_of_light named) }
     {
         self.engine.grid().well_formed();
         match light_name(named) {
@@ -202,8 +202,8 @@ impl<E: Feasible> Session<E> {
         }
     }
 
-    /// Answers `choices`: the first feasible words of a light from a word on, each with the fewest words that it leaves to
-    /// a light.
+    /// Answers `choices`: the first feasible words of a light from a word on, each with the fewest words that it
+    /// leaves to a light.
     pub(crate) fn answer_choices<W: Sink>(
         &mut self,
         named: LightArg,

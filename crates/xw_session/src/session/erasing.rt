@@ -80,14 +80,14 @@ fn is_held<E: Feasible>(engine: &E, direction: Direction, cell: Cell) -> bool
     }
 }
 
-/// Returns whether a cell has a letter and, if complete words are spared, none of them crosses there.
+/// Returns whether a cell has a letter and, if `spares` is set, no complete word crosses there.
 fn is_erased<E: Feasible>(engine: &E, spares: bool, direction: Direction, cell: Cell) -> bool
     ensures { result ≡ is_erased_cell (E.state engine.now) spares direction cell }
 {
     engine.grid().entry(cell).is_some() && !(spares && is_held(engine, direction, cell))
 }
 
-/// Returns such cells of a light.
+/// Returns the cells of a light that pass this test.
 fn cells_erased<E: Feasible>(engine: &E, spares: bool, light: &Light) -> Emptied
     requires short { light.now.size ≤ 255 }
     requires inside { (light.now.start.row ≤ 255) × (light.now.start.col ≤ 255) }

@@ -38,8 +38,8 @@ impl<E: Feasible> Session<E> {
     ghost use Rattle.xw_commands.specs.declared.command.Command.TheVariants as commands;
 
     fn field_target(&self, field: Field) -> Result<Target, Refusal>
-        ensures ok { IfOk result (λ target. (target ≡ target_of field) × (has_target self.now.position.grid (target_of field) ≡ true)) }
-        ensures refused { IfErr result (λ refusal. (refusal ≡ Refusal.Grid GridFault.OutOfGrid) × (has_target self.now.position.grid (target_of field) ≡ false)) }
+        ensures ok { IfOk result (λ target. (target ≡ target_of field) × (has_target self.now.engine.grid (target_of field) ≡ true)) }
+        ensures refused { IfErr result (λ refusal. (refusal ≡ Refusal.Grid GridFault.OutOfGrid) × (has_target self.now.engine.grid (target_of field) ≡ false)) }
     {
         match field {
             Field::Text(name) => Ok(Target::Text(name)),

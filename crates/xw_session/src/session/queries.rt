@@ -213,10 +213,10 @@ impl<E: Feasible> Session<E> {
 
     /// Returns the feasible words of a light and their count.
     fn counted_by(&self, name: LightName) -> Option<(usize, WordIter<'_, E>)>
-        ensures some { IfSome result (λ found. (light : ℕ) × (index_named (lights_of self.now.position.grid) name ≡ Some light)
-            × (found.0 ≡ length (feasible_words (position_of self.now.position) light))
-            × (found.1 ≡ feasible_words (position_of self.now.position) light)) }
-        ensures none { IfNone result (index_named (lights_of self.now.position.grid) name ≡ None) }
+        ensures some { IfSome result (λ found. (light : ℕ) × (index_named (lights_of self.now.engine.grid) name ≡ Some light)
+            × (found.0 ≡ length (feasible_words (position_of self.now.engine) light))
+            × (found.1 ≡ feasible_words (position_of self.now.engine) light)) }
+        ensures none { IfNone result (index_named (lights_of self.now.engine.grid) name ≡ None) }
     {
         match (self.engine.word_count(name), words(&self.engine, name)) {
             (Ok(count), Ok(found)) => Some((count, found)),
@@ -226,10 +226,10 @@ impl<E: Feasible> Session<E> {
 
     /// Returns the feasible words, and their count, of the light named in a command.
     fn counted_words(&self, named: LightArg) -> Option<(usize, WordIter<'_, E>)>
-        ensures some { IfSome result (λ found. (light : ℕ) × (index_named (lights_of self.now.position.grid) (name_of_light named) ≡ Some light)
-            × (found.0 ≡ length (feasible_words (position_of self.now.position) light))
-            × (found.1 ≡ feasible_words (position_of self.now.position) light)) }
-        ensures none { IfNone result (index_named (lights_of self.now.position.grid) (name_of_light named) ≡ None) }
+        ensures some { IfSome result (λ found. (light : ℕ) × (index_named (lights_of self.now.engine.grid) (name_of_light named) ≡ Some light)
+            × (found.0 ≡ length (feasible_words (position_of self.now.engine) light))
+            × (found.1 ≡ feasible_words (position_of self.now.engine) light)) }
+        ensures none { IfNone result (index_named (lights_of self.now.engine.grid) (name_of_light named) ≡ None) }
     {
         self.engine.grid().well_formed();
         match light_name(named) {
@@ -331,7 +331,8 @@ impl<E: Searchable> Session<E> {
         ensures { AnswersTo W.transcript W.failures self.old (commands.Fill limit) result self.new sink.old sink.new }
     {
         let filled = fill(self.alloc, &mut self.engine, limit);
-        self.hints.forget_if(matches!(filled, Ok(Filling::Filled)));
+        self.hints
+            .end_autofill_if(matches!(filled, Ok(Filling::Filled)));
         end_filling(sink, filled)
     }
 }

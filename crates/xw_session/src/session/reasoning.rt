@@ -45,7 +45,7 @@ fn write_entries<W: Sink>(
     Ok(())
 }
 
-/// Returns the refusal where there is no reason.
+/// Returns the refusal for a search that found no reason.
 fn refusal_without_reason(refusal: NoReason) -> Refusal
     ensures { result ≡ refusal_where_none refusal }
 {

@@ -50,17 +50,13 @@ fn words_with<E: Searchable>(
     requires { index_through (lights_of (E.state engine.now).grid) direction cell ≡ Some light }
     ensures { result ≡ count_of_words_with (E.state engine.now) direction cell letter light }
 {
-    match engine.lights().get(light) {
-        Some(found) => {
-            let position = distance(direction, found.start, cell);
-            engine.tally(light, position as usize, letter)
-        }
-        None => unreachable!(),
-    }
+    let found = engine.lights().at(light);
+    let position = distance(direction, found.start, cell);
+    engine.tally(light, position as usize, letter)
 }
 
-/// Returns the number of feasible words of the light through a cell that have the letter there, or `None` if no light in
-/// this direction goes through it.
+/// Returns the number of feasible words of the light through a cell that have the letter there, or `None` if no light
+/// in this direction goes through it.
 fn tally_at<E: Searchable>(
     engine: &E,
     direction: Direction,
@@ -138,7 +134,7 @@ impl<E: Searchable> Session<E> {
 
     /// Returns a cell with its feasible letters. Returns `OutOfGrid` or `OnBlock` if it has none.
     fn tallied(&self, spot: CellArg) -> Result<(Cell, LetterSet), Refusal>
-        ensures ok { IfOk result (λ found. tallied_so self.now (cell_of spot) ≡ shown self.now (flat_map (tally_line self.now.position found.0) (letters_in found.1))) }
+        ensures ok { IfOk result (λ found. tallied_so self.now (cell_of spot) ≡ shown self.now (flat_map (tally_line self.now.engine found.0) (letters_in found.1))) }
         ensures refused { IfErr result (λ refusal. tallied_so self.now (cell_of spot) ≡ Err refusal) }
     {
         let cell = self.cell(spot)?;

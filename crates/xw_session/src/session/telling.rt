@@ -52,9 +52,7 @@ fn write_count_at<E: Feasible, W: Sink>(
     requires { index < length (lights_of (E.state engine.now).grid) }
     ensures { Sends W.transcript W.failures sink.old sink.new result (count_line (E.state engine.now) index) }
 {
-    let Some(light) = engine.lights().get(index) else {
-        return Ok(());
-    };
+    let light = engine.lights().at(index);
     text::write_numbered(sink, light.name, engine.word_count_at(index) as u64)
 }
 
@@ -82,7 +80,7 @@ impl<E: Feasible> Session<E> {
 
     /// Writes the counts of the grid.
     fn write_stats<W: Sink>(&self, sink: &mut W) -> Result<(), WriteFailed>
-        ensures { Sends W.transcript W.failures sink.old sink.new result (stat_lines self.now.position.grid) }
+        ensures { Sends W.transcript W.failures sink.old sink.new result (stat_lines self.now.engine.grid) }
     {
         let engine = &self.engine;
         stats::write_stats(sink, engine.grid(), engine.lights())

@@ -7,10 +7,10 @@ use Rattle.xw_session_laws.proofs.bars_are_made_again.Goals as goal
 
 pub returns-clause-right : goal.returns-clause-right
 returns-clause-right c = λ state made is only.
-    let grid = made.position.grid in
+    let grid = made.engine.grid in
     right_again state grid is only (replicate (grid.width * grid.height) (Open None)) (replicate (grid.width * grid.height) false) (length-replicate (grid.width * grid.height) false) made.clues made.circles
 
 pub returns-clause-below : goal.returns-clause-below
 returns-clause-below c = λ state made is only.
-    let grid = made.position.grid in
+    let grid = made.engine.grid in
     below_again state grid is only (replicate (grid.width * grid.height) (Open None)) grid.right is.right made.clues made.circles

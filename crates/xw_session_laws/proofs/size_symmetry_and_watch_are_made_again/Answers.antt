@@ -6,7 +6,7 @@ pub returns-clause-size : goal.returns-clause-size
 returns-clause-size c = size_again
 
 pub returns-clause-symmetry : goal.returns-clause-symmetry
-returns-clause-symmetry c = λ state made is wide high. symmetry_again state made.position.grid.symmetry (λ quarter. wide ∙ is.turned quarter ∙ sym high)
+returns-clause-symmetry c = λ state made is wide high. symmetry_again state made.engine.grid.symmetry (λ quarter. wide ∙ is.turned quarter ∙ sym high)
 
 pub returns-clause-watch : goal.returns-clause-watch
 returns-clause-watch c = λ state made. refl

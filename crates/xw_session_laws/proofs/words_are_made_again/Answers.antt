@@ -6,5 +6,5 @@ use Rattle.xw_session_laws.proofs.words_are_made_again.Goals as goal
 
 pub returns : goal.returns
 returns c = λ state made was is least begun first.
-    ap (λ counts. replayed state (word_commands counts made.position.words)) begun
-    ∙ words_again state state.position.words made.position.words is was.lengths least refl first
+    ap (λ counts. replayed state (word_commands counts made.engine.words)) begun
+    ∙ words_again state state.engine.words made.engine.words is was.lengths least refl first

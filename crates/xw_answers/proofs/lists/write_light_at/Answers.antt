@@ -1,6 +1,4 @@
-use Rattle.std.proofs.Common.{◌≡◌, ◌<◌, ◌≤◌, List, length, get_or, Some, None, sym, ◌∙◌, subst}
-use Rattle.std.specs.Prelude.{slice_get}
-use Rattle.std.proofs.lemmas.Option.{get_or_from_slice_get, slice_get-get_or}
+use Rattle.std.proofs.Common.{◌≡◌, ◌<◌, ◌≤◌, List, length, get_or, sym, subst}
 use Rattle.xw_grid.specs.declared.lights.Light.{Light}
 use Rattle.xw_grid.specs.Light.{no_light}
 use Rattle.xw_lines.specs.Sends.{Sends}
@@ -10,25 +8,16 @@ use Rattle.xw_answers.proofs.lists.write_light_at.Goals as goal
 
 pub write_light-requires-clause-short : goal.write_light-requires-clause-short
 write_light-requires-clause-short g c =
-    let is : get_or c.args.lights.now c.args.index no_light ≡ c.in-Some.light = get_or_from_slice_get c.args.lights.now c.args.index c.in-Some.light no_light (sym c.get.ensures ∙ c.in-Some.is) in
     let Short : List Light → Type 0 = λ lights. c.args.index < length lights → (get_or lights c.args.index no_light).size ≤ 255 in
     let short : Short c.args.lights.now = subst Short (sym c.requires.lights) (λ within. (light_short c.args.grid.now c.args.index c.well_formed-2.ensures within).0) in
-    subst (λ (light : Light). light.size ≤ 255) is (short c.requires.index)
+    subst (λ (light : Light). light.size ≤ 255) (sym c.at.ensures) (short c.requires.index)
 
 pub write_light-requires-clause-inside : goal.write_light-requires-clause-inside
 write_light-requires-clause-inside g c =
-    let is : get_or c.args.lights.now c.args.index no_light ≡ c.in-Some.light = get_or_from_slice_get c.args.lights.now c.args.index c.in-Some.light no_light (sym c.get.ensures ∙ c.in-Some.is) in
     let Inside : List Light → Type 0 = λ lights. c.args.index < length lights → ((get_or lights c.args.index no_light).start.row ≤ 255) × ((get_or lights c.args.index no_light).start.col ≤ 255) in
     let inside : Inside c.args.lights.now = subst Inside (sym c.requires.lights) (λ within. let all = light_short c.args.grid.now c.args.index c.well_formed-2.ensures within in (all.1, all.2)) in
-    subst (λ (light : Light). (light.start.row ≤ 255) × (light.start.col ≤ 255)) is (inside c.requires.index)
+    subst (λ (light : Light). (light.start.row ≤ 255) × (light.start.col ≤ 255)) (sym c.at.ensures) (inside c.requires.index)
 
-pub returns-in-Some : goal.returns-in-Some
-returns-in-Some g c =
-    let is : get_or c.args.lights.now c.args.index no_light ≡ c.in-Some.light = get_or_from_slice_get c.args.lights.now c.args.index c.in-Some.light no_light (sym c.get.ensures ∙ c.in-Some.is) in
-    subst (λ (light : Light). Sends g.W.Sink.transcript g.W.Sink.failures c.args.sink.now c.write_light.new.sink c.write_light.result (light_line c.args.grid.now light)) (sym is) c.write_light.ensures
-
-pub returns-in-None : goal.returns-in-None
-returns-in-None g c =
-    let some : slice_get c.args.lights.now c.args.index ≡ Some (get_or c.args.lights.now c.args.index no_light) = slice_get-get_or c.args.lights.now c.args.index no_light c.requires.index in
-    let none : slice_get c.args.lights.now c.args.index ≡ None = sym c.get.ensures ∙ c.in-None.is in
-    absurd (let bad : None ≡ Some (get_or c.args.lights.now c.args.index no_light) = sym none ∙ some in cc)
+pub returns : goal.returns
+returns g c =
+    subst (λ (light : Light). Sends g.W.Sink.transcript g.W.Sink.failures c.args.sink.now c.write_light.new.sink c.write_light.result (light_line c.args.grid.now light)) c.at.ensures c.write_light.ensures

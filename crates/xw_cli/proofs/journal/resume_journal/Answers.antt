@@ -2,7 +2,7 @@ use Rattle.std.proofs.Common.{inl, inr, sym, subst}
 use Rattle.std.proofs.lemmas.Result.{err_from_is_err_and}
 use Rattle.std.specs.Prelude.{Ok}
 use Rattle.xw_disk.specs.Disk.{open_}
-use Rattle.xw_cli.specs.Files.{Asks}
+use Rattle.xw_puzzle_files.specs.Files.{Asks}
 use Rattle.xw_cli.proofs.journal.resume_journal.Goals as goal
 
 pub returns-in_err-start-clause-err : goal.returns-in_err-start-clause-err

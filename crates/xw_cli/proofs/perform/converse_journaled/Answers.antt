@@ -2,7 +2,7 @@ use Rattle.std.proofs.Common.{subst}
 use Rattle.std.specs.Prelude.{Some}
 use Rattle.xw_journal.specs.Journal.{AnswersJournaled, StopsAtJournal}
 use Rattle.xw_disk.specs.Disk.{take_lines}
-use Rattle.xw_cli.specs.Files.{Asks}
+use Rattle.xw_puzzle_files.specs.Files.{Asks}
 use Rattle.xw_cli.specs.Performed.{Ends, IsJournalEnd}
 use Rattle.xw_cli.proofs.Runs.{answers_input}
 use Rattle.xw_cli.proofs.perform.converse_journaled.Goals as goal

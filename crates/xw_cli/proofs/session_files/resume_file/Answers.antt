@@ -1,8 +1,8 @@
 use Rattle.std.proofs.Common.{inl, inr, sym, subst}
 use Rattle.std.specs.Prelude.{Ok}
 use Rattle.xw_disk.specs.Disk.{read}
-use Rattle.xw_cli.specs.Explained.{GoesOut}
-use Rattle.xw_cli.specs.Files.{Asks}
+use Rattle.xw_puzzle_files.specs.Explained.{GoesOut}
+use Rattle.xw_puzzle_files.specs.Files.{Asks}
 use Rattle.xw_cli.specs.SessionFiles.{cut_line, Replays}
 use Rattle.xw_cli.proofs.session_files.resume_file.Goals.{then-whole-len+in_ok-tell_cut, else-whole-len}
 use Rattle.xw_cli.proofs.session_files.resume_file.Goals as goal

@@ -1,6 +1,6 @@
 use Rattle.std.proofs.Common.{◌≡◌, ◌∙◌, append_assoc}
 use Rattle.xw_cli.specs.SessionFiles.{old_line}
-use Rattle.xw_cli.proofs.Told.{goes_out}
+use Rattle.xw_puzzle_files.proofs.Told.{goes_out}
 use Rattle.xw_cli.proofs.session_files.tell_kept.Goals as goal
 
 pub returns-clause-told : goal.returns-clause-told

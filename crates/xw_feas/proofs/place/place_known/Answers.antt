@@ -10,7 +10,7 @@ use Rattle.xw_feas.proofs.place.place_known.Goals as goal
 pub word-requires : goal.word-requires
 word-requires c =
     let state : State = record { grid = c.args.grid.now; words = c.args.bank.now.words } in
-    let found : c.nth_light-found.result ≡ light_of state c.args.light = c.nth_light-found.ensures ∙ ap (λ lights. get_or lights c.args.light no_light) c.requires.lights in
+    let found : c.at-found.result ≡ light_of state c.args.light = c.at-found.ensures ∙ ap (λ lights. get_or lights c.args.light no_light) c.requires.lights in
     subst (λ (light : Light). c.args.index < length (row c.args.bank.now.words light.size)) (sym found) c.requires.index
 
 pub returns-clause-placed : goal.returns-clause-placed
@@ -18,7 +18,7 @@ returns-clause-placed c =
     let grid = c.args.grid.now in
     let words = c.args.bank.now.words in
     let state : State = record { grid = grid; words = words } in
-    let found : c.nth_light-found.result ≡ light_of state c.args.light = c.nth_light-found.ensures ∙ ap (λ lights. get_or lights c.args.light no_light) c.requires.lights in
+    let found : c.at-found.result ≡ light_of state c.args.light = c.at-found.ensures ∙ ap (λ lights. get_or lights c.args.light no_light) c.requires.lights in
     let word : c.word.result.now ≡ (entry_at (row words (light_of state c.args.light).size) c.args.index).word =
     c.word.ensures.word ∙ ap (λ (light : Light). (entry_at (row words light.size) c.args.index).word) found in
     known_accepted state c.args.light c.args.index c.known_distinct.ensures c.requires.light c.requires.index

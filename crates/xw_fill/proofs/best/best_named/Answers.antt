@@ -1,9 +1,9 @@
 use Rattle.xw_fill.specs.NamedFill.{flags, is_named}
 use Rattle.xw_fill.proofs.StateLemmas.{in_grid_light}
-use Rattle.xw_fill.proofs.ClimbLemmas.{if_best_same}
+use Rattle.xw_fill.proofs.ClimbLemmas.{best_same}
 use Rattle.xw_fill.proofs.best.best_named.Goals as goal
 
 pub returns-clause-ok : goal.returns-clause-ok
 returns-clause-ok g c =
     let start = g.E.Feasible.state c.args.engine.now in
-    if_best_same (flags c.in_ok-named.named.items) (is_named start c.args.names.now) start (λ light in_grid. c.in_ok-named.ensures.ok light (in_grid_light start.grid light in_grid)) (g.E.Feasible.state c.best_flagged.new.engine) c.best_flagged.result c.best_flagged.ensures.ok
+    best_same (flags c.in_ok-named.named.items) (is_named start c.args.names.now) start (λ light in_grid. c.in_ok-named.ensures.ok light (in_grid_light start.grid light in_grid)) (g.E.Feasible.state c.best_flagged.new.engine) c.in_ok-best_flagged.field-0 c.in_ok-best_flagged.ensures.ok

@@ -3,7 +3,7 @@ use Rattle.std.specs.Result.{is_ok}
 use Rattle.xw_fill.specs.Position.{position_of, name_at}
 use Rattle.xw_fill.specs.Listing.{is_unlisted}
 use Rattle.xw_fill.proofs.ListingLemmas.{named-more, named-same}
-use Rattle.xw_fill.proofs.listing.unlisted.Goals.{then-is_unlisted+in_ok-map_err, else-is_unlisted}
+use Rattle.xw_fill.proofs.listing.unlisted.Goals.{then-is_unlisted+in_ok-push, else-is_unlisted}
 use Rattle.xw_fill.proofs.listing.unlisted.Goals as goal
 
 pub loop-light-preserved : goal.loop-light-preserved
@@ -13,8 +13,8 @@ loop-light-preserved g c =
     let light = c.loop-light.light in
     let before = c.loop-light.lights.items in
     elim c.if-is_unlisted.branch [
-      | then-is_unlisted+in_ok-map_err w ↦
-          let is_pushed = sym w.map_err.ensures.variant ∙ ap is_ok w.in_ok-map_err.was in
+      | then-is_unlisted+in_ok-push w ↦
+          let is_pushed = ap is_ok w.in_ok-push.was in
           ap (λ lights. lights.items) w.lights-is ∙ w.push.ensures.items
           ∙ ap (λ pushed. if pushed then before ++ w.name_at.result ∷ [] else before) is_pushed
           ∙ ap (λ name. before ++ name ∷ []) w.name_at.ensures

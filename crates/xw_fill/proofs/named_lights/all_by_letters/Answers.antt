@@ -11,5 +11,5 @@ returns-clause-ok g c =
     let before = g.E.Feasible.state c.args.engine.now in
     let after = g.E.Feasible.state c.fill_flagged.new.engine in
     let named = c.in_ok-named.named in
-    let all : (light : ℕ) → light < light_count (position_of before) → flags named.items light ≡ true = λ light in_grid. ap (λ list. flags list light) c.in_ok-named.ensures.ok ∙ get_or-replicate (light_count (position_of before)) light true _ in_grid in
+    let all : (light : ℕ) → light < light_count (position_of before) → flags named.items light ≡ true = λ light in_grid. ap (λ list. flags list light) c.in_ok-named.ensures ∙ get_or-replicate (light_count (position_of before)) light true _ in_grid in
     if_ok_same (flags named.items) (λ light. true) before after c.fill_flagged.result all c.fill_flagged.ensures.ok

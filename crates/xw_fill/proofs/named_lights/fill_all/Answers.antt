@@ -1,5 +1,4 @@
 use Rattle.std.proofs.Common.{true, subst}
-use Rattle.std.specs.Prelude.{IfOk}
 use Rattle.xw_feas.specs.State.{State}
 use Rattle.xw_fill.specs.Filling.{IsFilling}
 use Rattle.xw_fill.specs.NamedFill.{IsAutofilled}
@@ -26,4 +25,4 @@ returns-clause-ok g c =
     let begun = g.E.Feasible.state c.fill.new.engine in
     let after = g.E.Feasible.state c.all_by_letters.new.engine in
     let same = (subst (IsFilling c.first_share-first.result before begun) c.in-Limit.is c.in_ok-fill.ensures.found).1 in
-    subst (λ (s : State). IfOk c.all_by_letters.result (IsAutofilled (λ light. true) s after)) same c.all_by_letters.ensures.ok
+    subst (λ (s : State). IsAutofilled (λ light. true) s after c.in_ok-all_by_letters.field-0) same c.in_ok-all_by_letters.ensures.ok

@@ -1,13 +1,10 @@
-use Rattle.std.proofs.Common.{◌≡◌, refl, sym, ◌∙◌, inl, inr, subst}
+use Rattle.std.proofs.Common.{refl, sym, ◌∙◌, inl, inr, subst}
 use Rattle.xw_fill.specs.Position.{position_of}
-use Rattle.xw_fill.specs.Below.{any_below}
-use Rattle.xw_fill.specs.Search.{light_count, is_repeat}
 use Rattle.xw_fill.specs.NamedFill.{flags}
 use Rattle.xw_fill.specs.Inner.Progress.{entries_of, HasNone, IsDead, AreAlive}
 use Rattle.xw_fill.proofs.CheckLemmas.{repeated_from}
 use Rattle.xw_fill.proofs.NamedFills.{entered_start}
 use Rattle.xw_fill.proofs.LetterSearch.{refuted_has_none}
-use Rattle.xw_fill.proofs.Searching.{made}
 use Rattle.xw_fill.proofs.Naming.{open_start, some_found, none_found}
 use Rattle.xw_fill.proofs.named_lights.fill_planned.Goals as goal
 
@@ -29,7 +26,7 @@ returns-then-repeats-clause-ok g c =
     let position = position_of start in
     let named = flags c.args.plan.now.named.items in
     let letters = (g.met.E.Feasible.well_formed c.args.engine.now).board.letters in
-    let is = made c.has_repeat.result c.map_err.result c.in_ok-repeats.repeats _ (λ b. b ≡ any_below (is_repeat position) (light_count position)) c.map_err.ensures.cases (c.in_ok-repeats.was) c.has_repeat.ensures in
+    let is = c.in_ok-repeats.ensures in
     let none : HasNone named position (entries_of start) =
     refuted_has_none named position (entries_of start) c.args.plan.now.watched.items (entered_start named position letters) c.requires.plan.watched.are
     (inr (repeated_from position (sym is ∙ c.if-repeats.true))) in
@@ -40,7 +37,7 @@ run_again-requires-clause-open g c =
     let start = g.E.Feasible.state c.args.engine.now in
     let position = position_of start in
     let letters = (g.met.E.Feasible.well_formed c.args.engine.now).board.letters in
-    let is = made c.has_repeat.result c.map_err.result c.in_ok-repeats.repeats _ (λ b. b ≡ any_below (is_repeat position) (light_count position)) c.map_err.ensures.cases (c.in_ok-repeats.was) c.has_repeat.ensures in
+    let is = c.in_ok-repeats.ensures in
     open_start start c.args.plan.now c.deref.result.now letters c.requires.plan c.deref.ensures.value
     (none_found (AreAlive (flags c.deref.result.now) position) c.first_dead.result (sym c.is_some.ensures ∙ c.if-is_some.false) c.first_dead.ensures.alive)
     (sym is ∙ c.if-repeats.false)

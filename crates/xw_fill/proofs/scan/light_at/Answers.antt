@@ -1,9 +1,11 @@
-use Rattle.std.proofs.Common.{sym, ◌∙◌}
-use Rattle.xw_fill.proofs.StateLemmas.{light_got, light_missing}
+use Rattle.std.proofs.Common.{◌<◌, List, length, get_or, sym, ap, subst, ◌∙◌}
+use Rattle.xw_grid.specs.declared.lights.Light.{Light}
+use Rattle.xw_grid.specs.Light.{no_light}
+use Rattle.xw_fill.proofs.StateLemmas.{in_grid_light}
 use Rattle.xw_fill.proofs.scan.light_at.Goals as goal
 
-pub unreachable-requires : goal.unreachable-requires
-unreachable-requires g c = light_missing (g.E.Feasible.state c.args.engine.now).grid c.lights.result.now c.args.light c.lights.ensures c.requires (sym c.get.ensures ∙ c.in-None.is)
+pub at-requires : goal.at-requires
+at-requires g c = subst (λ (lights : List Light). c.args.light < length lights) (sym c.lights.ensures) (in_grid_light (g.E.Feasible.state c.args.engine.now).grid c.args.light c.requires)
 
 pub returns : goal.returns
-returns g c = light_got (g.E.Feasible.state c.args.engine.now).grid c.lights.result.now c.args.light c.in-Some.light c.lights.ensures (sym c.get.ensures ∙ c.in-Some.is)
+returns g c = c.at.ensures ∙ ap (λ lights. get_or lights c.args.light no_light) c.lights.ensures

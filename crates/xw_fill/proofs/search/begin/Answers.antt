@@ -1,10 +1,7 @@
-use Rattle.std.proofs.Common.{◌≡◌, sym, ◌∙◌}
+use Rattle.std.proofs.Common.{sym, ◌∙◌}
 use Rattle.xw_fill.specs.Position.{position_of}
-use Rattle.xw_fill.specs.Below.{any_below}
-use Rattle.xw_fill.specs.Search.{light_count, is_repeat}
 use Rattle.xw_fill.proofs.NotedLemmas.{noted-none}
 use Rattle.xw_fill.proofs.ScanLemmas.{outlook-blocked, outlook-open}
-use Rattle.xw_fill.proofs.Searching.{made}
 use Rattle.xw_fill.proofs.search.begin.Goals as goal
 
 pub note_entered-requires-clause-before : goal.note_entered-requires-clause-before
@@ -16,5 +13,4 @@ returns-in-Blocked-clause-next g c = sym (outlook-blocked (position_of (g.E.Feas
 pub returns-in_ok-repeats-in-Open-clause-next : goal.returns-in_ok-repeats-in-Open-clause-next
 returns-in_ok-repeats-in-Open-clause-next g c =
     let position = position_of (g.E.Feasible.state c.args.engine.now) in
-    let again = made c.has_repeat.result c.map_err.result c.in_ok-repeats-in-Open.repeats _ (λ repeats. repeats ≡ any_below (is_repeat position) (light_count position)) c.map_err.ensures.cases c.in_ok-repeats-in-Open.was c.has_repeat.ensures in
-    c.open_outlook.ensures ∙ sym (outlook-open position c.scan_lights.result c.in-Open.chosen c.in_ok-repeats-in-Open.repeats c.scan_lights.ensures c.in-Open.is again)
+    c.open_outlook.ensures ∙ sym (outlook-open position c.scan_lights.result c.in-Open.chosen c.in_ok-repeats-in-Open.repeats c.scan_lights.ensures c.in-Open.is c.in_ok-repeats-in-Open.ensures)

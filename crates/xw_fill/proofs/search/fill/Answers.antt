@@ -10,7 +10,7 @@ use Rattle.xw_fill.specs.Inner.Tries.{AreBlanks, IsMade}
 use Rattle.xw_fill.specs.declared.search.Filling.TheVariants.{Filled, NoFill}
 use Rattle.xw_fill.specs.declared.search.Next.TheVariants.{Words}
 use Rattle.xw_fill.proofs.FeasibleWordsLemmas.{AreAnswers-along}
-use Rattle.xw_fill.proofs.Searching.{IsSearching, IsSound-formed, searching-start, searching-back, searching-spent, searching-open, searching-placed, searching-room, searching-done, searching-none, filling-fill, made, searching-popped, searching-empty, searching-alive, searching-count, outcome_filling, last-index, due-more}
+use Rattle.xw_fill.proofs.Searching.{IsSearching, IsSound-formed, searching-start, searching-back, searching-spent, searching-open, searching-placed, searching-failed, searching-room, searching-done, searching-none, filling-fill, searching-popped, searching-empty, searching-alive, searching-count, outcome_filling, last-index, due-more}
 use Rattle.xw_fill.proofs.StateLemmas.{DiffersInEntries-itself, DiffersInEntries-then}
 use Rattle.xw_fill.proofs.Trail.{after_try, AreNotedAlong, noted-last, noted-back, noted-more}
 use Rattle.xw_fill.proofs.search.fill.Goals as goal
@@ -84,8 +84,8 @@ next_word_index-requires-clause-not_entered g c =
     let is = searching-open start current c.search.stack.placements.items c.search.used c.in-Words.light c.in-Words.from searching in
     is.1
 
-pub try_word-next-requires-clause-alive : goal.try_word-next-requires-clause-alive
-try_word-next-requires-clause-alive g c =
+pub try_word-requires-clause-alive : goal.try_word-requires-clause-alive
+try_word-requires-clause-alive g c =
     let before = g.E.Feasible.state c.args.engine.now in
     let start = position_of before in
     let now = g.E.Feasible.state c.search.engine in
@@ -129,7 +129,7 @@ pub search-init : goal.search-init
 search-init g c =
     let before = g.E.Feasible.state c.args.engine.now in
     let start = position_of before in
-    let many : vec_len c.in_ok-since.since ≡ c.light_count-count.result = made c.vec.result c.map_err.result c.in_ok-since.since _ (λ v. vec_len v ≡ c.light_count-count.result) c.map_err.ensures.cases (c.in_ok-since.was) c.vec.ensures.len in
+    let many : vec_len c.in_ok-since.since ≡ c.light_count-count.result = c.in_ok-since.ensures.len in
     let ok = c.in_ok-since.since.ok in
     let long : length c.in_ok-since.since.items ≡ light_count start = omega (arith, many, ok, c.light_count-count.ensures) in
     record {
@@ -196,14 +196,14 @@ make_try-tried-requires g c =
     let is = searching-open start current c.search.stack.placements.items c.search.used c.in-Words.light c.in-Words.from searching in
     record { light_in = is.0; not_entered = is.1; index_in = c.in-Some-next_word_index.ensures.within; feasible = c.in-Some-next_word_index.ensures.feasible }
 
-pub try_word-next-requires-clause-long : goal.try_word-next-requires-clause-long
-try_word-next-requires-clause-long g c =
+pub try_word-requires-clause-long : goal.try_word-requires-clause-long
+try_word-requires-clause-long g c =
     let start = position_of (g.E.Feasible.state c.args.engine.now) in
     let current = position_of (g.E.Feasible.state c.search.engine) in
     ap length c.as_mut_slice-in-Some-next_word_index.ensures.value ∙ c.search.invariant.long ∙ sym (searching-count start current c.search.stack.placements.items c.search.used c.search.next c.search.invariant.searching)
 
-pub try_word-next-requires-clause-entered : goal.try_word-next-requires-clause-entered
-try_word-next-requires-clause-entered g c =
+pub try_word-requires-clause-entered : goal.try_word-requires-clause-entered
+try_word-requires-clause-entered g c =
     let start = position_of (g.E.Feasible.state c.args.engine.now) in
     let current = position_of (g.E.Feasible.state c.search.engine) in
     let tries = c.search.stack.placements.items in
@@ -211,21 +211,21 @@ try_word-next-requires-clause-entered g c =
     let same : length tries + 0 ≡ length tries = omega arith in
     subst (λ since. AreEntered current (noted since (suc (length tries)))) (sym c.as_mut_slice-in-Some-next_word_index.ensures.value) (subst (λ n. AreEntered current (noted c.search.since.items (suc n))) same last)
 
-pub try_word-next-requires-clause-room : goal.try_word-next-requires-clause-room
-try_word-next-requires-clause-room g c =
+pub try_word-requires-clause-room : goal.try_word-requires-clause-room
+try_word-requires-clause-room g c =
     let start = position_of (g.E.Feasible.state c.args.engine.now) in
     let current = position_of (g.E.Feasible.state c.search.engine) in
     let searching = subst (IsSearching start c.search.stack.placements.items c.search.used current) c.in-Words.is c.search.invariant.searching in
     let room = searching-room start current c.search.stack.placements.items c.search.used c.in-Words.light c.in-Words.from searching in
     omega (arith, room, c.search.invariant.room)
 
-pub search-preserved : goal.search-preserved
-search-preserved g c =
+pub search-preserved-in-Some-try_word : goal.search-preserved-in-Some-try_word
+search-preserved-in-Some-try_word g c =
     let before = g.E.Feasible.state c.args.engine.now in
     let start = position_of before in
     let now = g.E.Feasible.state c.search.engine in
     let current = position_of now in
-    let after = g.E.Feasible.state c.try_word-next.new.engine in
+    let after = g.E.Feasible.state c.try_word.new.engine in
     let tries = c.search.stack.placements.items in
     let tried = c.make_try-tried.result in
     let is = c.make_try-tried.ensures in
@@ -233,21 +233,52 @@ search-preserved g c =
     let sound = IsSound-formed before (g.met.E.Feasible.well_formed c.args.engine.now) in
     let blanks = subst (λ light. AreBlanks current.board (light_at current.board light) tried.blanks) is.light is.can.blanks in
     let placed_now = searching-placed start current tries c.search.used c.in-Words.light c.in-Words.from c.in-Some-next_word_index.index tried sound searching c.in-Some-next_word_index.ensures is.light is.index blanks in
-    let there : position_of after ≡ after_try current tried = c.try_word-next.ensures.made.placed in
-    let items = c.try_word-next.ensures.tries in
+    let placed = c.in-Some-try_word.ensures.placed in
+    let there : position_of after ≡ after_try current tried = placed.made.placed in
+    let items = placed.pushed in
     let ok_since = c.search.since.ok in
     let value = ap length c.as_mut_slice-in-Some-next_word_index.ensures.value in
-    let since_is = with_items_is c.search.since c.try_word-next.new.since (omega (arith, c.try_word-next.ensures.long, value, ok_since)) in
+    let since_is = with_items_is c.search.since c.try_word.new.since (omega (arith, c.try_word.ensures.long, value, ok_since)) in
     let count : length tries ≡ length tries + 0 = omega arith in
-    let stay = subst (λ n. StayNoted (suc n) c.search.since.items c.try_word-next.new.since) count (subst (λ old. StayNoted (suc (length tries)) old c.try_word-next.new.since) c.as_mut_slice-in-Some-next_word_index.ensures.value c.try_word-next.ensures.stay) in
-    let last = subst (λ n. AreEntered (after_try current tried) (noted c.try_word-next.new.since (suc (suc n)))) count (subst (λ position. AreEntered position (noted c.try_word-next.new.since (suc (suc (length tries))))) there c.try_word-next.ensures.entered) in
+    let stay = subst (λ n. StayNoted (suc n) c.search.since.items c.try_word.new.since) count (subst (λ old. StayNoted (suc (length tries)) old c.try_word.new.since) c.as_mut_slice-in-Some-next_word_index.ensures.value c.try_word.ensures.stay) in
+    let last = subst (λ n. AreEntered (after_try current tried) (noted c.try_word.new.since (suc (suc n)))) count (subst (λ position. AreEntered position (noted c.try_word.new.since (suc (suc (length tries))))) there placed.entered) in
     record {
-      searching = rw (items, c.try_word-next.ensures.next, there) placed_now;
-      entries = DiffersInEntries-then before now after c.search.invariant.entries c.try_word-next.ensures.made.entries;
-      root = c.try_word-next.ensures.start ∙ c.search.invariant.root;
-      stands = c.try_word-next.ensures.stands;
-      room = omega (arith, c.try_word-next.ensures.capacity, c.search.invariant.room);
+      searching = rw (items, placed.step, there) placed_now;
+      entries = DiffersInEntries-then before now after c.search.invariant.entries c.try_word.ensures.entries;
+      root = c.try_word.ensures.start ∙ c.search.invariant.root;
+      stands = c.try_word.ensures.stands;
+      room = omega (arith, c.try_word.ensures.capacity, c.search.invariant.room);
       few = omega (arith, c.if-used-limit.false, c.search.invariant.few);
-      noted = rw (items, since_is) (noted-more tries _ start _ _ current tried c.search.since.items c.try_word-next.new.since 0 c.search.invariant.searching.trail c.search.invariant.noted stay last);
-      long = ap length since_is ∙ c.try_word-next.ensures.long ∙ value ∙ c.search.invariant.long;
+      noted = rw (items, since_is) (noted-more tries _ start _ _ current tried c.search.since.items c.try_word.new.since 0 c.search.invariant.searching.trail c.search.invariant.noted stay last);
+      long = ap length since_is ∙ c.try_word.ensures.long ∙ value ∙ c.search.invariant.long;
+    }
+
+pub search-preserved : goal.search-preserved
+search-preserved g c =
+    let before = g.E.Feasible.state c.args.engine.now in
+    let start = position_of before in
+    let now = g.E.Feasible.state c.search.engine in
+    let current = position_of now in
+    let after = g.E.Feasible.state c.try_word.new.engine in
+    let tries = c.search.stack.placements.items in
+    let tried = c.make_try-tried.result in
+    let is = c.make_try-tried.ensures in
+    let searching = subst (IsSearching start tries c.search.used current) c.in-Words.is c.search.invariant.searching in
+    let sound = IsSound-formed before (g.met.E.Feasible.well_formed c.args.engine.now) in
+    let blanks = subst (λ light. AreBlanks current.board (light_at current.board light) tried.blanks) is.light is.can.blanks in
+    let died = c.in-None-try_word.ensures.died in
+    let failed = searching-failed start current tries c.search.used c.in-Words.light c.in-Words.from c.in-Some-next_word_index.index tried (position_of died.there) sound searching c.in-Some-next_word_index.ensures is.light is.index blanks died.made.placed died.made.back died.dead in
+    let ok_since = c.search.since.ok in
+    let value = c.as_mut_slice-in-Some-next_word_index.ensures.value in
+    let since_is = with_items_is c.search.since c.try_word.new.since (omega (arith, c.try_word.ensures.long, ap length value, ok_since)) in
+    let since_same = since_is ∙ died.notes ∙ value in
+    record {
+      searching = rw (died.kept, ap position_of died.same) failed;
+      entries = DiffersInEntries-then before now after c.search.invariant.entries c.try_word.ensures.entries;
+      root = c.try_word.ensures.start ∙ c.search.invariant.root;
+      stands = c.try_word.ensures.stands;
+      room = omega (arith, c.try_word.ensures.capacity, c.search.invariant.room);
+      few = omega (arith, c.if-used-limit.false, c.search.invariant.few);
+      noted = rw (died.kept, since_same) c.search.invariant.noted;
+      long = ap length since_same ∙ c.search.invariant.long;
     }

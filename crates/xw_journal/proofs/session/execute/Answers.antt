@@ -27,7 +27,7 @@ pub returns-in-Ok-keep_accepted-clause-ok : goal.returns-in-Ok-keep_accepted-cla
 returns-in-Ok-keep_accepted-clause-ok g c = λ cause.
     let said = piece_answered c.parse_held-parsed.result (option_map (λ bytes. bytes.now) c.args.line) c.parse_held-parsed.ensures (λ (sink : VecSink). sink.bytes.items) (λ (sink : VecSink). sink.failures)
     c.args.session.now c.execute.new.self _ c.clear.new.self c.execute.new.sink c.in-Ok.ensures.answer in
-    let was = c.args.session.now.position.grid in
+    let was = c.args.session.now.engine.grid in
     let answer-is : c.execute.new.sink.bytes.items ≡ said.answer = said.transcript ∙ ap (λ xs. xs ++ said.answer) c.clear.ensures in
     let known : (whole : List ℕ) → held whole ≡ option_map (λ bytes. bytes.now) c.args.line → c.kind_of_parsed-kind.result ≡ Search → c.in-Ok.step ≡ Accepted → HasEntriesBefore was c.grid-2.result.now c.if-eq.before =
     λ whole h letters accepted.
@@ -56,7 +56,7 @@ pub returns-in-Err-clause-err : goal.returns-in-Err-clause-err
 returns-in-Err-clause-err g c = λ cause later line h.
     let said = piece_answered c.parse_held-parsed.result (option_map (λ bytes. bytes.now) c.args.line) c.parse_held-parsed.ensures (λ (sink : VecSink). sink.bytes.items) (λ (sink : VecSink). sink.failures)
     c.args.session.now c.execute.new.self _ c.clear.new.self c.execute.new.sink c.in-Ok.ensures.answer in
-    let was = c.args.session.now.position.grid in
+    let was = c.args.session.now.engine.grid in
     let accepted = c.in-Err.ensures.accepted in
     let known : (whole : List ℕ) → held whole ≡ option_map (λ bytes. bytes.now) c.args.line → c.kind_of_parsed-kind.result ≡ Search → c.in-Ok.step ≡ Accepted → HasEntriesBefore was c.grid-2.result.now c.if-eq.before =
     λ whole h letters accepted.

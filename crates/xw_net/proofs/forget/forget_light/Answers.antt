@@ -5,7 +5,7 @@ use Rattle.xw_letters.specs.Letter.{is_capital}
 use Rattle.xw_letters.proofs.LetterSetLemmas.{capital_is_letter, has-none}
 use Rattle.xw_feas.specs.Flags.{set_has}
 use Rattle.xw_net.specs.Marks.{IsPositionIn, slot_at}
-use Rattle.xw_net.specs.Forget.{cut}
+use Rattle.xw_net.specs.Inner.Forget.{cut}
 use Rattle.xw_net.proofs.Revivals.LettersComeBack.{set_has-here, set_has-there}
 use Rattle.xw_net.proofs.forget.forget_light.Goals as goal
 

@@ -2,7 +2,7 @@ use Rattle.std.proofs.Common.{◌≡◌, ℕ, ◌+◌, ◌-◌, ◌*◌, ◌<◌
 use Rattle.xw_letters.specs.Letter.{is_capital}
 use Rattle.xw_feas.specs.Flags.{set_has}
 use Rattle.xw_net.specs.Marks.{slot_at}
-use Rattle.xw_net.specs.Forget.{cut}
+use Rattle.xw_net.specs.Inner.Forget.{cut}
 use Rattle.xw_net.proofs.forget.forget_light.Given as goal
 
 abbrev pub invariant-loop-position : goal.invariant-loop-position

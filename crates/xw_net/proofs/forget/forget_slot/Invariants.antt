@@ -1,5 +1,5 @@
 use Rattle.std.proofs.Common.{◌≡◌, ◌⊎◌, ℕ, ◌+◌, ◌*◌, ◌<◌, ◌≤◌, length, get_or}
-use Rattle.xw_net.specs.Forget.{cut}
+use Rattle.xw_net.specs.Inner.Forget.{cut}
 use Rattle.xw_net.proofs.forget.forget_slot.Given as goal
 
 abbrev pub invariant-loop-number : goal.invariant-loop-number

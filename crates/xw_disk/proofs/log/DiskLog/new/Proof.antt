@@ -15,7 +15,7 @@ use denote.Struct.Laws.{makes}
 use denote.Triple.Entry.{alive}
 use denote.Triple.Walked.{says, Stays, walk_of, ends_at}
 use Rattle.std.specs.contracts.marker.PhantomData as Mark
-use Rattle.xw_disk.proofs.Walks.{none, one, one_made}
+use Rattle.xw_lines.proofs.Walks.{none, one, one_made}
 use Rattle.xw_disk.specs.contracts.log.DiskLog.{the_row as R}
 use Rattle.xw_disk.specs.contracts.log.DiskLog.new as f
 use Rattle.xw_disk.proofs.log.DiskLog.new.Statement.{statement}

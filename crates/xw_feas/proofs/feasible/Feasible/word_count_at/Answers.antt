@@ -10,7 +10,7 @@ pub unreachable-requires : goal.unreachable-requires
 unreachable-requires g c =
     let engine = c.args.self.now in
     let state = g.Self.Feasible.state engine in
-    let name : c.nth_light.result.name ≡ (light_of state c.args.light).name = ap (λ (light : Light). light.name) (c.nth_light.ensures ∙ ap (λ lights. get_or lights c.args.light no_light) c.lights.ensures) in
+    let name : c.at.result.name ≡ (light_of state c.args.light).name = ap (λ (light : Light). light.name) (c.at.ensures ∙ ap (λ lights. get_or lights c.args.light no_light) c.lights.ensures) in
     let answer = c.word_count.ensures ∙ ap (λ name. count_answer (g.Self.Feasible.state engine) (g.Self.Feasible.answers engine) name) name ∙ count_named state (g.Self.Feasible.answers engine) c.args.light c.requires in
     let is = sym c.in-Err.is ∙ answer in
     cc
@@ -19,7 +19,7 @@ pub returns : goal.returns
 returns g c =
     let engine = c.args.self.now in
     let state = g.Self.Feasible.state engine in
-    let name : c.nth_light.result.name ≡ (light_of state c.args.light).name = ap (λ (light : Light). light.name) (c.nth_light.ensures ∙ ap (λ lights. get_or lights c.args.light no_light) c.lights.ensures) in
+    let name : c.at.result.name ≡ (light_of state c.args.light).name = ap (λ (light : Light). light.name) (c.at.ensures ∙ ap (λ lights. get_or lights c.args.light no_light) c.lights.ensures) in
     let answer = c.word_count.ensures ∙ ap (λ name. count_answer (g.Self.Feasible.state engine) (g.Self.Feasible.answers engine) name) name ∙ count_named state (g.Self.Feasible.answers engine) c.args.light c.requires in
     let is = sym c.in-Ok.is ∙ answer in
     cc

@@ -1,14 +1,17 @@
-use Rattle.std.proofs.Common.{sym, ◌∙◌}
+use Rattle.std.proofs.Common.{◌≡◌, ◌<◌, Some, length, sym, ap, ◌∙◌, arith}
+use Rattle.std.specs.Prelude.{slice_get}
 use Rattle.std.proofs.lemmas.List.{map-append}
-use Rattle.xw_files.proofs.CellLemmas.{map-got, map-none}
+use Rattle.std.proofs.lemmas.Option.{slice_get-get_or}
+use Rattle.xw_files.proofs.CellLemmas.{map-got}
+use Rattle.xw_grid.specs.Light.{no_light}
 use Rattle.xw_grid.specs.Puzzle.{clue_of}
 use Rattle.xw_files.proofs.puz.write.clues_of.Goals as goal
 
-pub returns-in_default : goal.returns-in_default
-returns-in_default c = c.loop-index.invariant ∙ map-none (clue_of c.args.clues.now) c.args.lights.now c.loop-index.index (sym c.get.ensures ∙ c.in_default.is)
-
 pub loop-index-preserved : goal.loop-index-preserved
 loop-index-preserved c =
+    let lights = c.args.lights.now in
+    let below : c.loop-index.index < length lights = omega (arith, c.loop-index-test.true, c.len-index-end.ensures.len) in
+    let there : slice_get lights c.loop-index.index ≡ Some c.at-light.result = slice_get-get_or lights c.loop-index.index no_light below ∙ ap Some (sym c.at-light.ensures) in
     rw (c.in_ok-push.ensures.items)
     (map-append (λ text. text.now) c.loop-index.texts.items _
-    ∙ rw (c.loop-index.invariant, c.get-in-loop-index.ensures) (sym (map-got (clue_of c.args.clues.now) c.args.lights.now c.loop-index.index c.in-Some.light (sym c.get.ensures ∙ c.in-Some.is))))
+    ∙ rw (c.loop-index.invariant, c.get.ensures) (sym (map-got (clue_of c.args.clues.now) lights c.loop-index.index c.at-light.result there)))

@@ -1,7 +1,7 @@
 use Rattle.std.proofs.Common.{◌≡◌, ◌<◌, ◌≤◌, ℕ, length, sym, ap, ◌∙◌, subst}
+use Rattle.std.specs.declared.alloc.AllocError.{AllocError}
 use Rattle.std.specs.Prelude.{Result, Ok, IfOk, OnErr}
 use Rattle.xw_feas.specs.State.{State}
-use Rattle.xw_feas.specs.declared.edit.Refusal.{Refusal}
 use Rattle.xw_fill.specs.Position.{Position, position_of}
 use Rattle.xw_fill.specs.Search.{light_count}
 use Rattle.xw_fill.specs.NamedFill.{flags}
@@ -61,7 +61,7 @@ returns-clause-ok g c =
     let plan = c.args.plan.now in
     let named = flags plan.named.items in
     let formed = g.met.E.Feasible.well_formed c.args.engine.now in
-    let probed : Result Probe Refusal → Type 0 = λ result. IfOk result (IsProbed named before c.args.grade after) in
+    let probed : Result Probe AllocError → Type 0 = λ result. IfOk result (IsProbed named before c.args.grade after) in
     elim c.match-filling.branch [
       | in-Ok+in-Filled w ↦
           let found = found_at named before made now c.args.grade c.fill_planned-filling.result c.choose_least.ensures (w.in-Ok.is ∙ ap Ok w.in-Filled.is) c.fill_planned-filling.ensures.entered in
@@ -90,12 +90,12 @@ returns-clause-unchanged g c =
     let now = g.E.Feasible.state c.fill_planned-filling.new.engine in
     let after = g.E.Feasible.state c.choose_least-2.new.engine in
     let formed = g.met.E.Feasible.well_formed c.args.engine.now in
-    let same : Result Probe Refusal → Type 0 = λ result. OnErr result (after ≡ before) in
+    let same : Result Probe AllocError → Type 0 = λ result. OnErr result (after ≡ before) in
     elim c.match-filling.branch [
       | in-Ok+in-Filled w ↦ subst same (sym w.probe-is) tt
       | in-Ok+in-NoFill w ↦ subst same (sym w.probe-is) tt
       | in-Ok+in-Limit w ↦ subst same (sym w.probe-is) tt
       | in-Err w ↦
-          let kept : now ≡ made = subst (λ (r : Result Filling Refusal). OnErr r (now ≡ made)) w.in-Err.is c.fill_planned-filling.ensures.unchanged in
+          let kept : now ≡ made = subst (λ (r : Result Filling AllocError). OnErr r (now ≡ made)) w.in-Err.is c.fill_planned-filling.ensures.unchanged in
           subst same (sym w.probe-is) (back_at before now after c.args.grade c.args.least formed c.requires.least (kept ∙ c.choose_least.ensures) (c.choose_least-2.ensures ∙ ap (λ e. at_least (g.E.Feasible.state e) c.args.least) w.engine-is))
     ]

@@ -7,7 +7,7 @@ use Rattle.xw_fill.specs.NamedFill.{flags}
 use Rattle.xw_fill.specs.Inner.Progress.{is_target}
 use Rattle.xw_fill.proofs.NamedFills.{target_within}
 use Rattle.xw_fill.proofs.PlanLemmas.{AreThose, those-none, those-more, those-same}
-use Rattle.xw_fill.proofs.named_lights.plan.targets_of.Goals.{then-is_target+in_ok-map_err, else-is_target}
+use Rattle.xw_fill.proofs.named_lights.plan.targets_of.Goals.{then-is_target+in_ok-push, else-is_target}
 use Rattle.xw_fill.proofs.named_lights.plan.targets_of.Goals as goal
 
 pub loop-cell-init : goal.loop-cell-init
@@ -19,8 +19,8 @@ loop-cell-preserved g c =
     let cell = c.loop-cell.cell in
     let before = c.loop-cell.targets.items in
     elim c.if-is_target.branch [
-      | then-is_target+in_ok-map_err w ↦
-          let is_pushed = sym w.map_err.ensures.variant ∙ ap is_ok w.in_ok-map_err.was in
+      | then-is_target+in_ok-push w ↦
+          let is_pushed = ap is_ok w.in_ok-push.was in
           let items : c.if-is_target.targets.items ≡ before ++ cell ∷ [] =
           ap (λ targets. targets.items) w.targets-is ∙ w.push.ensures.items
           ∙ ap (λ pushed. if pushed then before ++ cell ∷ [] else before) is_pushed in
@@ -30,8 +30,8 @@ loop-cell-preserved g c =
           (those-same test cell before c.loop-cell.invariant (sym c.is_target.ensures ∙ w.if-is_target.false))
     ]
 
-pub returns-clause-ok : goal.returns-clause-ok
-returns-clause-ok g c =
+pub returns : goal.returns
+returns g c =
     let state = g.E.Feasible.state c.args.engine.now in
     let named = flags c.args.named.now in
     let board = (g.met.E.Feasible.well_formed c.args.engine.now).board in

@@ -21,7 +21,7 @@ loop-light-preserved g c =
     let light = c.loop-light.light in
     let before = c.loop-light.watched.items in
     let flag = c.if-is_flagged.flag in
-    let is_pushed = sym c.map_err.ensures.variant ∙ ap is_ok c.in_ok-map_err.was in
+    let is_pushed = ap is_ok c.in_ok-push.was in
     let items : c.push.new.self.items ≡ before ++ flag ∷ [] = c.push.ensures.items ∙ ap (λ pushed. if pushed then before ++ flag ∷ [] else before) is_pushed in
     let is : flag ≡ is_watched named position light = elim c.if-is_flagged.branch [
       | then-is_flagged w ↦ w.flag-is ∙ w.if-is_flagged.true ∙ sym (ap (λ b. b || has_target named position light) (sym c.is_flagged.ensures ∙ w.if-is_flagged.true))
@@ -32,8 +32,8 @@ loop-light-preserved g c =
       are = flags_more (is_watched named position) before c.push.new.self.items light flag items c.loop-light.invariant.long is c.loop-light.invariant.are;
     }
 
-pub returns-clause-ok : goal.returns-clause-ok
-returns-clause-ok g c = record {
+pub returns : goal.returns
+returns g c = record {
   long = c.loop-light.invariant.long ∙ (let all : c.loop-light.light ≡ c.light_count-light-end.result = omega (arith, c.loop-light.auto.light-end, c.loop-light-test.false) in all) ∙ c.light_count-light-end.ensures;
   are = λ light below. c.loop-light.invariant.are light (omega (arith, below, c.loop-light-test.false, c.light_count-light-end.ensures));
 }

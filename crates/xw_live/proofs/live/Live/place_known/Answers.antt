@@ -7,7 +7,7 @@ use Rattle.xw_live.specs.Engine.{IsKept}
 use Rattle.xw_net.specs.Net.{known_counts}
 use Rattle.xw_live.specs.Live.{state_of}
 use Rattle.xw_net.proofs.Edits.ChangeFacts.{change_made}
-use Rattle.xw_live.proofs.Made.{letters_of_grid, grid_made, light_written}
+use Rattle.xw_live.proofs.Made.{known_of_grid, grid_made, light_written}
 use Rattle.xw_feas.proofs.WellFormedLemmas.{state_formed}
 use Rattle.xw_live.proofs.Keeping.{kept_cells, stood_same, room_without, room_of_lights}
 use Rattle.xw_net.proofs.Edits.ListedCells.{edit_in_grid}
@@ -26,7 +26,7 @@ settle-self-requires-clause-inside c =
     let word = (entry_at (row old.bank.words (light_of before c.args.light).size) c.args.index).word in
     let grid = c.place_known.new.grid in
     let now : State = record { grid = grid; words = old.bank.words } in
-    let is = letters_of_grid before action refl in
+    let is = known_of_grid before c.args.light c.args.index in
     let made : after before action ≡ Ok now = grid_made before action grid is c.place_known.ensures.placed in
     edit_in_grid before now action _ old.kept.formed.grid made (c.as_slice.ensures ∙ c.of_index-written.ensures ∙ light_written before.grid c.args.light word c.requires.light)
 
@@ -48,7 +48,7 @@ invariant_of-self c =
     let word = (entry_at (row old.bank.words (light_of before c.args.light).size) c.args.index).word in
     let grid = c.place_known.new.grid in
     let now : State = record { grid = grid; words = old.bank.words } in
-    let is = letters_of_grid before action refl in
+    let is = known_of_grid before c.args.light c.args.index in
     let made : after before action ≡ Ok now = grid_made before action grid is c.place_known.ensures.placed in
     let formed : IsWellFormed now = state_formed grid old.bank.words c.well_formed-2.ensures old.kept.formed.dictionary in
     let kept : IsKept now c.settle-self.new.net = c.settle-self.ensures.kept before action (change_made before now action _ made is.no_limit old.kept.formed formed (c.as_slice.ensures ∙ c.of_index-written.ensures ∙ light_written before.grid c.args.light word c.requires.light) old.light_list is.no_word) old.kept.settled in
@@ -71,7 +71,7 @@ returns c =
     let word = (entry_at (row old.bank.words (light_of before c.args.light).size) c.args.index).word in
     let grid = c.place_known.new.grid in
     let now : State = record { grid = grid; words = old.bank.words } in
-    let is = letters_of_grid before action refl in
+    let is = known_of_grid before c.args.light c.args.index in
     let made : after before action ≡ Ok now = grid_made before action grid is c.place_known.ensures.placed in
     let formed : IsWellFormed now = state_formed grid old.bank.words c.well_formed-2.ensures old.kept.formed.dictionary in
     record {

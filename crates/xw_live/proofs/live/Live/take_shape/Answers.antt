@@ -1,9 +1,10 @@
 use Rattle.std.proofs.Common.{◌≡◌, length, refl, sym, ◌∙◌, ap}
 use Rattle.std.specs.Prelude.{Ok, is_some}
-use Rattle.xw_feas.specs.State.{State, action_of, after}
+use Rattle.xw_feas.specs.State.{State, after}
 use Rattle.xw_feas.specs.WellFormed.{IsWellFormed}
 use Rattle.xw_live.specs.Engine.{IsKept}
 use Rattle.xw_net.specs.Net.{known_counts}
+use Rattle.xw_live.specs.Idle.{shape_action}
 use Rattle.xw_live.specs.Live.{state_of}
 use Rattle.xw_net.proofs.Edits.ChangeFacts.{change_made, size_kept}
 use Rattle.xw_live.proofs.Made.{shape_of_grid, grid_made}
@@ -25,18 +26,18 @@ invariant_of-self c =
 pub settle-self-requires-clause-cells : goal.settle-self-requires-clause-cells
 settle-self-requires-clause-cells c =
     let old = c.args.self.now in
-    let size = size_kept old.grid c.args.grid (action_of c.args.edit.now) old.kept.formed.grid c.requires.made in
+    let size = size_kept old.grid c.args.grid (shape_action c.args.edit.now) old.kept.formed.grid c.requires in
     ap length c.reserve.ensures.same.sets ∙ kept_cells (state_of old) old.net old.kept ∙ as_many_cells old.grid c.args.grid old.kept.formed.grid c.well_formed-2.ensures size.width size.height
 
 pub settle-self-requires-clause-inside : goal.settle-self-requires-clause-inside
 settle-self-requires-clause-inside c =
     let old = c.args.self.now in
     let before = state_of old in
-    let action = action_of c.args.edit.now in
+    let action = shape_action c.args.edit.now in
     let now : State = record { grid = c.args.grid; words = old.bank.words } in
-    let is = shape_of_grid before action c.requires.shape in
-    let made : after before action ≡ Ok now = grid_made before action c.args.grid is c.requires.made in
-    edit_in_grid before now action _ old.kept.formed.grid made (c.as_slice.ensures ∙ c.of-written.ensures)
+    let is = shape_of_grid before c.args.edit.now in
+    let made : after before action ≡ Ok now = grid_made before action c.args.grid is c.requires in
+    edit_in_grid before now action _ old.kept.formed.grid made (c.as_slice.ensures ∙ c.of_shape-written.ensures)
 
 pub settle-self-requires-clause-stood : goal.settle-self-requires-clause-stood
 settle-self-requires-clause-stood c =
@@ -55,14 +56,14 @@ pub invariant_of-self-2 : goal.invariant_of-self-2
 invariant_of-self-2 c =
     let old = c.args.self.now in
     let before = state_of old in
-    let action = action_of c.args.edit.now in
+    let action = shape_action c.args.edit.now in
     let now : State = record { grid = c.args.grid; words = old.bank.words } in
-    let is = shape_of_grid before action c.requires.shape in
-    let made : after before action ≡ Ok now = grid_made before action c.args.grid is c.requires.made in
+    let is = shape_of_grid before c.args.edit.now in
+    let made : after before action ≡ Ok now = grid_made before action c.args.grid is c.requires in
     let formed : IsWellFormed now = state_formed c.args.grid old.bank.words c.well_formed-2.ensures old.kept.formed.dictionary in
     let ready = settled_alike before old.net c.reserve.new.self c.reserve.ensures.same old.kept.settled in
-    let kept : IsKept now c.settle-self.new.net = c.settle-self.ensures.kept before action (change_made before now action _ made is.no_limit old.kept.formed formed (c.as_slice.ensures ∙ c.of-written.ensures) old.light_list is.no_word) ready in
-    let size = size_kept before.grid c.args.grid action old.kept.formed.grid c.requires.made in
+    let kept : IsKept now c.settle-self.new.net = c.settle-self.ensures.kept before action (change_made before now action _ made is.no_limit old.kept.formed formed (c.as_slice.ensures ∙ c.of_shape-written.ensures) old.light_list is.no_word) ready in
+    let size = size_kept before.grid c.args.grid action old.kept.formed.grid c.requires in
     record {
       light_list = c.in_ok-lights.ensures.ok;
       kept = kept;
@@ -78,15 +79,15 @@ pub returns-clause-done : goal.returns-clause-done
 returns-clause-done c =
     let old = c.args.self.now in
     let before = state_of old in
-    let action = action_of c.args.edit.now in
+    let action = shape_action c.args.edit.now in
     let now : State = record { grid = c.args.grid; words = old.bank.words } in
-    let is = shape_of_grid before action c.requires.shape in
-    let made : after before action ≡ Ok now = grid_made before action c.args.grid is c.requires.made in
+    let is = shape_of_grid before c.args.edit.now in
+    let made : after before action ≡ Ok now = grid_made before action c.args.grid is c.requires in
     let formed : IsWellFormed now = state_formed c.args.grid old.bank.words c.well_formed-2.ensures old.kept.formed.dictionary in
     let ready = settled_alike before old.net c.reserve.new.self c.reserve.ensures.same old.kept.settled in
     record {
       made = made;
       letters = c.keep_letters.ensures ∙ c.reserve.ensures.same.sets;
-      cost = c.settle-self.ensures.cost before action (change_made before now action _ made is.no_limit old.kept.formed formed (c.as_slice.ensures ∙ c.of-written.ensures) old.light_list is.no_word) ready;
+      cost = c.settle-self.ensures.cost before action (change_made before now action _ made is.no_limit old.kept.formed formed (c.as_slice.ensures ∙ c.of_shape-written.ensures) old.light_list is.no_word) ready;
       risen = c.settle-self.ensures.risen;
     }

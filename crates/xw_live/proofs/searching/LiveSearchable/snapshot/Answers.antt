@@ -10,6 +10,6 @@ invariant_of-result c =
     let live = c.args.self.now in
     let copied : IsKept (state_of c.args.self.now) c.in_ok-net.net = kept_copy (state_of live) live.net c.in_ok-net.net live.lights live.light_list c.in_ok-net.ensures.copied c.in_ok-net.ensures.none_waits live.kept in
     record {
-      kept = kept_same c.in_ok-grid.grid c.in_ok-net.net (sym (ap (λ bank. bank.words) c.of.ensures))
-          (subst (λ (grid : Grid). IsKept (record { grid = grid; words = c.args.self.now.bank.words }) c.in_ok-net.net) (sym c.in_ok-grid.ensures.ok) copied);
+      kept = kept_same c.in-Ok.grid c.in_ok-net.net (sym (ap (λ bank. bank.words) c.of.ensures))
+          (subst (λ (grid : Grid). IsKept (record { grid = grid; words = c.args.self.now.bank.words }) c.in_ok-net.net) (sym c.in-Ok.ensures.ok) copied);
     }

@@ -14,7 +14,7 @@ use Rattle.xw_net.specs.Marks.{AreSlotsApart}
 use Rattle.xw_net.specs.Nets.{pending_in, queued_in}
 use Rattle.xw_net.specs.Renumber.{same_before}
 use Rattle.xw_net.specs.Worklist.{is_marked}
-use Rattle.xw_net.specs.Forget.{lost_from, Forgets}
+use Rattle.xw_net.specs.Inner.Forget.{lost_from, Forgets}
 use Rattle.xw_net.specs.Opened.{Arrays, IsOpening}
 use Rattle.xw_net.proofs.Nets.SlotsApart.{slots_apart}
 use Rattle.xw_net.proofs.Revivals.OpenedNet.{opens}

@@ -1,7 +1,7 @@
 use Rattle.std.proofs.Common.{◌≡◌, length, ap, ◌∙◌, arith}
 use Rattle.std.specs.Prelude.{replicate, vec_len}
 use Rattle.std.proofs.lemmas.List.{with_items_is}
-use Rattle.xw_net.specs.Forget.{nowhere}
+use Rattle.xw_net.specs.Inner.Forget.{nowhere}
 use Rattle.xw_net.proofs.net.Net.forget_supports.Goals as goal
 
 pub returns-clause-held : goal.returns-clause-held

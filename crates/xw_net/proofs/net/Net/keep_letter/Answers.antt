@@ -1,6 +1,6 @@
 use Rattle.std.proofs.Common.{◌≡◌, ◌<◌, ◌+◌, ◌-◌, ◌*◌, Bool, true, false, not, ◌&&◌, eqb, length, get_or, refl, sym, ap, ◌∙◌, inl, inr, arith}
 use Rattle.std.specs.Vec.{with_items}
-use Rattle.std.proofs.lemmas.Bool.{and_parts, and_from, ne_eqb}
+use Rattle.std.proofs.lemmas.Bool.{and_parts, and_from, both_ways, eq-eqb, ne_eqb, not_from_true}
 use Rattle.std.proofs.lemmas.List.{with_items_is}
 use Rattle.std.proofs.lemmas.Option.{slice_get_read}
 use Rattle.xw_letters.specs.LetterSet.{has}
@@ -10,6 +10,7 @@ use Rattle.xw_net.specs.Support.{Held}
 use Rattle.xw_net.specs.Nets.{marks_of, bits_at, bits_for, word_stands, letter_stands, held_in, restart_in, pending_in, queued_in}
 use Rattle.xw_net.specs.declared.net.Net.{Net}
 use Rattle.xw_net.proofs.Stripping.StruckRows.{set_letter}
+use Rattle.xw_net.proofs.Stripping.KeptSupports.{few_bits}
 use Rattle.xw_net.proofs.Stripping.HeldWords.{same_holding}
 use Rattle.xw_net.proofs.Stripping.FoundSupports.{finds_at, found_held, found_stays, found_holding, found_kept, none_kept, none_stays}
 use Rattle.xw_net.proofs.net.Net.keep_letter.Goals as goal
@@ -21,6 +22,16 @@ not_both false = refl
 pub drop_letter-requires-clause-stood : goal.drop_letter-requires-clause-stood
 unfolding letter_stands
 drop_letter-requires-clause-stood g c = c.requires.stands
+
+pub returns-then-not-find_support-clause-held : goal.returns-then-not-find_support-clause-held
+unfolding letter_stands
+returns-then-not-find_support-clause-held g c dictionary setting alive =
+    let cell = c.args.here.cell in
+    let letter = c.args.letter in
+    let at = cell_at c.args.board.now c.args.here.light c.args.here.position in
+    let kept = (and_parts (letter_stands c.args.self.now cell letter) (not (eqb cell at && eqb letter letter)) (sym (c.drop_letter.ensures.drops.letters cell letter) ∙ alive)).1 in
+    absurd (both_ways (not (eqb cell at && eqb letter letter))
+    (not_from_true (eqb cell at && eqb letter letter) (and_from (eqb cell at) (eqb letter letter) (eq-eqb cell at c.requires.there.cell) (eq-eqb letter letter refl))) kept)
 
 pub returns-else-not-find_support-clause-held : goal.returns-else-not-find_support-clause-held
 unfolding word_stands letter_stands held_in restart_in pending_in queued_in
@@ -45,7 +56,7 @@ returns-else-not-find_support-clause-held g c dictionary setting alive =
     let spent = g.R.Rows.ticks k.new.rows - g.R.Rows.ticks c.args.rows.now in
     let outcome = finds_at c.index-row.result.now.bits (bits_for old i) (entries c.args.here.len) (entries (length (light_at board i))) q b c.args.here.slot (slot_at board i q) spent k.result
     (record { indices = c.deref_mut.result.now; restart = c.deref_mut-2.result.now }) before (record { indices = k.new.held; restart = k.new.restart }) after
-    (sym (ap bits_at row_is)) (ap entries there.len) there.slot (λ t. record { indices = c.deref_mut.ensures.value t; restart = c.deref_mut-2.ensures.value t }) (λ t. record { indices = sym held_is t; restart = sym restart_is t }) k.ensures.finds in
+    (sym (ap bits_at row_is)) (ap entries there.len) there.slot (λ t. record { indices = c.deref_mut.ensures.value t; restart = c.deref_mut-2.ensures.value t }) (λ t. record { indices = sym held_is t; restart = sym restart_is t }) (k.ensures.finds (few_bits board entries dictionary setting old c.requires.net.bits i there.position.0 c.index-row.result.now.bits (ap bits_at row_is))) in
     let in_held : 26 * slot_at board i q + (b - 65) < length old.held.items = omega (arith, there.slot, there.in_slots, shaped.held, c.requires.letter) in
     found_held board entries dictionary setting old new c.requires.net.bits i q b there.position c.requires.letter (λ j k. refl) (λ x d. refl) (λ s d. refl) (λ j. refl) in_held spent k.result no_entry outcome c.if-not-find_support.false
 
@@ -72,7 +83,7 @@ returns-else-not-find_support-clause-stays g c dictionary setting r d here stood
     let spent = g.R.Rows.ticks k.new.rows - g.R.Rows.ticks c.args.rows.now in
     let outcome = finds_at c.index-row.result.now.bits (bits_for old i) (entries c.args.here.len) (entries (length (light_at board i))) q b c.args.here.slot (slot_at board i q) spent k.result
     (record { indices = c.deref_mut.result.now; restart = c.deref_mut-2.result.now }) before (record { indices = k.new.held; restart = k.new.restart }) after
-    (sym (ap bits_at row_is)) (ap entries there.len) there.slot (λ t. record { indices = c.deref_mut.ensures.value t; restart = c.deref_mut-2.ensures.value t }) (λ t. record { indices = sym held_is t; restart = sym restart_is t }) k.ensures.finds in
+    (sym (ap bits_at row_is)) (ap entries there.len) there.slot (λ t. record { indices = c.deref_mut.ensures.value t; restart = c.deref_mut-2.ensures.value t }) (λ t. record { indices = sym held_is t; restart = sym restart_is t }) (k.ensures.finds (few_bits board entries dictionary setting old c.requires.net.bits i there.position.0 c.index-row.result.now.bits (ap bits_at row_is))) in
     let in_held : 26 * slot_at board i q + (b - 65) < length old.held.items = omega (arith, there.slot, there.in_slots, shaped.held, c.requires.letter) in
     found_stays board entries dictionary setting old new c.requires.net.bits i q b there.position c.requires.letter (λ j k. refl) (λ x d. refl) (λ s d. refl) (λ j. refl) in_held spent k.result no_entry outcome c.if-not-find_support.false
     i r d here (set_letter (get_or old.letters.items (cell_at board i r) 0) d alive) (stood alive)
@@ -100,7 +111,7 @@ returns-else-not-find_support-clause-kept g c dictionary measure setting in_set 
     let spent = g.R.Rows.ticks k.new.rows - g.R.Rows.ticks c.args.rows.now in
     let outcome = finds_at c.index-row.result.now.bits (bits_for old i) (entries c.args.here.len) (entries (length (light_at board i))) q b c.args.here.slot (slot_at board i q) spent k.result
     (record { indices = c.deref_mut.result.now; restart = c.deref_mut-2.result.now }) before (record { indices = k.new.held; restart = k.new.restart }) after
-    (sym (ap bits_at row_is)) (ap entries there.len) there.slot (λ t. record { indices = c.deref_mut.ensures.value t; restart = c.deref_mut-2.ensures.value t }) (λ t. record { indices = sym held_is t; restart = sym restart_is t }) k.ensures.finds in
+    (sym (ap bits_at row_is)) (ap entries there.len) there.slot (λ t. record { indices = c.deref_mut.ensures.value t; restart = c.deref_mut-2.ensures.value t }) (λ t. record { indices = sym held_is t; restart = sym restart_is t }) (k.ensures.finds (few_bits board entries dictionary setting old c.requires.net.bits i there.position.0 c.index-row.result.now.bits (ap bits_at row_is))) in
     let in_held : 26 * slot_at board i q + (b - 65) < length old.held.items = omega (arith, there.slot, there.in_slots, shaped.held, c.requires.letter) in
     let stood : letter_stands old (cell_at board i q) b ≡ true = ap (λ x. has (get_or old.letters.items x 0) b) (sym there.cell) ∙ c.requires.stands in
     found_kept board entries dictionary setting old new c.requires.net.bits i q b there.position c.requires.letter (λ j k. refl) (λ x d. refl) (λ s d. refl) (λ j. refl) in_held spent k.result no_entry
@@ -130,7 +141,7 @@ returns-then-not-find_support-clause-stays g c dictionary setting r d here stood
     let spent = g.R.Rows.ticks k.new.rows - g.R.Rows.ticks c.args.rows.now in
     let outcome = finds_at c.index-row.result.now.bits (bits_for old i) (entries c.args.here.len) (entries (length (light_at board i))) q b c.args.here.slot (slot_at board i q) spent k.result
     (record { indices = c.deref_mut.result.now; restart = c.deref_mut-2.result.now }) before (record { indices = k.new.held; restart = k.new.restart }) after
-    (sym (ap bits_at row_is)) (ap entries there.len) there.slot (λ t. record { indices = c.deref_mut.ensures.value t; restart = c.deref_mut-2.ensures.value t }) (λ t. record { indices = sym held_is t; restart = sym restart_is t }) k.ensures.finds in
+    (sym (ap bits_at row_is)) (ap entries there.len) there.slot (λ t. record { indices = c.deref_mut.ensures.value t; restart = c.deref_mut-2.ensures.value t }) (λ t. record { indices = sym held_is t; restart = sym restart_is t }) (k.ensures.finds (few_bits board entries dictionary setting old c.requires.net.bits i there.position.0 c.index-row.result.now.bits (ap bits_at row_is))) in
     let in_held : 26 * slot_at board i q + (b - 65) < length old.held.items = omega (arith, there.slot, there.in_slots, shaped.held, c.requires.letter) in
     let alive_before : letter_stands old (cell_at board i r) d ≡ true =
     (and_parts (letter_stands old (cell_at board i r) d) (not (eqb (cell_at board i r) (cell_at board i q) && eqb d b)) (sym (c.drop_letter.ensures.drops.letters (cell_at board i r) d) ∙ alive)).0 in
@@ -161,7 +172,7 @@ returns-then-not-find_support-clause-kept g c dictionary measure setting in_set 
     let spent = g.R.Rows.ticks k.new.rows - g.R.Rows.ticks c.args.rows.now in
     let outcome = finds_at c.index-row.result.now.bits (bits_for old i) (entries c.args.here.len) (entries (length (light_at board i))) q b c.args.here.slot (slot_at board i q) spent k.result
     (record { indices = c.deref_mut.result.now; restart = c.deref_mut-2.result.now }) before (record { indices = k.new.held; restart = k.new.restart }) after
-    (sym (ap bits_at row_is)) (ap entries there.len) there.slot (λ t. record { indices = c.deref_mut.ensures.value t; restart = c.deref_mut-2.ensures.value t }) (λ t. record { indices = sym held_is t; restart = sym restart_is t }) k.ensures.finds in
+    (sym (ap bits_at row_is)) (ap entries there.len) there.slot (λ t. record { indices = c.deref_mut.ensures.value t; restart = c.deref_mut-2.ensures.value t }) (λ t. record { indices = sym held_is t; restart = sym restart_is t }) (k.ensures.finds (few_bits board entries dictionary setting old c.requires.net.bits i there.position.0 c.index-row.result.now.bits (ap bits_at row_is))) in
     let in_held : 26 * slot_at board i q + (b - 65) < length old.held.items = omega (arith, there.slot, there.in_slots, shaped.held, c.requires.letter) in
     let stood : letter_stands old (cell_at board i q) b ≡ true = ap (λ x. has (get_or old.letters.items x 0) b) (sym there.cell) ∙ c.requires.stands in
     none_kept board entries dictionary setting old new c.requires.net.bits i q b there.position c.requires.letter (λ j k. refl) (λ x d. refl) (λ s d. refl) (λ j. refl) in_held spent k.result no_entry
@@ -216,7 +227,7 @@ returns-then-not-find_support-clause-check g c = record {
       let spent = g.R.Rows.ticks k.new.rows - g.R.Rows.ticks c.args.rows.now in
       let outcome = finds_at c.index-row.result.now.bits (bits_for old i) (entries c.args.here.len) (entries (length (light_at board i))) q b c.args.here.slot (slot_at board i q) spent k.result
       (record { indices = c.deref_mut.result.now; restart = c.deref_mut-2.result.now }) before (record { indices = k.new.held; restart = k.new.restart }) after
-      (sym (ap bits_at row_is)) (ap entries there.len) there.slot (λ t. record { indices = c.deref_mut.ensures.value t; restart = c.deref_mut-2.ensures.value t }) (λ t. record { indices = sym held_is t; restart = sym restart_is t }) k.ensures.finds in
+      (sym (ap bits_at row_is)) (ap entries there.len) there.slot (λ t. record { indices = c.deref_mut.ensures.value t; restart = c.deref_mut-2.ensures.value t }) (λ t. record { indices = sym held_is t; restart = sym restart_is t }) (k.ensures.finds (few_bits board entries dictionary setting old c.requires.net.bits i there.position.0 c.index-row.result.now.bits (ap bits_at row_is))) in
       let in_held : 26 * slot_at board i q + (b - 65) < length old.held.items = omega (arith, there.slot, there.in_slots, shaped.held, c.requires.letter) in
       same_holding board dictionary (marks_of new) (marks_of c.drop_letter.new.self) (λ s d. ap (λ (net : Net). held_in net s d) c.drop_letter.ensures.same)
       (found_holding board entries dictionary setting old new c.requires.net.bits i q b there.position c.requires.letter (λ j k. refl) (λ x d. refl) (λ s d. refl) (λ j. refl) in_held spent k.result no_entry outcome holding);
@@ -251,7 +262,7 @@ returns-else-not-find_support-clause-check g c = record {
       let spent = g.R.Rows.ticks k.new.rows - g.R.Rows.ticks c.args.rows.now in
       let outcome = finds_at c.index-row.result.now.bits (bits_for old i) (entries c.args.here.len) (entries (length (light_at board i))) q b c.args.here.slot (slot_at board i q) spent k.result
       (record { indices = c.deref_mut.result.now; restart = c.deref_mut-2.result.now }) before (record { indices = k.new.held; restart = k.new.restart }) after
-      (sym (ap bits_at row_is)) (ap entries there.len) there.slot (λ t. record { indices = c.deref_mut.ensures.value t; restart = c.deref_mut-2.ensures.value t }) (λ t. record { indices = sym held_is t; restart = sym restart_is t }) k.ensures.finds in
+      (sym (ap bits_at row_is)) (ap entries there.len) there.slot (λ t. record { indices = c.deref_mut.ensures.value t; restart = c.deref_mut-2.ensures.value t }) (λ t. record { indices = sym held_is t; restart = sym restart_is t }) (k.ensures.finds (few_bits board entries dictionary setting old c.requires.net.bits i there.position.0 c.index-row.result.now.bits (ap bits_at row_is))) in
       let in_held : 26 * slot_at board i q + (b - 65) < length old.held.items = omega (arith, there.slot, there.in_slots, shaped.held, c.requires.letter) in
       found_holding board entries dictionary setting old new c.requires.net.bits i q b there.position c.requires.letter (λ j k. refl) (λ x d. refl) (λ s d. refl) (λ j. refl) in_held spent k.result no_entry outcome holding;
   pending = λ slot other pends. inl pends;

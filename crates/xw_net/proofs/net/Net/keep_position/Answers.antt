@@ -1,8 +1,9 @@
-use Rattle.std.proofs.Common.{◌≡◌, ◌<◌, ◌+◌, ◌-◌, ℕ, Bool, List, true, false, length, get_or, refl, sym, ap, ◌∙◌, subst, inl, inr, arith}
-use Rattle.std.proofs.lemmas.Bool.{cases_lt, both_ways}
+use Rattle.std.proofs.Common.{◌≡◌, ◌<◌, ◌+◌, ◌-◌, ◌*◌, ℕ, Bool, List, true, false, length, get_or, refl, sym, ap, ◌∙◌, subst, inl, inr, arith}
+use Rattle.std.proofs.lemmas.Bool.{cases_lt}
 use Rattle.std.proofs.lemmas.List.{get_or_default}
 use Rattle.xw_letters.specs.LetterSet.{has}
 use Rattle.xw_words.specs.Dictionary.{Dictionary}
+use Rattle.xw_net.specs.Inner.Lost.{IsLost}
 use Rattle.xw_net.specs.Marks.{IsSetting, IsHeld, Stays, cell_at}
 use Rattle.xw_net.specs.Due.{IsUnderway, and_light}
 use Rattle.xw_net.specs.Nets.{HasBits, marks_of, bits_at, bits_for, word_stands, letter_stands, queued_in}
@@ -10,6 +11,7 @@ use Rattle.xw_net.proofs.Stripping.StruckRows.{set_letter}
 use Rattle.xw_net.proofs.Stripping.LeftByStripping.{left_left, left_same}
 use Rattle.xw_net.specs.declared.net.Net.{Net}
 use Rattle.std.proofs.lemmas.Option.{slice_get_read}
+use Rattle.xw_net.proofs.Stripping.KeptSupports.{held_in_row}
 use Rattle.xw_net.proofs.BaseRows.ClearRows.{none_set}
 use Rattle.xw_net.proofs.Stripping.EmptiedCells.{no_words, still_held, alive_before, still_holding, still_under, pends_at}
 use Rattle.xw_net.proofs.net.Net.keep_position.Goals as goal
@@ -18,6 +20,13 @@ use Rattle.xw_net.proofs.net.Net.keep_position.Goals as goal
 in_set : (net : Net) (cell set letter : ℕ) → set ≡ get_or net.letters.items cell 0 → letter_stands net cell letter ≡ true → has set letter ≡ true
 unfolding letter_stands
 in_set net cell set letter is stands = ap (λ s. has s letter) is ∙ stands
+
+lost_for : (row row' : List Bool) (word word' : ℕ) → row' ≡ row → word' ≡ word → IsLost row word → IsLost row' word'
+lost_for row row' word word' rows words lost lt = ap (λ r. get_or r word' false) rows ∙ ap (λ k. get_or row k false) words ∙ lost (omega (arith, lt, words, ap (λ (r : List Bool). length r) rows))
+
+stood_there : (net : Net) (cell letter : ℕ) → letter_stands net cell letter ≡ true → has (get_or net.letters.items cell 0) letter ≡ true
+unfolding letter_stands
+stood_there net cell letter stands = stands
 
 pub keep_letter-requires-clause-net : goal.keep_letter-requires-clause-net
 keep_letter-requires-clause-net g c =
@@ -28,11 +37,24 @@ keep_letter-requires-clause-net g c =
 
 pub keep_letter-requires-clause-stands : goal.keep_letter-requires-clause-stands
 keep_letter-requires-clause-stands g c =
-    c.loop-number.invariant.left c.at-in-Some-next_index.result (omega (arith, c.at-in-Some-next_index.ensures, c.in-Some-next_index.ensures.set.0)) (ap (has c.index-alive.result.now) c.at-in-Some-next_index.ensures ∙ c.in-Some-next_index.ensures.set.2)
+    c.loop-number.invariant.left c.at-in-Some-next_lost.result (omega (arith, c.at-in-Some-next_lost.ensures, c.in-Some-next_lost.ensures.set.0)) (ap (has c.index-alive.result.now) c.at-in-Some-next_lost.ensures ∙ c.in-Some-next_lost.ensures.set.2)
 
 pub keep_letter-requires-clause-open : goal.keep_letter-requires-clause-open
 keep_letter-requires-clause-open g c =
     ap (λ (flags : List Bool). get_or flags c.position_of-here.result.light false) c.loop-number.invariant.entered ∙ ap (λ n. get_or c.args.self.now.entered.items n false) c.position_of-here.ensures.light ∙ c.requires.open
+
+pub keep_letter-requires-clause-lost : goal.keep_letter-requires-clause-lost
+keep_letter-requires-clause-lost g c =
+    let net = c.loop-number.self in
+    let row = c.index-in-loop-number.result.now.bits in
+    let there = c.position_of-here.ensures in
+    let number = c.in-Some-next_lost.number in
+    let letter : c.at-in-Some-next_lost.result - 65 ≡ c.in-Some-next_lost.number = omega (arith, c.at-in-Some-next_lost.ensures) in
+    let row_is = slice_get_read net.rows.items (length net.rows.items) c.args.light c.index-in-loop-number.result.now refl (omega (arith, c.requires.position.0, c.loop-number.invariant.shaped.rows)) c.index-in-loop-number.ensures in
+    let rows_are : bits_for c.loop-number.self c.position_of-here.result.light ≡ c.index-in-loop-number.result.now.bits = ap (bits_for net) there.light ∙ ap bits_at row_is in
+    let held_are : get_or c.loop-number.self.held.items (26 * c.position_of-here.result.slot + (c.at-in-Some-next_lost.result - 65)) 0 ≡ get_or c.deref.result.now (26 * c.position_of-here.result.slot + c.in-Some-next_lost.number) 0 =
+    ap (λ k. get_or net.held.items (26 * c.position_of-here.result.slot + k) 0) letter ∙ ap (λ h. get_or h (26 * c.position_of-here.result.slot + number) 0) (sym c.deref.ensures.value) in
+    lost_for row _ _ _ rows_are held_are c.in-Some-next_lost.ensures.lost
 
 pub loop-number-preserved : goal.loop-number-preserved
 loop-number-preserved g c =
@@ -48,13 +70,14 @@ loop-number-preserved g c =
     c.index-alive.ensures ∙ get_or_default c.args.self.now.letters.items c.position_of-here.result.cell c.index-alive.result.now 0 (omega (arith, c.position_of-here.ensures.in_board, c.requires.net.shaped.letters))
     ∙ ap (λ n. get_or c.args.self.now.letters.items n 0) c.position_of-here.ensures.cell in
     let move = λ (dictionary : Dictionary) (setting : IsSetting c.args.board.now (g.R.Rows.entries c.args.rows.now) dictionary). subst (λ e. IsSetting c.args.board.now e dictionary) (sym inv.same) setting in
+    let row_is = slice_get_read old.rows.items (length old.rows.items) c.args.light c.index-in-loop-number.result.now refl (omega (arith, c.requires.position.0, inv.shaped.rows)) c.index-in-loop-number.ensures in
     let stays : (dictionary : Dictionary) → IsSetting c.args.board.now (g.R.Rows.entries c.args.rows.now) dictionary → Stays c.args.board.now dictionary c.args.light (marks_of c.loop-number.self) (marks_of c.keep_letter.new.self) =
     λ dictionary setting. subst (λ n. Stays c.args.board.now dictionary n (marks_of c.loop-number.self) (marks_of c.keep_letter.new.self)) there.light (k.ensures.stays dictionary (move dictionary setting)) in
     record {
-      within = omega (arith, c.in-Some-next_index.ensures.set.1);
+      within = omega (arith, c.in-Some-next_lost.ensures.set.1);
       alive = λ cell letter alive. inv.alive cell letter (k.ensures.alive cell letter alive);
       entered = k.ensures.entered ∙ inv.entered;
-      left = λ letter past has. k.ensures.others letter (λ e. absurd (omega (arith, e, past, c.at-in-Some-next_index.ensures))) (inv.left letter (omega (arith, past, c.in-Some-next_index.ensures.set.0)) has);
+      left = λ letter past has. k.ensures.others letter (λ e. absurd (omega (arith, e, past, c.at-in-Some-next_lost.ensures))) (inv.left letter (omega (arith, past, c.in-Some-next_lost.ensures.set.0)) has);
       same = k.ensures.entries ∙ inv.same;
       risen = omega (arith, inv.risen, k.ensures.risen);
       rest = left_left inv.rest k.ensures.step.rest;
@@ -65,19 +88,22 @@ loop-number-preserved g c =
       held = λ dictionary setting letter lt alive.
           elim (cases_lt letter (65 + c.loop-number.from)) [
             | inl before ↦ stays dictionary setting c.args.position letter c.requires.position (inv.held dictionary setting letter before) alive
-            | inr from ↦ elim (cases_lt letter (65 + c.in-Some-next_index.number)) [
+            | inr from ↦ elim (cases_lt letter (65 + c.in-Some-next_lost.number)) [
               | inl passed ↦
-                  let back : 65 + (letter - 65) ≡ letter = omega arith in
-                  absurd (both_ways (has set letter) (ap (has set) (sym back) ∙ c.in-Some-next_index.ensures.first (letter - 65) (omega arith) (omega arith))
-                  (in_set c.args.self.now (cell_at c.args.board.now c.args.light c.args.position) set letter set_is (inv.alive (cell_at board c.args.light c.args.position) letter (k.ensures.alive (cell_at board c.args.light c.args.position) letter alive))))
+                  let is_held : IsHeld c.args.board.now dictionary (marks_of c.loop-number.self) c.args.light c.args.position letter =
+                  held_in_row c.args.board.now (g.R.Rows.entries c.args.rows.now) dictionary setting c.loop-number.self inv.bits c.args.light c.args.position c.requires.position
+                  c.index-in-loop-number.result.now.bits c.deref.result.now c.position_of-here.result.slot set c.loop-number.from c.in-Some-next_lost.number
+                  (ap bits_at row_is) c.deref.ensures.value there.slot c.in-Some-next_lost.ensures.passed letter from passed
+                  (in_set c.args.self.now (cell_at c.args.board.now c.args.light c.args.position) set letter set_is (inv.alive (cell_at board c.args.light c.args.position) letter (k.ensures.alive (cell_at board c.args.light c.args.position) letter alive))) in
+                  stays dictionary setting c.args.position letter c.requires.position (λ _. is_held) alive
               | inr on ↦
-                  let is : c.at-in-Some-next_index.result ≡ letter = omega (arith, c.at-in-Some-next_index.ensures, lt, on) in
+                  let is : c.at-in-Some-next_lost.result ≡ letter = omega (arith, c.at-in-Some-next_lost.ensures, lt, on) in
                   let cell : here.cell ≡ cell_at board c.args.light c.args.position = there.there.cell ∙ ap (λ n. cell_at board n here.position) there.light ∙ ap (cell_at board c.args.light) there.position in
-                  let alive_there : letter_stands c.keep_letter.new.self c.position_of-here.result.cell c.at-in-Some-next_index.result ≡ true =
-                  ap (λ x. letter_stands new x c.at-in-Some-next_index.result) cell ∙ ap (letter_stands new (cell_at board c.args.light c.args.position)) is ∙ alive in
+                  let alive_there : letter_stands c.keep_letter.new.self c.position_of-here.result.cell c.at-in-Some-next_lost.result ≡ true =
+                  ap (λ x. letter_stands new x c.at-in-Some-next_lost.result) cell ∙ ap (letter_stands new (cell_at board c.args.light c.args.position)) is ∙ alive in
                   subst (λ d. IsHeld c.args.board.now dictionary (marks_of c.keep_letter.new.self) c.args.light c.args.position d) is
-                  (subst (λ n. IsHeld c.args.board.now dictionary (marks_of c.keep_letter.new.self) c.args.light n c.at-in-Some-next_index.result) there.position
-                  (subst (λ n. IsHeld c.args.board.now dictionary (marks_of c.keep_letter.new.self) n c.position_of-here.result.position c.at-in-Some-next_index.result) there.light (k.ensures.held dictionary (move dictionary setting) alive_there)))
+                  (subst (λ n. IsHeld c.args.board.now dictionary (marks_of c.keep_letter.new.self) c.args.light n c.at-in-Some-next_lost.result) there.position
+                  (subst (λ n. IsHeld c.args.board.now dictionary (marks_of c.keep_letter.new.self) n c.position_of-here.result.position c.at-in-Some-next_lost.result) there.light (k.ensures.held dictionary (move dictionary setting) alive_there)))
             ]
           ];
       stays = λ dictionary setting position letter at stood alive. stays dictionary setting position letter at (inv.stays dictionary setting position letter at stood) alive;
@@ -96,11 +122,15 @@ returns-clause-held g c dictionary setting letter alive =
     c.index-alive.ensures ∙ get_or_default c.args.self.now.letters.items c.position_of-here.result.cell c.index-alive.result.now 0 (omega (arith, c.position_of-here.ensures.in_board, c.requires.net.shaped.letters))
     ∙ ap (λ n. get_or c.args.self.now.letters.items n 0) c.position_of-here.ensures.cell in
     let cell = cell_at c.args.board.now c.args.light c.args.position in
+    let row_is = slice_get_read c.loop-number.self.rows.items (length c.loop-number.self.rows.items) c.args.light c.index-in-loop-number.result.now refl (omega (arith, c.requires.position.0, c.loop-number.invariant.shaped.rows)) c.index-in-loop-number.ensures in
     elim (cases_lt letter (65 + c.loop-number.from)) [
       | inl before ↦ c.loop-number.invariant.held dictionary setting letter before alive
       | inr past ↦
-          let back : 65 + (letter - 65) ≡ letter = omega arith in
-          absurd (both_ways (has set letter) (ap (has set) (sym back) ∙ c.in_default-next_index.ensures.none (letter - 65) (omega arith)) (in_set c.args.self.now (cell_at c.args.board.now c.args.light c.args.position) set letter set_is (c.loop-number.invariant.alive cell letter alive)))
+          held_in_row c.args.board.now (g.R.Rows.entries c.args.rows.now) dictionary setting c.loop-number.self c.loop-number.invariant.bits c.args.light c.args.position c.requires.position
+          c.index-in-loop-number.result.now.bits c.deref.result.now c.position_of-here.result.slot set c.loop-number.from 26
+          (ap bits_at row_is) c.deref.ensures.value c.position_of-here.ensures.slot c.in_default-next_lost.ensures.none letter past
+          (omega (arith, (set_letter (get_or c.loop-number.self.letters.items cell 0) letter (stood_there c.loop-number.self cell letter alive)).1))
+          (in_set c.args.self.now (cell_at c.args.board.now c.args.light c.args.position) set letter set_is (c.loop-number.invariant.alive cell letter alive))
     ]
 
 pub loop-number-init : goal.loop-number-init

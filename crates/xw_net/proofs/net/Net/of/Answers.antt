@@ -6,7 +6,7 @@ use Rattle.xw_feas.proofs.FormedLemmas.{laid_out}
 use Rattle.xw_net.specs.Marks.{IsSetting}
 use Rattle.xw_net.specs.Room.{counts_of, HasRoom}
 use Rattle.xw_net.specs.Net.{HasRoomIn, known_counts}
-use Rattle.xw_net.specs.Blank.{IsBlank}
+use Rattle.xw_net.specs.Inner.Blank.{IsBlank}
 use Rattle.xw_net.specs.Filled.{IsFresh, IsFilled}
 use Rattle.xw_net.proofs.Nets.SlotsApart.{slots_apart}
 use Rattle.xw_net.proofs.Nets.SettledNets.{filled_settled, filled_room}
@@ -15,14 +15,14 @@ use Rattle.xw_net.proofs.net.Net.of.Goals as goal
 
 pub fill-requires-clause-fresh : goal.fill-requires-clause-fresh
 fill-requires-clause-fresh c =
-    let net = c.in-Ok.net in
+    let net = c.in_ok-net.net in
     let words = c.args.bank.now.words in
     let grid = c.args.grid.now in
-    let is_blank = subst (λ l. IsBlank l (counts_of (row c.args.bank.now.words)) (length c.args.grid.now.squares) c.in-Ok.net) c.requires c.in-Ok.ensures.blank in
-    let room = subst (λ l. HasRoom l (counts_of (row c.args.bank.now.words)) c.in-Ok.net) c.requires c.in-Ok.ensures.room in
+    let is_blank = subst (λ l. IsBlank l (counts_of (row c.args.bank.now.words)) (length c.args.grid.now.squares) c.in_ok-net.net) c.requires c.in_ok-net.ensures.blank in
+    let room = subst (λ l. HasRoom l (counts_of (row c.args.bank.now.words)) c.in_ok-net.net) c.requires c.in_ok-net.ensures.room in
     let fresh = blank_fresh grid c.well_formed-2.ensures words c.known_distinct.ensures net is_blank room in
-    subst (λ (b : Board). IsFresh b (row c.new-rows.result.words) c.in-Ok.net) (sym c.new.ensures)
-    (subst (λ (d : Dictionary). IsFresh (board_of c.args.grid.now) (row d) c.in-Ok.net) (sym c.new-rows.ensures.words) fresh)
+    subst (λ (b : Board). IsFresh b (row c.new-rows.result.words) c.in_ok-net.net) (sym c.new.ensures)
+    (subst (λ (d : Dictionary). IsFresh (board_of c.args.grid.now) (row d) c.in_ok-net.net) (sym c.new-rows.ensures.words) fresh)
 
 pub returns-clause-settled : goal.returns-clause-settled
 returns-clause-settled c =
@@ -41,5 +41,5 @@ pub returns-clause-room : goal.returns-clause-room
 returns-clause-room c =
     let words = c.args.bank.now.words in
     let room = filled_room c.args.grid.now words c.fill.new.self (returns-clause-settled c).filled in
-    subst (λ o. HasRoomIn c.args.lights.now (known_counts c.args.bank.now.words) c.fill.new.self o) (sym (c.fill.ensures.spare ∙ c.in-Ok.ensures.blank.spare))
+    subst (λ o. HasRoomIn c.args.lights.now (known_counts c.args.bank.now.words) c.fill.new.self o) (sym (c.fill.ensures.spare ∙ c.in_ok-net.ensures.blank.spare))
     (subst (λ l. HasRoom l (known_counts c.args.bank.now.words) c.fill.new.self) (sym c.requires) room)

@@ -9,8 +9,8 @@ reserve_word-requires-clause-rows c = (stands_rows c.args.lights.now c.args.self
 pub reserve_word-requires-clause-base : goal.reserve_word-requires-clause-base
 reserve_word-requires-clause-base c = (stands_rows c.args.lights.now c.args.self.now c.requires).1
 
-pub returns-in-Ok-clause-same : goal.returns-in-Ok-clause-same
-returns-in-Ok-clause-same c = roomier_alike c.args.self.now c.reserve_word.new.self None c.reserve_word.ensures.same
+pub returns-clause-same : goal.returns-clause-same
+returns-clause-same c = roomier_alike c.args.self.now c.reserve_word.new.self None c.reserve_word.ensures.same
 
-pub returns-in-Err-clause-same : goal.returns-in-Err-clause-same
-returns-in-Err-clause-same c = roomier_alike c.args.self.now c.reserve_word.new.self c.reserve_word.new.self.spare c.reserve_word.ensures.same
+pub returns-in_err-reserve_word-clause-same : goal.returns-in_err-reserve_word-clause-same
+returns-in_err-reserve_word-clause-same c = roomier_alike c.args.self.now c.reserve_word.new.self c.reserve_word.new.self.spare c.reserve_word.ensures.same

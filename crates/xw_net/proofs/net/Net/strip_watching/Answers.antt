@@ -30,7 +30,7 @@ note_emptied-requires-clause-light g c = omega (arith, c.in-Some.ensures.within,
 
 pub see_to-requires-clause-queued : goal.see_to-requires-clause-queued
 unfolding queued_in is_marked
-see_to-requires-clause-queued g c = ap (λ marks. is_marked marks c.in-Some.light) (ap (λ (l : ListOfLights). l.marks) c.take_turn.ensures.rest) ∙ c.in-Some.ensures.marked
+see_to-requires-clause-queued g c = ap (λ marks. is_marked marks c.in-Some.light) (ap (λ (l : ListOfLights). l.marks) c.take_at.ensures.rest) ∙ c.in-Some.ensures.marked
 
 pub see_to-requires-clause-net : goal.see_to-requires-clause-net
 see_to-requires-clause-net g c =
@@ -44,14 +44,14 @@ see_to-requires-clause-net g c =
         held = shaped.held;
         restart = shaped.restart;
         pending = shaped.pending;
-        queue = ap length (ap (λ (l : ListOfLights). l.marks) c.take_turn.ensures.rest) ∙ shaped.queue;
+        queue = ap length (ap (λ (l : ListOfLights). l.marks) c.take_at.ensures.rest) ∙ shaped.queue;
       };
       bits = subst (λ e. HasBits c.args.board.now e c.loop-light.self) (sym c.loop-light.invariant.same) c.loop-light.invariant.bits;
     }
 
 pub loop-light-smaller : goal.loop-light-smaller
 loop-light-smaller g c =
-    omega (arith, ap left_of c.note_emptied.ensures, c.see_to.ensures.fewer c.if-see_to.false, length_permutation c.loop-light.self.queue.lights (c.in-Some.light ∷ c.take_turn.new.self.lights) c.in-Some.ensures.taken)
+    omega (arith, ap left_of c.note_emptied.ensures, c.see_to.ensures.fewer c.if-see_to.false, length_permutation c.loop-light.self.queue.lights (c.in-Some.light ∷ c.take_at.new.self.lights) c.in-Some.ensures.taken)
 
 pub loop-light-init : goal.loop-light-init
 unfolding word_stands letter_stands held_in restart_in pending_in queued_in
@@ -81,32 +81,32 @@ loop-light-preserved g c =
     record {
       same = k.ensures.entries ∙ inv.same;
       risen = omega (arith, inv.risen, k.ensures.risen);
-      rest = left_left inv.rest (left_left (left_queue c.loop-light.self (record c.loop-light.self { queue = c.take_turn.new.self }) refl) (left_left k.ensures.step.rest (left_noted seen noted e)));
+      rest = left_left inv.rest (left_left (left_queue c.loop-light.self (record c.loop-light.self { queue = c.take_at.new.self }) refl) (left_left k.ensures.step.rest (left_noted seen noted e)));
       shaped = shaped_noted c.args.board.now seen noted e k.ensures.step.shaped;
       bits = subst (λ (n : Net). HasBits c.args.board.now (g.R.Rows.entries c.args.rows.now) n) (sym e) (subst (λ f. HasBits c.args.board.now f seen) inv.same k.ensures.step.bits);
       queue = subst (λ (n : Net). IsQueue n) (sym e) (λ light. k.ensures.waits c.if-see_to.false light (λ apart is.
-          waits_taken c.loop-light.self.queue.lights c.take_turn.new.self.lights c.in-Some.light light c.in-Some.ensures.taken apart (inv.queue light (ap (λ marks. get_or marks light false) (sym (ap (λ (l : ListOfLights). l.marks) c.take_turn.ensures.rest)) ∙ is))));
+          waits_taken c.loop-light.self.queue.lights c.take_at.new.self.lights c.in-Some.light light c.in-Some.ensures.taken apart (inv.queue light (ap (λ marks. get_or marks light false) (sym (ap (λ (l : ListOfLights). l.marks) c.take_at.ensures.rest)) ∙ is))));
       pending = λ slot letter pends. elim (k.ensures.pending c.if-see_to.false slot letter (sym (ap (λ (n : Net). pending_in n slot letter) e) ∙ pends)) [ inl before ↦ inv.pending slot letter before | inr at ↦ inr at ];
       holding = λ dictionary setting holding.
           subst (λ (n : Net). IsHolding c.args.board.now dictionary (marks_of n)) (sym e) (k.ensures.holding c.if-see_to.false dictionary (subst (λ e. IsSetting c.args.board.now e dictionary) (sym inv.same) setting) (inv.holding dictionary setting holding));
       kept = λ dictionary measure setting under.
-          subst (λ (n : Net). IsUnderway c.args.board.now dictionary measure (marks_of n) (queued_in n) (g.R.Rows.ticks k.new.rows)) (sym e) (k.ensures.kept dictionary measure (subst (λ e. IsSetting c.args.board.now e dictionary) (sym inv.same) setting) (subst (λ (q : ListOfLights). IsUnderway c.args.board.now dictionary measure (marks_of (record c.loop-light.self { queue = q })) (queued_in (record c.loop-light.self { queue = q })) (g.R.Rows.ticks c.loop-light.rows)) (sym c.take_turn.ensures.rest) (inv.kept dictionary measure setting under)));
+          subst (λ (n : Net). IsUnderway c.args.board.now dictionary measure (marks_of n) (queued_in n) (g.R.Rows.ticks k.new.rows)) (sym e) (k.ensures.kept dictionary measure (subst (λ e. IsSetting c.args.board.now e dictionary) (sym inv.same) setting) (subst (λ (q : ListOfLights). IsUnderway c.args.board.now dictionary measure (marks_of (record c.loop-light.self { queue = q })) (queued_in (record c.loop-light.self { queue = q })) (g.R.Rows.ticks c.loop-light.rows)) (sym c.take_at.ensures.rest) (inv.kept dictionary measure setting under)));
     }
 
-none_wait : (g : Over) (c : goal.In_default g) → c.take_turn.new.self.lights ≡ []
+none_wait : (g : Over) (c : goal.In_default g) → c.take_at.new.self.lights ≡ []
 none_wait g c = c.in_default.ensures.left
 
-none_queued : (g : Over) (c : goal.In_default g) → (light : ℕ) → queued_in (record c.loop-light.self { queue = c.take_turn.new.self }) light ≡ false
+none_queued : (g : Over) (c : goal.In_default g) → (light : ℕ) → queued_in (record c.loop-light.self { queue = c.take_at.new.self }) light ≡ false
 unfolding queued_in
 none_queued g c light =
-    ap (λ marks. get_or marks light false) (ap (λ (l : ListOfLights). l.marks) c.take_turn.ensures.rest)
+    ap (λ marks. get_or marks light false) (ap (λ (l : ListOfLights). l.marks) c.take_at.ensures.rest)
     ∙ false_from_ne_true (queued_in c.loop-light.self light) (λ is. both_ways (is_waiting c.loop-light.self.queue.lights light) (waiting-none c.loop-light.self.queue.lights light c.in_default.ensures.none) (c.loop-light.invariant.queue light is))
 
-still_holding : (g : Over) (c : goal.In_default g) → KeepsHolding c.args.board.now (g.R.Rows.entries c.args.rows.now) c.args.self.now (record c.loop-light.self { queue = c.take_turn.new.self })
+still_holding : (g : Over) (c : goal.In_default g) → KeepsHolding c.args.board.now (g.R.Rows.entries c.args.rows.now) c.args.self.now (record c.loop-light.self { queue = c.take_at.new.self })
 unfolding word_stands letter_stands held_in restart_in pending_in queued_in
 still_holding g c = c.loop-light.invariant.holding
 
-settles : (g : Over) (c : goal.In_default g) → SettlesMarks c.args.board.now (g.R.Rows.entries c.args.rows.now) c.args.self.now (record c.loop-light.self { queue = c.take_turn.new.self })
+settles : (g : Over) (c : goal.In_default g) → SettlesMarks c.args.board.now (g.R.Rows.entries c.args.rows.now) c.args.self.now (record c.loop-light.self { queue = c.take_at.new.self })
 unfolding word_stands letter_stands held_in restart_in pending_in queued_in
 settles g c dictionary setting ready =
     let board = c.args.board.now in
@@ -119,12 +119,12 @@ settles g c dictionary setting ready =
       paid = record { closed = λ light position other other_position letter here there meets stands lost has. refl; within = omega arith; queued = λ light lt h. refl; fewer = λ cell letter h. h };
     } in
     let under = inv.kept dictionary measure setting start in
-    subst (λ (q : ListOfLights). IsSettledNet c.args.board.now dictionary (marks_of (record c.loop-light.self { queue = q }))) (sym c.take_turn.ensures.rest)
+    subst (λ (q : ListOfLights). IsSettledNet c.args.board.now dictionary (marks_of (record c.loop-light.self { queue = q }))) (sym c.take_at.ensures.rest)
     (settled_net board dictionary (marks_of c.loop-light.self) under.kept (λ light lt.
     false_from_ne_true (queued_in c.loop-light.self light) (λ is.
     both_ways (is_waiting c.loop-light.self.queue.lights light) (waiting-none c.loop-light.self.queue.lights light c.in_default.ensures.none) (inv.queue light is))))
 
-none_pending : (g : Over) (c : goal.In_default g) → LeavesNonePending c.args.board.now (g.R.Rows.entries c.args.rows.now) c.args.self.now (record c.loop-light.self { queue = c.take_turn.new.self })
+none_pending : (g : Over) (c : goal.In_default g) → LeavesNonePending c.args.board.now (g.R.Rows.entries c.args.rows.now) c.args.self.now (record c.loop-light.self { queue = c.take_at.new.self })
 unfolding word_stands letter_stands held_in restart_in pending_in queued_in
 none_pending g c dictionary setting ready at_slots slot letter =
     let last = c.loop-light.self in
@@ -132,17 +132,17 @@ none_pending g c dictionary setting ready at_slots slot letter =
     let at : IsSlot c.args.board.now slot = elim (c.loop-light.invariant.pending slot letter pends) [ inl before ↦ at_slots slot letter before | inr at ↦ at ] in
     both_ways (pending_in last slot letter) (ap (λ s. pending_in last s letter) (sym at.3) ∙ (settles g c dictionary setting ready).none_pending at.0 at.1 letter at.2) pends)
 
-leaves_feasible : (g : Over) (c : goal.In_default g) → LeavesFeasible c.args.board.now (g.R.Rows.entries c.args.rows.now) c.args.self.now (record c.loop-light.self { queue = c.take_turn.new.self })
+leaves_feasible : (g : Over) (c : goal.In_default g) → LeavesFeasible c.args.board.now (g.R.Rows.entries c.args.rows.now) c.args.self.now (record c.loop-light.self { queue = c.take_at.new.self })
 unfolding word_stands letter_stands held_in restart_in pending_in queued_in
 leaves_feasible g c dictionary setting ready =
-    settled_exact c.args.board.now (g.R.Rows.entries c.args.rows.now) dictionary setting (marks_of (record c.loop-light.self { queue = c.take_turn.new.self })) (settles g c dictionary setting ready)
+    settled_exact c.args.board.now (g.R.Rows.entries c.args.rows.now) dictionary setting (marks_of (record c.loop-light.self { queue = c.take_at.new.self })) (settles g c dictionary setting ready)
 
 pub returns-clause-filled : goal.returns-clause-filled
 unfolding word_stands letter_stands held_in restart_in pending_in queued_in
 returns-clause-filled g c dictionary setting from =
     let board = c.args.board.now in
     let old = c.args.self.now in
-    let last : Net = record c.loop-light.self { queue = c.take_turn.new.self } in
+    let last : Net = record c.loop-light.self { queue = c.take_at.new.self } in
     let inv = c.loop-light.invariant in
     let rest : IsLeft c.args.self.now last = left_left inv.rest (left_queue c.loop-light.self last refl) in
     let base = ap (λ v. vec_items v) rest.base in
@@ -189,7 +189,7 @@ under_stop : (g : Over) (c : After-note_dead g) → (dictionary : Dictionary) (m
 unfolding word_stands letter_stands held_in restart_in pending_in queued_in
 under_stop g c dictionary measure setting under =
     let inv = c.loop-light.invariant in
-    c.see_to.ensures.kept dictionary measure (subst (λ e. IsSetting c.args.board.now e dictionary) (sym inv.same) setting) (subst (λ (q : ListOfLights). IsUnderway c.args.board.now dictionary measure (marks_of (record c.loop-light.self { queue = q })) (queued_in (record c.loop-light.self { queue = q })) (g.R.Rows.ticks c.loop-light.rows)) (sym c.take_turn.ensures.rest) (inv.kept dictionary measure setting under))
+    c.see_to.ensures.kept dictionary measure (subst (λ e. IsSetting c.args.board.now e dictionary) (sym inv.same) setting) (subst (λ (q : ListOfLights). IsUnderway c.args.board.now dictionary measure (marks_of (record c.loop-light.self { queue = q })) (queued_in (record c.loop-light.self { queue = q })) (g.R.Rows.ticks c.loop-light.rows)) (sym c.take_at.ensures.rest) (inv.kept dictionary measure setting under))
 
 sound_stop : (g : Over) (c : After-note_dead g) → (dictionary : Dictionary) → IsSetting c.args.board.now (g.R.Rows.entries c.args.rows.now) dictionary
     → IsReady c.args.board.now dictionary (marks_of c.args.self.now) → IsSound c.args.board.now dictionary (marks_of c.see_to.new.self)
@@ -222,7 +222,7 @@ returns-then-see_to-clause-step g c =
     let noted = c.note_dead.new.self in
     let e = c.note_dead.ensures in
     record {
-      rest = left_left inv.rest (left_left (left_queue c.loop-light.self (record c.loop-light.self { queue = c.take_turn.new.self }) refl) (left_left k.ensures.step.rest (left_noted seen noted e)));
+      rest = left_left inv.rest (left_left (left_queue c.loop-light.self (record c.loop-light.self { queue = c.take_at.new.self }) refl) (left_left k.ensures.step.rest (left_noted seen noted e)));
       shaped = shaped_noted c.args.board.now seen noted e k.ensures.step.shaped;
       bits = subst (λ (n : Net). HasBits c.args.board.now (g.R.Rows.entries c.args.rows.now) n) (sym e) (subst (λ f. HasBits c.args.board.now f seen) inv.same k.ensures.step.bits);
     }

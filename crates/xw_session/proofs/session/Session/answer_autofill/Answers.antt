@@ -14,21 +14,21 @@ use Rattle.xw_session.proofs.session.Session.answer_autofill.Goals as goal
 pub returns-then-not-are_lights : goal.returns-then-not-are_lights
 returns-then-not-are_lights g c =
     let left = c.self.inside in
-    let start : State = record { position = g.E.Feasible.state left.engine; texts = texts_view left.texts; clues = left.clues; circles = left.circles; is_watched = left.is_watched; begun = left.begun } in
+    let start : State = record { engine = g.E.Feasible.state left.engine; texts = texts_view left.texts; clues = left.clues; circles = left.circles; is_watched = left.is_watched; begun = left.begun } in
     subst (λ (s : State). AnswersTo g.W.Sink.transcript g.W.Sink.failures s (commands.Autofill c.args.limit c.args.seed c.args.lights) c.end_answer.result s c.args.sink.now c.end_answer.new.sink) c.self.view_is (
       Err refusals.NoLight,
-      (refl, subst (λ (lights : List LightArg). AreLights start.position (names_of lights) → ⊥) c.copy.ensures (c.are_lights.ensures.no c.if-not-are_lights.true)),
+      (refl, subst (λ (lights : List LightArg). AreLights start.engine (names_of lights) → ⊥) c.copy.ensures (c.are_lights.ensures.no c.if-not-are_lights.true)),
       refused_answers g.W.Sink.transcript g.W.Sink.failures start (Err refusals.NoLight) _ refusals.NoLight _ _ _ (inl refl) c.end_answer.ensures.sends c.end_answer.ensures.step,
     )
 
 pub returns : goal.returns
 returns g c =
     let left = c.self.inside in
-    let start : State = record { position = g.E.Feasible.state left.engine; texts = texts_view left.texts; clues = left.clues; circles = left.circles; is_watched = left.is_watched; begun = left.begun } in
+    let start : State = record { engine = g.E.Feasible.state left.engine; texts = texts_view left.texts; clues = left.clues; circles = left.circles; is_watched = left.is_watched; begun = left.begun } in
     let now = g.E.Feasible.state c.filled-filled.new.engine in
-    let end : State = record start { position = now } in
+    let end : State = record start { engine = now } in
     let names = names_of c.args.lights in
-    let there = subst (λ (lights : List LightArg). AreLights start.position (names_of lights)) c.copy.ensures (c.are_lights.ensures.yes c.if-not-are_lights.false) in
+    let there = subst (λ (lights : List LightArg). AreLights start.engine (names_of lights)) c.copy.ensures (c.are_lights.ensures.yes c.if-not-are_lights.false) in
     let fits = autofill_fits start names there now c.filled-filled.result c.filled-filled.ensures.ok c.filled-filled.ensures.refused in
     subst (λ (s : State). AnswersTo g.W.Sink.transcript g.W.Sink.failures s (commands.Autofill c.args.limit c.args.seed c.args.lights) c.end_filling.result end c.args.sink.now c.end_filling.new.sink) c.self.view_is (
       fits.0,

@@ -14,22 +14,22 @@ use Rattle.xw_session.proofs.session.Session.answer_erase.Goals as goal
 pub erased_cells-erased-requires-clause-short : goal.erased_cells-erased-requires-clause-short
 erased_cells-erased-requires-clause-short g c =
     let state = c.args.self.now in
-    let formed = subst (λ (s : State). IsGrid s.position.grid) c.self.view_is (g.met.E.Feasible.well_formed c.self.inside.engine).grid in
-    (found_short state.position.grid (lights_of state.position.grid) c.in-Some.light _ refl formed (sym c.light.ensures ∙ c.in-Some.is)).0
+    let formed = subst (λ (s : State). IsGrid s.engine.grid) c.self.view_is (g.met.E.Feasible.well_formed c.self.inside.engine).grid in
+    (found_short state.engine.grid (lights_of state.engine.grid) c.in-Some.light _ refl formed (sym c.light.ensures ∙ c.in-Some.is)).0
 
 pub erased_cells-erased-requires-clause-inside : goal.erased_cells-erased-requires-clause-inside
 erased_cells-erased-requires-clause-inside g c =
     let state = c.args.self.now in
-    let formed = subst (λ (s : State). IsGrid s.position.grid) c.self.view_is (g.met.E.Feasible.well_formed c.self.inside.engine).grid in
-    let short = found_short state.position.grid (lights_of state.position.grid) c.in-Some.light _ refl formed (sym c.light.ensures ∙ c.in-Some.is) in
+    let formed = subst (λ (s : State). IsGrid s.engine.grid) c.self.view_is (g.met.E.Feasible.well_formed c.self.inside.engine).grid in
+    let short = found_short state.engine.grid (lights_of state.engine.grid) c.in-Some.light _ refl formed (sym c.light.ensures ∙ c.in-Some.is) in
     (short.1, short.2)
 
 pub returns-in-Some : goal.returns-in-Some
 returns-in-Some g c =
     let state = c.args.self.now in
-    let cells : c.list.result.now ≡ emptied (erased_cells state.position c.in-Some.light) =
-    c.list.ensures ∙ c.erased_cells-erased.ensures ∙ ap (λ (s : State). emptied (erased_cells s.position c.in-Some.light)) c.self.view_is in
-    (_, ap (erased state) (sym c.light.ensures ∙ c.in-Some.is) ∙ ap (λ list. moved state (after state.position (list_written list))) (sym cells), c.answer_edit.ensures)
+    let cells : c.list.result.now ≡ emptied (erased_cells state.engine c.in-Some.light) =
+    c.list.ensures ∙ c.erased_cells-erased.ensures ∙ ap (λ (s : State). emptied (erased_cells s.engine c.in-Some.light)) c.self.view_is in
+    (_, ap (erased state) (sym c.light.ensures ∙ c.in-Some.is) ∙ ap (λ list. moved state (after state.engine (list_written list))) (sym cells), c.answer_edit.ensures)
 
 pub returns-in-None : goal.returns-in-None
 returns-in-None g c =

@@ -10,9 +10,9 @@ use Rattle.xw_session.proofs.session.Session.answer_fill.Goals as goal
 pub returns : goal.returns
 returns g c =
     let left = c.self.inside in
-    let start : State = record { position = g.E.Feasible.state left.engine; texts = texts_view left.texts; clues = left.clues; circles = left.circles; is_watched = left.is_watched; begun = left.begun } in
+    let start : State = record { engine = g.E.Feasible.state left.engine; texts = texts_view left.texts; clues = left.clues; circles = left.circles; is_watched = left.is_watched; begun = left.begun } in
     let now = c.fill-filled.new.engine in
-    let end : State = record start { position = g.E.Feasible.state now } in
+    let end : State = record start { engine = g.E.Feasible.state now } in
     subst (λ (s : State). AnswersTo g.W.Sink.transcript g.W.Sink.failures s (commands.Fill c.args.limit) c.end_filling.result end c.args.sink.now c.end_filling.new.sink) c.self.view_is (
       fill_tried start c.args.limit,
       refl,

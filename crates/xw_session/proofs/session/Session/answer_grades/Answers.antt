@@ -18,10 +18,10 @@ use Rattle.xw_session.proofs.session.Session.answer_grades.Goals as goal
 pub returns-then-not-are_lights : goal.returns-then-not-are_lights
 returns-then-not-are_lights g c =
     let left = c.self.inside in
-    let start : State = record { position = g.E.Feasible.state left.engine; texts = texts_view left.texts; clues = left.clues; circles = left.circles; is_watched = left.is_watched; begun = left.begun } in
+    let start : State = record { engine = g.E.Feasible.state left.engine; texts = texts_view left.texts; clues = left.clues; circles = left.circles; is_watched = left.is_watched; begun = left.begun } in
     let names = names_of c.args.lights in
-    let missing = some_missing start.position names (subst (λ (lights : List LightArg). AreLights start.position (names_of lights) → ⊥) c.copy.ensures (c.are_lights.ensures.no c.if-not-are_lights.true)) in
-    let refused : graded start names ≡ Err refusals.NoLight = ap (λ b. if b then shown start (grade_lines start.position names) else Err refusals.NoLight) missing in
+    let missing = some_missing start.engine names (subst (λ (lights : List LightArg). AreLights start.engine (names_of lights) → ⊥) c.copy.ensures (c.are_lights.ensures.no c.if-not-are_lights.true)) in
+    let refused : graded start names ≡ Err refusals.NoLight = ap (λ b. if b then shown start (grade_lines start.engine names) else Err refusals.NoLight) missing in
     subst (λ (s : State). AnswersTo g.W.Sink.transcript g.W.Sink.failures s (commands.Grades c.args.lights) c.end_answer.result s c.args.sink.now c.end_answer.new.sink) c.self.view_is
     (refusal_answers g.W.Sink.transcript g.W.Sink.failures start (commands.Grades c.args.lights) refusals.NoLight _ _ _ refused c.end_answer.ensures.sends c.end_answer.ensures.step)
 
@@ -33,19 +33,19 @@ pub returns-in_err-write_grades : goal.returns-in_err-write_grades
 returns-in_err-write_grades g c =
     let e = err_from_is_err_and c.from_residual.result c.from_residual.ensures.1 in
     let left = c.self.inside in
-    let start : State = record { position = g.E.Feasible.state left.engine; texts = texts_view left.texts; clues = left.clues; circles = left.circles; is_watched = left.is_watched; begun = left.begun } in
+    let start : State = record { engine = g.E.Feasible.state left.engine; texts = texts_view left.texts; clues = left.clues; circles = left.circles; is_watched = left.is_watched; begun = left.begun } in
     let names = names_of c.args.lights in
-    let there = all_there start.position names (subst (λ (lights : List LightArg). AreLights start.position (names_of lights)) c.copy.ensures (c.are_lights.ensures.yes c.if-not-are_lights.false)) in
-    let told : graded start names ≡ shown start (grade_lines start.position names) = ap (λ b. if b then shown start (grade_lines start.position names) else Err refusals.NoLight) there in
+    let there = all_there start.engine names (subst (λ (lights : List LightArg). AreLights start.engine (names_of lights)) c.copy.ensures (c.are_lights.ensures.yes c.if-not-are_lights.false)) in
+    let told : graded start names ≡ shown start (grade_lines start.engine names) = ap (λ b. if b then shown start (grade_lines start.engine names) else Err refusals.NoLight) there in
     rw e.1 (subst (λ (s : State). AnswersTo g.W.Sink.transcript g.W.Sink.failures s (commands.Grades c.args.lights) (Err e.0) s c.args.sink.now c.write_grades.new.sink) c.self.view_is
-    (query_stops g.W.Sink.transcript g.W.Sink.failures start (commands.Grades c.args.lights) (grade_lines start.position names) e.0 _ _ told c.in_err-write_grades.ensures))
+    (query_stops g.W.Sink.transcript g.W.Sink.failures start (commands.Grades c.args.lights) (grade_lines start.engine names) e.0 _ _ told c.in_err-write_grades.ensures))
 
 pub returns : goal.returns
 returns g c =
     let left = c.self.inside in
-    let start : State = record { position = g.E.Feasible.state left.engine; texts = texts_view left.texts; clues = left.clues; circles = left.circles; is_watched = left.is_watched; begun = left.begun } in
+    let start : State = record { engine = g.E.Feasible.state left.engine; texts = texts_view left.texts; clues = left.clues; circles = left.circles; is_watched = left.is_watched; begun = left.begun } in
     let names = names_of c.args.lights in
-    let there = all_there start.position names (subst (λ (lights : List LightArg). AreLights start.position (names_of lights)) c.copy.ensures (c.are_lights.ensures.yes c.if-not-are_lights.false)) in
-    let told : graded start names ≡ shown start (grade_lines start.position names) = ap (λ b. if b then shown start (grade_lines start.position names) else Err refusals.NoLight) there in
+    let there = all_there start.engine names (subst (λ (lights : List LightArg). AreLights start.engine (names_of lights)) c.copy.ensures (c.are_lights.ensures.yes c.if-not-are_lights.false)) in
+    let told : graded start names ≡ shown start (grade_lines start.engine names) = ap (λ b. if b then shown start (grade_lines start.engine names) else Err refusals.NoLight) there in
     subst (λ (s : State). AnswersTo g.W.Sink.transcript g.W.Sink.failures s (commands.Grades c.args.lights) c.end_answer-2.result s c.args.sink.now c.end_answer-2.new.sink) c.self.view_is
-    (query_answers g.W.Sink.transcript g.W.Sink.failures start (commands.Grades c.args.lights) (grade_lines start.position names) _ _ _ _ told c.in_ok-write_grades.ensures c.end_answer-2.ensures.sends c.end_answer-2.ensures.step)
+    (query_answers g.W.Sink.transcript g.W.Sink.failures start (commands.Grades c.args.lights) (grade_lines start.engine names) _ _ _ _ told c.in_ok-write_grades.ensures c.end_answer-2.ensures.sends c.end_answer-2.ensures.step)

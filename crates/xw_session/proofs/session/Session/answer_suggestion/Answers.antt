@@ -1,7 +1,7 @@
 use Rattle.std.proofs.Common.{◌≡◌, ◌∙◌, ◌++◌, List, ℕ, subst, ap, refl}
 use Rattle.std.proofs.lemmas.Result.{err_from_is_err_and}
 use Rattle.xw_grid.specs.Puzzle.{texts_view}
-use Rattle.xw_feas.specs.State.{State as Position}
+use Rattle.xw_feas.specs.State.{State as EngineState}
 use Rattle.xw_fill.specs.Suggesting.{suggestion}
 use Rattle.xw_session.specs.State.{State}
 use Rattle.xw_session.specs.Found.{suggestion_line}
@@ -13,22 +13,22 @@ use Rattle.xw_session.proofs.session.Session.answer_suggestion.Goals as goal
 pub returns-in_err-write_suggestion : goal.returns-in_err-write_suggestion
 returns-in_err-write_suggestion g c =
     let left = c.self.inside in
-    let start : State = record { position = g.E.Feasible.state left.engine; texts = texts_view left.texts; clues = left.clues; circles = left.circles; is_watched = left.is_watched; begun = left.begun } in
+    let start : State = record { engine = g.E.Feasible.state left.engine; texts = texts_view left.texts; clues = left.clues; circles = left.circles; is_watched = left.is_watched; begun = left.begun } in
     let e = err_from_is_err_and c.from_residual.result c.from_residual.ensures.1 in
     let f = c.suggest-suggestion.ensures in
-    let lines : suggestion_line (g.E.Feasible.state c.suggest-suggestion.new.engine) c.suggest-suggestion.result ≡ suggestion_line start.position (suggestion start.position) =
-    ap (λ (p : Position). suggestion_line p c.suggest-suggestion.result) f.unchanged ∙ ap (suggestion_line start.position) f.suggestion in
-    let wrote : Begins (g.W.Sink.transcript c.args.sink.now) (g.W.Sink.transcript c.write_suggestion.new.sink) (suggestion_line start.position (suggestion start.position)) × HasFailed (g.W.Sink.failures c.args.sink.now) (g.W.Sink.failures c.write_suggestion.new.sink) =
+    let lines : suggestion_line (g.E.Feasible.state c.suggest-suggestion.new.engine) c.suggest-suggestion.result ≡ suggestion_line start.engine (suggestion start.engine) =
+    ap (λ (p : EngineState). suggestion_line p c.suggest-suggestion.result) f.unchanged ∙ ap (suggestion_line start.engine) f.suggestion in
+    let wrote : Begins (g.W.Sink.transcript c.args.sink.now) (g.W.Sink.transcript c.write_suggestion.new.sink) (suggestion_line start.engine (suggestion start.engine)) × HasFailed (g.W.Sink.failures c.args.sink.now) (g.W.Sink.failures c.write_suggestion.new.sink) =
     (subst (λ (xs : List ℕ). Begins (g.W.Sink.transcript c.args.sink.now) (g.W.Sink.transcript c.write_suggestion.new.sink) xs) lines c.in_err-write_suggestion.ensures.0, c.in_err-write_suggestion.ensures.1) in
-    rw (e.1, f.unchanged, ← c.self.view_is) (shown start (suggestion_line start.position (suggestion start.position)), refl, reply_stops g.W.Sink.transcript g.W.Sink.failures start _ _ (record { lines = suggestion_line start.position (suggestion start.position); state = start }) _ _ _ refl wrote)
+    rw (e.1, f.unchanged, ← c.self.view_is) (shown start (suggestion_line start.engine (suggestion start.engine)), refl, reply_stops g.W.Sink.transcript g.W.Sink.failures start _ _ (record { lines = suggestion_line start.engine (suggestion start.engine); state = start }) _ _ _ refl wrote)
 
 pub returns : goal.returns
 returns g c =
     let left = c.self.inside in
-    let start : State = record { position = g.E.Feasible.state left.engine; texts = texts_view left.texts; clues = left.clues; circles = left.circles; is_watched = left.is_watched; begun = left.begun } in
+    let start : State = record { engine = g.E.Feasible.state left.engine; texts = texts_view left.texts; clues = left.clues; circles = left.circles; is_watched = left.is_watched; begun = left.begun } in
     let f = c.suggest-suggestion.ensures in
-    let lines : suggestion_line (g.E.Feasible.state c.suggest-suggestion.new.engine) c.suggest-suggestion.result ≡ suggestion_line start.position (suggestion start.position) =
-    ap (λ (p : Position). suggestion_line p c.suggest-suggestion.result) f.unchanged ∙ ap (suggestion_line start.position) f.suggestion in
-    let wrote : (g.W.Sink.transcript c.write_suggestion.new.sink ≡ g.W.Sink.transcript c.args.sink.now ++ suggestion_line start.position (suggestion start.position)) × (g.W.Sink.failures c.write_suggestion.new.sink ≡ g.W.Sink.failures c.args.sink.now) =
+    let lines : suggestion_line (g.E.Feasible.state c.suggest-suggestion.new.engine) c.suggest-suggestion.result ≡ suggestion_line start.engine (suggestion start.engine) =
+    ap (λ (p : EngineState). suggestion_line p c.suggest-suggestion.result) f.unchanged ∙ ap (suggestion_line start.engine) f.suggestion in
+    let wrote : (g.W.Sink.transcript c.write_suggestion.new.sink ≡ g.W.Sink.transcript c.args.sink.now ++ suggestion_line start.engine (suggestion start.engine)) × (g.W.Sink.failures c.write_suggestion.new.sink ≡ g.W.Sink.failures c.args.sink.now) =
     (subst (λ (xs : List ℕ). g.W.Sink.transcript c.write_suggestion.new.sink ≡ g.W.Sink.transcript c.args.sink.now ++ xs) lines c.in_ok-write_suggestion.ensures.0, c.in_ok-write_suggestion.ensures.1) in
-    rw (f.unchanged, ← c.self.view_is) (shown start (suggestion_line start.position (suggestion start.position)), refl, reply_answers g.W.Sink.transcript g.W.Sink.failures start _ _ (record { lines = suggestion_line start.position (suggestion start.position); state = start }) _ _ _ _ refl wrote c.end_answer.ensures.sends c.end_answer.ensures.step)
+    rw (f.unchanged, ← c.self.view_is) (shown start (suggestion_line start.engine (suggestion start.engine)), refl, reply_answers g.W.Sink.transcript g.W.Sink.failures start _ _ (record { lines = suggestion_line start.engine (suggestion start.engine); state = start }) _ _ _ _ refl wrote c.end_answer.ensures.sends c.end_answer.ensures.step)

@@ -15,23 +15,23 @@ pub returns-in_err-write_unlisted-in-Ok : goal.returns-in_err-write_unlisted-in-
 returns-in_err-write_unlisted-in-Ok g c =
     let e = err_from_is_err_and c.from_residual.result c.from_residual.ensures.1 in
     let state = c.args.self.now in
-    let grid : c.grid.result.now ≡ state.position.grid = c.grid.ensures ∙ ap (λ (s : State). s.position.grid) c.self.view_is in
-    let found = c.deref.ensures.value ∙ c.in-Ok.ensures.lists ∙ ap (λ (s : State). unlisted_of s.position) c.self.view_is in
-    let lines : flat_map (spelled_line c.grid.result.now) c.deref.result.now ≡ flat_map (spelled_line state.position.grid) (unlisted_of state.position) =
-    ap (λ (grid : Grid). flat_map (spelled_line grid) c.deref.result.now) grid ∙ ap (flat_map (spelled_line state.position.grid)) found in
+    let grid : c.grid.result.now ≡ state.engine.grid = c.grid.ensures ∙ ap (λ (s : State). s.engine.grid) c.self.view_is in
+    let found = c.deref.ensures.value ∙ c.in-Ok.ensures.lists ∙ ap (λ (s : State). unlisted_of s.engine) c.self.view_is in
+    let lines : flat_map (spelled_line c.grid.result.now) c.deref.result.now ≡ flat_map (spelled_line state.engine.grid) (unlisted_of state.engine) =
+    ap (λ (grid : Grid). flat_map (spelled_line grid) c.deref.result.now) grid ∙ ap (flat_map (spelled_line state.engine.grid)) found in
     let wrote = c.in_err-write_unlisted-in-Ok.ensures in
-    rw e.1 (query_stops g.W.Sink.transcript g.W.Sink.failures state commands.Unlisted (flat_map (spelled_line state.position.grid) (unlisted_of state.position)) _ _ _ refl
+    rw e.1 (query_stops g.W.Sink.transcript g.W.Sink.failures state commands.Unlisted (flat_map (spelled_line state.engine.grid) (unlisted_of state.engine)) _ _ _ refl
     (subst (λ (xs : List ℕ). Begins (g.W.Sink.transcript c.args.sink.now) (g.W.Sink.transcript c.write_unlisted.new.sink) xs) lines wrote.0, wrote.1))
 
 pub returns-in_ok-write_unlisted-in-Ok : goal.returns-in_ok-write_unlisted-in-Ok
 returns-in_ok-write_unlisted-in-Ok g c =
     let state = c.args.self.now in
-    let grid : c.grid.result.now ≡ state.position.grid = c.grid.ensures ∙ ap (λ (s : State). s.position.grid) c.self.view_is in
-    let found = c.deref.ensures.value ∙ c.in-Ok.ensures.lists ∙ ap (λ (s : State). unlisted_of s.position) c.self.view_is in
-    let lines : flat_map (spelled_line c.grid.result.now) c.deref.result.now ≡ flat_map (spelled_line state.position.grid) (unlisted_of state.position) =
-    ap (λ (grid : Grid). flat_map (spelled_line grid) c.deref.result.now) grid ∙ ap (flat_map (spelled_line state.position.grid)) found in
+    let grid : c.grid.result.now ≡ state.engine.grid = c.grid.ensures ∙ ap (λ (s : State). s.engine.grid) c.self.view_is in
+    let found = c.deref.ensures.value ∙ c.in-Ok.ensures.lists ∙ ap (λ (s : State). unlisted_of s.engine) c.self.view_is in
+    let lines : flat_map (spelled_line c.grid.result.now) c.deref.result.now ≡ flat_map (spelled_line state.engine.grid) (unlisted_of state.engine) =
+    ap (λ (grid : Grid). flat_map (spelled_line grid) c.deref.result.now) grid ∙ ap (flat_map (spelled_line state.engine.grid)) found in
     let wrote = c.in_ok-write_unlisted-in-Ok.ensures in
-    query_answers g.W.Sink.transcript g.W.Sink.failures state commands.Unlisted (flat_map (spelled_line state.position.grid) (unlisted_of state.position)) _ _ _ _ refl
+    query_answers g.W.Sink.transcript g.W.Sink.failures state commands.Unlisted (flat_map (spelled_line state.engine.grid) (unlisted_of state.engine)) _ _ _ _ refl
     (subst (λ (xs : List ℕ). g.W.Sink.transcript c.write_unlisted.new.sink ≡ g.W.Sink.transcript c.args.sink.now ++ xs) lines wrote.0, wrote.1) c.end_answer.ensures.sends c.end_answer.ensures.step
 
 pub returns-in-Err : goal.returns-in-Err

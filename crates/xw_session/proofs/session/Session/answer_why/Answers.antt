@@ -1,5 +1,5 @@
 use Rattle.std.proofs.Common.{◌≡◌, ◌∙◌, ap, sym, subst}
-use Rattle.xw_feas.specs.State.{State as Position}
+use Rattle.xw_feas.specs.State.{State as EngineState}
 use Rattle.xw_grid.specs.Grid.{Grid}
 use Rattle.xw_grid.specs.Puzzle.{texts_view}
 use Rattle.xw_commands.specs.declared.command.Command.TheVariants as commands
@@ -12,11 +12,11 @@ use Rattle.xw_session.proofs.session.Session.answer_why.Goals as goal
 pub returns : goal.returns
 returns g c =
     let left = c.self.inside in
-    let start : State = record { position = g.E.Feasible.state left.engine; texts = texts_view left.texts; clues = left.clues; circles = left.circles; is_watched = left.is_watched; begun = left.begun } in
+    let start : State = record { engine = g.E.Feasible.state left.engine; texts = texts_view left.texts; clues = left.clues; circles = left.circles; is_watched = left.is_watched; begun = left.begun } in
     let now = g.E.Feasible.state c.reason_for-found.new.engine in
-    let end : State = record start { position = now } in
-    let same : end ≡ start = ap (λ (p : Position). record start { position = p }) c.reason_for-found.ensures.unchanged in
-    let grid : c.grid.result.now ≡ start.position.grid = c.grid.ensures ∙ ap (λ (p : Position). p.grid) c.reason_for-found.ensures.unchanged in
+    let end : State = record start { engine = now } in
+    let same : end ≡ start = ap (λ (p : EngineState). record start { engine = p }) c.reason_for-found.ensures.unchanged in
+    let grid : c.grid.result.now ≡ start.engine.grid = c.grid.ensures ∙ ap (λ (p : EngineState). p.grid) c.reason_for-found.ensures.unchanged in
     let fits = why_fits start (name_of_light c.args.named) c.grid.result.now c.reason_for-found.result grid c.reason_for-found.ensures.ok c.reason_for-found.ensures.refused in
     subst (λ (s : State). AnswersTo g.W.Sink.transcript g.W.Sink.failures s (commands.Why c.args.named) c.end_reason.result end c.args.sink.now c.end_reason.new.sink) c.self.view_is (
       fits.0,

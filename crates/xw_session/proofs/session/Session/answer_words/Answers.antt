@@ -17,8 +17,8 @@ returns-in_err-write_counted-in-Some g c =
     let e = err_from_is_err_and c.from_residual.result c.from_residual.ensures.1 in
     let state = c.args.self.now in
     let words = c.in-Some.ensures.some in
-    let all = feasible_words (position_of state.position) words.0 in
-    let at_light : worded state (index_named (lights_of state.position.grid) (name_of_light c.args.named)) c.args.most ≡ worded state (Some words.0) c.args.most = ap (λ light. worded state light c.args.most) words.1 in
+    let all = feasible_words (position_of state.engine) words.0 in
+    let at_light : worded state (index_named (lights_of state.engine.grid) (name_of_light c.args.named)) c.args.most ≡ worded state (Some words.0) c.args.most = ap (λ light. worded state light c.args.most) words.1 in
     let lines : counted_lines c.in-Some.count (first_words c.args.most c.in-Some.found) ≡ counted_lines (length all) (first_words c.args.most all) =
     ap (λ count. counted_lines count (first_words c.args.most c.in-Some.found)) words.2 ∙ ap (λ (xs : List (List ℕ)). counted_lines (length all) (first_words c.args.most xs)) words.3 in
     let wrote = c.in_err-write_counted-in-Some.ensures in
@@ -29,8 +29,8 @@ pub returns-in_ok-write_counted-in-Some : goal.returns-in_ok-write_counted-in-So
 returns-in_ok-write_counted-in-Some g c =
     let state = c.args.self.now in
     let words = c.in-Some.ensures.some in
-    let all = feasible_words (position_of state.position) words.0 in
-    let at_light : worded state (index_named (lights_of state.position.grid) (name_of_light c.args.named)) c.args.most ≡ worded state (Some words.0) c.args.most = ap (λ light. worded state light c.args.most) words.1 in
+    let all = feasible_words (position_of state.engine) words.0 in
+    let at_light : worded state (index_named (lights_of state.engine.grid) (name_of_light c.args.named)) c.args.most ≡ worded state (Some words.0) c.args.most = ap (λ light. worded state light c.args.most) words.1 in
     let lines : counted_lines c.in-Some.count (first_words c.args.most c.in-Some.found) ≡ counted_lines (length all) (first_words c.args.most all) =
     ap (λ count. counted_lines count (first_words c.args.most c.in-Some.found)) words.2 ∙ ap (λ (xs : List (List ℕ)). counted_lines (length all) (first_words c.args.most xs)) words.3 in
     let wrote = c.in_ok-write_counted-in-Some.ensures in

@@ -8,6 +8,6 @@ use Rattle.xw_session.proofs.session.Session.counted_by.Goals as goal
 
 pub returns-in-Ok-Ok-clause-some : goal.returns-in-Ok-Ok-clause-some
 returns-in-Ok-Ok-clause-some g c =
-    subst (λ (s : State). (light : ℕ) × (index_named (lights_of s.position.grid) c.args.name ≡ Some light)
-    × (c.in-Ok-Ok.count ≡ length (feasible_words (position_of s.position) light)) × (c.in-Ok-Ok.found ≡ feasible_words (position_of s.position) light)) c.self.view_is
+    subst (λ (s : State). (light : ℕ) × (index_named (lights_of s.engine.grid) c.args.name ≡ Some light)
+    × (c.in-Ok-Ok.count ≡ length (feasible_words (position_of s.engine) light)) × (c.in-Ok-Ok.found ≡ feasible_words (position_of s.engine) light)) c.self.view_is
     (counted (g.E.Feasible.state c.self.inside.engine) (g.E.Feasible.answers c.self.inside.engine) _ c.in-Ok-Ok.count c.in-Ok-Ok.found (g.met.E.Feasible.exact c.self.inside.engine) c.in-Ok-Ok.ensures c.in-Ok-Ok.ensures')

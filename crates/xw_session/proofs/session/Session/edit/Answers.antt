@@ -10,7 +10,7 @@ use Rattle.xw_session.proofs.session.Session.edit.Goals as goal
 pub returns-in-Ok : goal.returns-in-Ok
 returns-in-Ok g c = λ command asks.
     let asked = subst (Asks c.args.self.now command) c.in-Ok.is asks in
-    let due = moved c.args.self.now (after c.args.self.now.position (action_of c.in-Ok.edit)) in
+    let due = moved c.args.self.now (after c.args.self.now.engine (action_of c.in-Ok.edit)) in
     (due, asked.0, subst (λ (want : Option Refusal). AnswersBy g.W.Sink.transcript g.W.Sink.failures c.args.self.now due want c.answer_edit.result c.answer_edit.new.self c.args.sink.now c.answer_edit.new.sink) (sym asked.1) c.answer_edit.ensures)
 
 pub returns-in-Err : goal.returns-in-Err

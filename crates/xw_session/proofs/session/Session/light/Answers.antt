@@ -11,6 +11,6 @@ use Rattle.xw_session.proofs.session.Session.light.Goals as goal
 pub returns-in-None : goal.returns-in-None
 returns-in-None g c =
     let state = c.args.self.now in
-    let grid_is : c.grid.result.now ≡ state.position.grid = c.grid.ensures ∙ ap (λ (s : State). s.position.grid) c.self.view_is in
-    let formed : IsGrid state.position.grid = subst IsGrid grid_is c.well_formed-2.ensures in
-    sym (ap (option_and_then (slice_get (lights_of state.position.grid))) (no_such_number state.position.grid (name_of_light c.args.named) formed c.in-None.ensures.none))
+    let grid_is : c.grid.result.now ≡ state.engine.grid = c.grid.ensures ∙ ap (λ (s : State). s.engine.grid) c.self.view_is in
+    let formed : IsGrid state.engine.grid = subst IsGrid grid_is c.well_formed-2.ensures in
+    sym (ap (option_and_then (slice_get (lights_of state.engine.grid))) (no_such_number state.engine.grid (name_of_light c.args.named) formed c.in-None.ensures.none))

@@ -10,7 +10,7 @@ use Rattle.xw_session.proofs.session.Session.place.Goals as goal
 pub returns-in-None : goal.returns-in-None
 returns-in-None g c =
     let state = c.args.self.now in
-    let grid_is : c.grid.result.now ≡ state.position.grid = c.grid.ensures ∙ ap (λ (s : State). s.position.grid) c.self.view_is in
-    let formed : IsGrid state.position.grid = subst IsGrid grid_is c.well_formed-2.ensures in
-    let none : index_named (lights_of state.position.grid) (name_of_light c.args.named) ≡ None = no_such_number state.position.grid (name_of_light c.args.named) formed c.in-None.ensures.none in
-    ap (λ light. moved state (with_grid state.position (placed_in state.position.grid light c.args.word.now))) none
+    let grid_is : c.grid.result.now ≡ state.engine.grid = c.grid.ensures ∙ ap (λ (s : State). s.engine.grid) c.self.view_is in
+    let formed : IsGrid state.engine.grid = subst IsGrid grid_is c.well_formed-2.ensures in
+    let none : index_named (lights_of state.engine.grid) (name_of_light c.args.named) ≡ None = no_such_number state.engine.grid (name_of_light c.args.named) formed c.in-None.ensures.none in
+    ap (λ light. moved state (with_grid state.engine (placed_in state.engine.grid light c.args.word.now))) none

@@ -6,14 +6,14 @@ use Rattle.xw_session.proofs.session.telling.write_cell_letters.Goals as goal
 
 pub returns-in-Ok : goal.returns-in-Ok
 returns-in-Ok g c =
-    let position = g.E.Feasible.state c.args.engine.now in
-    let opened : is_open position.grid c.args.cell ≡ true = ap (λ (grid : Grid). is_open grid c.args.cell) (sym c.grid.ensures) ∙ sym c.is_open.ensures ∙ c.if-not-is_open.false in
+    let engine = g.E.Feasible.state c.args.engine.now in
+    let opened : is_open engine.grid c.args.cell ≡ true = ap (λ (grid : Grid). is_open grid c.args.cell) (sym c.grid.ensures) ∙ sym c.is_open.ensures ∙ c.if-not-is_open.false in
     subst (λ (text : List ℕ). Sends g.W.Sink.transcript g.W.Sink.failures c.args.sink.now c.write_change.new.sink c.write_change.result text)
-    (told_letters position (g.E.Feasible.answers c.args.engine.now) c.args.cell c.in-Ok.letters (g.met.E.Feasible.exact c.args.engine.now) opened c.in-Ok.ensures)
+    (told_letters engine (g.E.Feasible.answers c.args.engine.now) c.args.cell c.in-Ok.letters (g.met.E.Feasible.exact c.args.engine.now) opened c.in-Ok.ensures)
     c.write_change.ensures
 
 pub returns-in-Err : goal.returns-in-Err
 returns-in-Err g c =
-    let position = g.E.Feasible.state c.args.engine.now in
-    let opened : is_open position.grid c.args.cell ≡ true = ap (λ (grid : Grid). is_open grid c.args.cell) (sym c.grid.ensures) ∙ sym c.is_open.ensures ∙ c.if-not-is_open.false in
-    absurd (never_untold position (g.E.Feasible.answers c.args.engine.now) c.args.cell _ opened c.in-Err.ensures)
+    let engine = g.E.Feasible.state c.args.engine.now in
+    let opened : is_open engine.grid c.args.cell ≡ true = ap (λ (grid : Grid). is_open grid c.args.cell) (sym c.grid.ensures) ∙ sym c.is_open.ensures ∙ c.if-not-is_open.false in
+    absurd (never_untold engine (g.E.Feasible.answers c.args.engine.now) c.args.cell _ opened c.in-Err.ensures)

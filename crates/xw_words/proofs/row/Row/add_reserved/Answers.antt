@@ -1,4 +1,4 @@
-use Rattle.std.proofs.Common.{◌≡◌, ℕ, ◌+◌, ◌*◌, ◌/◌, ◌<◌, ◌≤◌, Bool, true, false, cond, eqb, get_or, List, ◌∷◌, [], ◌++◌, length, sym, ap, ◌∙◌, subst, arith, length-append}
+use Rattle.std.proofs.Common.{◌≡◌, ℕ, ◌+◌, ◌*◌, ◌/◌, ◌<◌, ◌≤◌, Bool, true, false, cond, eqb, get_or, List, ◌∷◌, [], ◌++◌, length, sym, ap, ◌∙◌, subst, arith, length-append, length-set}
 use Rattle.std.specs.Prelude.{None}
 use Rattle.std.specs.Vec.{with_items}
 use Rattle.std.proofs.lemmas.List.{with_items_is, length_push}
@@ -6,7 +6,7 @@ use Rattle.xw_bits.specs.Bits.{RowOfBits}
 use Rattle.xw_words.specs.declared.marks.Marks.{Marks}
 use Rattle.xw_words.specs.Row.{Row, entries_of}
 use Rattle.xw_words.specs.Dictionary.{index_in}
-use Rattle.xw_words.specs.Index.{word_in, IsIndex, IsInserted}
+use Rattle.xw_words.specs.Index.{Index, bucket_of, word_in, IsIndex}
 use Rattle.xw_words.specs.Columns.{column_at, bit_in}
 use Rattle.xw_words.proofs.RowLemmas.{length-entries_of}
 use Rattle.xw_words.proofs.KeptRowLemmas.{AreColumns, column_room, column_long, column_clear, columns_pushed, index_pushed, room_is}
@@ -16,7 +16,7 @@ pub push_word-requires-clause-room : goal.push_word-requires-clause-room
 push_word-requires-clause-room c =
     let r = c.self.inside in
     let kept = c.self.invariant in
-    let some = room_is (length r.active.bits) r.reserved r.index.room c.args.self.now.room (ap (λ (row : Row). row.room) c.self.view_is) c.requires.room in
+    let some = room_is (length r.active.bits) r.reserved c.args.self.now.room (ap (λ (row : Row). row.room) c.self.view_is) c.requires.room in
     let P : List RowOfBits → Type 0 = λ columns. (i : ℕ) → i < length columns → c.len-index.result < (column_at columns i).room in
     let known : (n : ℕ) → n ≡ length r.active.bits → ((i : ℕ) → i < length r.columns.items → length r.active.bits < (column_at r.columns.items i).room) → (i : ℕ) → i < length r.columns.items → n < (column_at r.columns.items i).room =
     λ n e all i lt. omega (arith, e, all i lt) in
@@ -47,19 +47,16 @@ invariant_of-self c =
     let kept = c.self.invariant in
     let word = c.args.word.now in
     let flags = r.active.bits in
-    let some = room_is (length flags) r.reserved r.index.room c.args.self.now.room (ap (λ (row : Row). row.room) c.self.view_is) c.requires.room in
+    let some = room_is (length flags) r.reserved c.args.self.now.room (ap (λ (row : Row). row.room) c.self.view_is) c.requires.room in
     let fits : length word ≡ r.word_len = c.requires.length ∙ sym (ap (λ (row : Row). row.word_len) c.self.view_is) in
     let long_entries = length-entries_of r.word_len r.letters.items flags r.marks.items in
     let known : length flags < 1048576 = omega (arith, some, kept.reserved_few) in
     let unknown : index_in (entries_of r.word_len r.letters.items flags r.marks.items) word ≡ None = ap (λ (row : Row). index_in row.entries word) c.self.view_is ∙ c.requires.unknown in
-    let B : ℕ → List ℕ → ℕ → Type 0 = λ len letters index. IsInserted (word_in len letters) r.index.indices word index c.insert.new.self.indices in
-    let counted : B r.word_len c.deref.result.now c.len-index.result = subst (λ n. B n c.deref.result.now c.len-index.result) fits c.insert.ensures in
-    let lettered : B r.word_len r.letters.items c.len-index.result = subst (λ ls. B r.word_len ls c.len-index.result) c.deref.ensures.value counted in
-    let put : B r.word_len r.letters.items (length flags) = subst (B r.word_len r.letters.items) c.len-index.ensures.value lettered in
     let grown = length_push flags true in
     let longer : length c.push.new.self.bits ≡ length flags + 1 = ap length c.push.ensures.bits ∙ grown in
-    let indexed = index_pushed r.word_len r.letters.items word flags r.marks.items r.index.indices c.insert.new.self.indices kept.index put kept.letters fits unknown in
-    let I : List ℕ → ℕ → List ℕ → Type 0 = λ letters n index. IsIndex (word_in r.word_len letters) n index in
+    let indexed = index_pushed r.word_len r.letters.items word flags r.marks.items r.index c.insert.new.self kept.index c.insert.ensures.linked kept.letters fits unknown in
+    let heads : length c.insert.new.self.heads ≡ length r.index.heads = ap length c.insert.ensures.linked.heads ∙ length-set r.index.heads (bucket_of (length r.index.heads) word) (length r.index.earlier + 1) in
+    let I : List ℕ → ℕ → Index → Type 0 = λ letters n index. IsIndex (word_in r.word_len letters) n index in
     let C : List ℕ → List Bool → List Marks → List RowOfBits → Type 0 = λ letters bits marks columns. AreColumns r.word_len r.reserved (entries_of r.word_len letters bits marks) columns in
     let mark : Marks = record { grade = c.grade_or-grade.result; struck = false; regraded = false } in
     let marks_now : List Marks = r.marks.items ++ mark ∷ [] in
@@ -84,7 +81,9 @@ invariant_of-self c =
       few = omega (arith, longer, known);
       within = omega (arith, longer, some);
       reserved_few = kept.reserved_few;
-      index = subst (λ letters. I letters (length c.push.new.self.bits) c.insert.new.self.indices) (sym c.append.ensures.items) (subst (λ n. I (r.letters.items ++ word) n c.insert.new.self.indices) (sym longer) indexed);
+      index = subst (λ letters. I letters (length c.push.new.self.bits) c.insert.new.self) (sym c.append.ensures.items) (subst (λ n. I (r.letters.items ++ word) n c.insert.new.self) (sym longer) indexed);
+      index_heads = λ some. omega (arith, kept.index_heads some, heads);
+      index_room = omega (arith, kept.index_room, c.insert.ensures.room);
       column_count = columns.few;
       all_columns = columns.all;
       columns = columns.bits;
@@ -99,11 +98,11 @@ returns-clause-few c =
     let r = c.self.inside in
     let kept = c.self.invariant in
     let flags = r.active.bits in
-    let some = room_is (length flags) r.reserved r.index.room c.args.self.now.room (ap (λ (row : Row). row.room) c.self.view_is) c.requires.room in
+    let some = room_is (length flags) r.reserved c.args.self.now.room (ap (λ (row : Row). row.room) c.self.view_is) c.requires.room in
     omega (arith, some, kept.reserved_few, length-entries_of r.word_len r.letters.items flags r.marks.items, ap (λ (row : Row). length row.entries) c.self.view_is)
 
 pub returns-clause-long : goal.returns-clause-long
 returns-clause-long c =
     let r = c.self.inside in
-    let some = room_is (length r.active.bits) r.reserved r.index.room c.args.self.now.room (ap (λ (row : Row). row.room) c.self.view_is) c.requires.room in
+    let some = room_is (length r.active.bits) r.reserved c.args.self.now.room (ap (λ (row : Row). row.room) c.self.view_is) c.requires.room in
     omega (arith, c.self.invariant.long (omega (arith, some)), c.requires.length, ap (λ (row : Row). row.word_len) c.self.view_is)

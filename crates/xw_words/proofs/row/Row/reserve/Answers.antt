@@ -1,6 +1,6 @@
-use Rattle.std.proofs.Common.{◌≡◌, ◌*◌, ◌<◌, ◌≤◌, length, refl, sym, ap, ◌∙◌, subst, arith, vec_len, vec_capacity, rules}
+use Rattle.std.proofs.Common.{◌≡◌, ℕ, List, ◌*◌, ◌<◌, ◌≤◌, length, refl, sym, ap, ◌∙◌, subst, arith, vec_len, vec_capacity, rules}
 use Rattle.xw_words.specs.Row.{Row, entries_of}
-use Rattle.xw_words.specs.Index.{word_in, IsIndex}
+use Rattle.xw_words.specs.Index.{Index, word_in, IsIndex}
 use Rattle.xw_words.specs.KeptRow.{IsKeptRow}
 use Rattle.xw_words.specs.declared.row.Row.TheInside.{Inside}
 use Rattle.xw_words.proofs.RowLemmas.{length-entries_of}
@@ -8,13 +8,12 @@ use Rattle.xw_words.proofs.KeptRowLemmas.{AreColumns, columns_made, columns_kept
 use Rattle.xw_words.proofs.row.Row.reserve.Goals as goal
 
 -- a row with the same words, and room for as many as are reserved
-module _ (r s : Inside) (kept : IsKeptRow r) (len : s.word_len ≡ r.word_len) (letters : s.letters.items ≡ r.letters.items) (bits : s.active.bits ≡ r.active.bits) (marks : s.marks.items ≡ r.marks.items) (indices : s.index.indices ≡ r.index.indices) where
-  same_index : IsIndex (word_in s.word_len s.letters.items) (length s.active.bits) s.index.indices
+module _ (r s : Inside) (kept : IsKeptRow r) (len : s.word_len ≡ r.word_len) (letters : s.letters.items ≡ r.letters.items) (bits : s.active.bits ≡ r.active.bits) (marks : s.marks.items ≡ r.marks.items) (index : IsIndex (word_in r.word_len r.letters.items) (length r.active.bits) s.index) where
+  same_index : IsIndex (word_in s.word_len s.letters.items) (length s.active.bits) s.index
   same_index =
-      subst (λ n. IsIndex (word_in n s.letters.items) (length s.active.bits) s.index.indices) (sym len)
-      (subst (λ ls. IsIndex (word_in r.word_len ls) (length s.active.bits) s.index.indices) (sym letters)
-      (subst (λ fs. IsIndex (word_in r.word_len r.letters.items) (length fs) s.index.indices) (sym bits)
-      (subst (IsIndex (word_in r.word_len r.letters.items) (length r.active.bits)) (sym indices) kept.index)))
+      subst (λ n. IsIndex (word_in n s.letters.items) (length s.active.bits) s.index) (sym len)
+      (subst (λ ls. IsIndex (word_in r.word_len ls) (length s.active.bits) s.index) (sym letters)
+      (subst (λ fs. IsIndex (word_in r.word_len r.letters.items) (length fs) s.index) (sym bits) index))
 
   same_words : AreColumns r.word_len s.reserved (entries_of r.word_len r.letters.items r.active.bits r.marks.items) s.columns.items → AreColumns s.word_len s.reserved (entries_of s.word_len s.letters.items s.active.bits s.marks.items) s.columns.items
   same_words are =
@@ -24,8 +23,8 @@ module _ (r s : Inside) (kept : IsKeptRow r) (len : s.word_len ≡ r.word_len) (
       (subst (λ ms. AreColumns r.word_len s.reserved (entries_of r.word_len r.letters.items r.active.bits ms) s.columns.items) (sym marks) are)))
 
   still_kept : AreColumns r.word_len s.reserved (entries_of r.word_len r.letters.items r.active.bits r.marks.items) s.columns.items → (0 < s.reserved → 2 ≤ r.word_len) → length r.active.bits ≤ s.reserved → s.reserved ≤ 1048576
-      → s.reserved * r.word_len ≤ vec_capacity s.letters → s.reserved ≤ vec_capacity s.marks → s.reserved ≤ s.active.room → IsKeptRow s
-  still_kept are long within reserved_few letters_room marks_room active_room = record {
+      → s.reserved * r.word_len ≤ vec_capacity s.letters → s.reserved ≤ vec_capacity s.marks → s.reserved ≤ s.active.room → (0 < s.reserved → 0 < length s.index.heads) → s.reserved ≤ s.index.room → IsKeptRow s
+  still_kept are long within reserved_few letters_room marks_room active_room index_heads index_room = record {
     short = omega (arith, kept.short, len);
     letters = ap length letters ∙ kept.letters ∙ ap (λ n. length r.active.bits * n) (sym len) ∙ ap (λ fs. length fs * s.word_len) (sym bits);
     marks = ap length marks ∙ kept.marks ∙ sym (ap length bits);
@@ -34,6 +33,8 @@ module _ (r s : Inside) (kept : IsKeptRow r) (len : s.word_len ≡ r.word_len) (
     reserved_few = reserved_few;
     long = λ some. let e = long some in omega (arith, e, len);
     index = same_index;
+    index_heads = index_heads;
+    index_room = index_room;
     column_count = (same_words are).few;
     all_columns = (same_words are).all;
     columns = (same_words are).bits;
@@ -46,24 +47,30 @@ module _ (r s : Inside) (kept : IsKeptRow r) (len : s.word_len ≡ r.word_len) (
 columns_of : (r : Inside) → IsKeptRow r → AreColumns r.word_len r.reserved (entries_of r.word_len r.letters.items r.active.bits r.marks.items) r.columns.items
 columns_of r kept = record { few = kept.column_count; all = kept.all_columns; bits = kept.columns; room = kept.columns_room }
 
+reserved_index : (r : Inside) (letters : List ℕ) (index : Index) → IsKeptRow r → letters ≡ r.letters.items → IsIndex (word_in r.word_len letters) (length r.index.earlier) index → IsIndex (word_in r.word_len r.letters.items) (length r.active.bits) index
+reserved_index r letters index kept same is =
+    subst (λ n. IsIndex (word_in r.word_len r.letters.items) n index) kept.index.long (subst (λ ls. IsIndex (word_in r.word_len ls) (length r.index.earlier) index) same is)
+
 -- if an allocation failed, the columns are still those of the known words
 pub invariant_of-self-in_err-grow_columns : goal.invariant_of-self-in_err-grow_columns
 invariant_of-self-in_err-grow_columns c =
     let r = c.self.inside in
     let kept = c.self.invariant in
-    still_kept r _ kept refl refl refl refl c.reserve.ensures.indices
+    still_kept r _ kept refl refl refl refl (reserved_index r c.deref.result.now c.reserve.new.self kept c.deref.ensures.value c.reserve.ensures.index)
     (columns_kept r.word_len r.reserved (entries_of r.word_len r.letters.items r.active.bits r.marks.items) r.columns.items c.grow_columns.new.columns.items (columns_of r kept) (omega (arith, c.grow_columns.ensures.more))
     (omega (arith, length-entries_of r.word_len r.letters.items r.active.bits r.marks.items, kept.within)) c.grow_columns.ensures.bits (omega (arith, c.grow_columns.ensures.few)) c.grow_columns.ensures.room_stays)
     kept.long kept.within kept.reserved_few kept.letters_room kept.marks_room kept.active_room
+    (λ some. omega (arith, kept.index_heads some, c.reserve.ensures.heads_stay)) (omega (arith, kept.index_room, c.reserve.ensures.room_stays))
 
 pub invariant_of-self-in_err-reserve_words : goal.invariant_of-self-in_err-reserve_words
 invariant_of-self-in_err-reserve_words c =
     let r = c.self.inside in
     let kept = c.self.invariant in
-    still_kept r _ kept refl c.reserve_words.ensures.items c.reserve_words.ensures.bits c.reserve_words.ensures.marks_stay c.reserve.ensures.indices
+    still_kept r _ kept refl c.reserve_words.ensures.items c.reserve_words.ensures.bits c.reserve_words.ensures.marks_stay (reserved_index r c.deref.result.now c.reserve.new.self kept c.deref.ensures.value c.reserve.ensures.index)
     (columns_kept r.word_len r.reserved (entries_of r.word_len r.letters.items r.active.bits r.marks.items) r.columns.items c.grow_columns.new.columns.items (columns_of r kept) (omega (arith, c.grow_columns.ensures.more))
     (omega (arith, length-entries_of r.word_len r.letters.items r.active.bits r.marks.items, kept.within)) c.grow_columns.ensures.bits (omega (arith, c.grow_columns.ensures.few)) c.grow_columns.ensures.room_stays)
     kept.long kept.within kept.reserved_few (omega (arith, kept.letters_room, c.reserve_words.ensures.capacity)) (omega (arith, kept.marks_room, c.reserve_words.ensures.marks_capacity)) (omega (arith, kept.active_room, c.reserve_words.ensures.room_stays))
+    (λ some. omega (arith, kept.index_heads some, c.reserve.ensures.heads_stay)) (omega (arith, kept.index_room, c.reserve.ensures.room_stays))
 
 pub invariant_of-self-2 : goal.invariant_of-self-2
 invariant_of-self-2 c =
@@ -73,11 +80,12 @@ invariant_of-self-2 c =
     let new = c.grow_columns.new.columns in
     let entries_long = length-entries_of r.word_len r.letters.items r.active.bits r.marks.items in
     let new_long : length new.items ≡ vec_len new = omega arith in
-    still_kept r _ kept refl c.reserve_words.ensures.items c.reserve_words.ensures.bits c.reserve_words.ensures.marks_stay c.reserve.ensures.indices
+    still_kept r _ kept refl c.reserve_words.ensures.items c.reserve_words.ensures.bits c.reserve_words.ensures.marks_stay (reserved_index r c.deref.result.now c.reserve.new.self kept c.deref.ensures.value c.reserve.ensures.index)
     (columns_made r.word_len r.reserved (entries_of r.word_len r.letters.items r.active.bits r.marks.items) r.columns.items new.items (columns_of r kept) (omega (arith, c.grow_columns.ensures.more))
     (omega (arith, entries_long, kept.within)) c.grow_columns.ensures.bits (new_long ∙ c.in_ok-grow_columns.ensures.all) words (λ i lt. c.in_ok-grow_columns.ensures.room i (omega (arith, new_long, lt))))
     (λ _. omega (arith, c.requires.long, ap (λ (row : Row). row.word_len) c.self.view_is)) (omega (arith, c.len-known.ensures.value, c.grown-words.ensures.more)) c.grown-words.ensures.few
     c.in_ok-reserve_words.ensures.letters_room c.in_ok-reserve_words.ensures.marks_room c.in_ok-reserve_words.ensures.room
+    (λ _. c.in_ok-reserve.ensures.heads) c.in_ok-reserve.ensures.room
 
 pub returns-clause-ok : goal.returns-clause-ok
 returns-clause-ok c = search rules

@@ -1,0 +1,74 @@
+-- The call that the parsed arguments describe.
+use Rattle.std.specs.Prelude.{◌≡◌, Bool, true, false, bytes_eq, is_some, map, List, Option, Some, None, codes, option_map}
+use Rattle.std.specs.Borrow.{Bor}
+use Rattle.clap.specs.Words.{Row, Text, all_of, first_of}
+use Rattle.xw_arguments.specs.declared.arguments.SessionFiles.{SessionFiles}
+use Rattle.xw_arguments.specs.declared.arguments.Clash.{Clash}
+use Rattle.xw_arguments.specs.declared.arguments.Clash.TheVariants.{TwoStarts, JournalAndStart, SyncAlone}
+use Rattle.xw_arguments.specs.declared.arguments.Call.{Call}
+use Rattle.xw_arguments.specs.declared.arguments.Call.TheVariants.{Edit, Convert, Check}
+
+-- the name is the value of this option
+abbrev pub IsNameOf : Text → List Row → Option (Bor Text) → Type 0
+IsNameOf option rows name = option_map (λ n. n.now) name ≡ first_of option rows
+
+-- a flag is set if its value is `true`
+abbrev pub is_set : Option Text → Bool
+is_set None = false
+is_set (Some text) = bytes_eq text (codes "true")
+
+-- The options that do not go together, if any: at most one of `--from`, `--resume` and `--journal` is given, and
+-- `--sync` is given only with `--journal`. The arguments say whether each of these is given.
+abbrev pub clash_of : Bool → Bool → Bool → Bool → Option Clash
+clash_of true true journal sync = Some TwoStarts
+clash_of true false true sync = Some JournalAndStart
+clash_of false true true sync = Some JournalAndStart
+clash_of true false false true = Some SyncAlone
+clash_of false true false true = Some SyncAlone
+clash_of false false false true = Some SyncAlone
+clash_of from resume journal sync = None
+
+abbrev pub clash_in : List Row → Option Clash
+clash_in rows = clash_of (is_some (first_of (codes "from") rows)) (is_some (first_of (codes "resume") rows)) (is_some (first_of (codes "journal") rows)) (is_set (first_of (codes "sync") rows))
+
+-- Each file is the value of its option, and no options clash.
+pub record AreFiles (files : SessionFiles) (rows : List Row) : Type 0 where
+  pub dict : IsNameOf (codes "dict") rows files.dict
+  pub from_file : IsNameOf (codes "from") rows files.from_file
+  pub resume_file : IsNameOf (codes "resume") rows files.resume_file
+  pub to_file : IsNameOf (codes "to") rows files.to_file
+  pub save_file : IsNameOf (codes "save") rows files.save_file
+  pub journal_file : IsNameOf (codes "journal") rows files.journal_file
+  pub synced : files.is_synced ≡ is_set (first_of (codes "sync") rows)
+  pub fits : clash_in rows ≡ None
+
+-- `explain` says whether `--explain` is given
+abbrev pub IsExplained : List Row → Bool → Type 0
+IsExplained rows explain = explain ≡ is_set (first_of (codes "explain") rows)
+
+-- whether a call explains faults
+abbrev pub is_explained : Call → Bool
+is_explained (Edit files explain) = explain
+is_explained (Convert from_file to_file explain) = explain
+is_explained (Check files explain) = explain
+
+-- the subcommand of a call
+abbrev pub subcommand : Call → Text
+subcommand (Edit files explain) = codes "edit"
+subcommand (Convert from_file to_file explain) = codes "convert"
+subcommand (Check files explain) = codes "check"
+
+-- each file of the call is the value of its option or operand; those of `check` are all values of its operand
+abbrev pub HasValues : Call → List Row → Type 0
+HasValues (Edit files explain) rows = AreFiles files rows × IsExplained rows explain
+HasValues (Convert from_file to_file explain) rows =
+    (Some from_file.now ≡ first_of (codes "from") rows) × (Some to_file.now ≡ first_of (codes "to") rows) × IsExplained rows explain
+HasValues (Check files explain) rows = (Some (map (λ file. file.now) files.items) ≡ all_of (codes "file") rows) × IsExplained rows explain
+
+-- a call of the subcommand with this name, with these values
+abbrev pub IsCallOf : Text → Call → List Row → Type 0
+IsCallOf name call rows = (subcommand call ≡ name) × HasValues call rows
+
+-- the call is the subcommand with its values
+abbrev pub IsCall : Call → Option (Text × List Row) → Type 0
+IsCall call found = (name : Text) × (rows : List Row) × (found ≡ Some (name, rows)) × IsCallOf name call rows

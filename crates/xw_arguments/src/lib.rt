@@ -1,0 +1,6 @@
+//! The command line of the program: its options, and the call that the arguments describe.
+#![tactic(auto)]
+
+pub mod arguments;
+
+pub use arguments::{Call, Clash, SessionFiles, Usage};

@@ -1,7 +1,0 @@
-use Rattle.std.proofs.Common.{inr, refl}
-use Rattle.xw_cli.proofs.Told.{goes_out}
-use Rattle.xw_cli.proofs.explaining.tell.Goals as goal
-
-pub returns-in-Err : goal.returns-in-Err
-returns-in-Err g c =
-    inr (refl, goes_out g.E.Sink.transcript g.E.Sink.failures c.args.errors.now c.write_all-in-Err.new.sink c.write_all-in-Err.result _ _ refl c.write_all-in-Err.ensures)

@@ -1,0 +1,13 @@
+use Rattle.std.proofs.Common.{◌≡◌, ◌<◌, ◌-◌, ◌*◌, ℕ, true, false, length, get_or}
+use Rattle.xw_net.proofs.sparse.add_words.Given as goal
+
+abbrev pub invariant-loop-chunk : goal.invariant-loop-chunk
+invariant-loop-chunk l = record {
+  long : length l.row.bits ≡ length l.fn.row.bits;
+  room : l.row.room ≡ l.fn.row.room;
+  within : (i : ℕ) → get_or l.row.bits i false ≡ true → get_or l.from.bits i false ≡ true;
+  done : (i : ℕ) → i < 64 * l.next → get_or l.row.bits i false ≡ get_or l.from.bits i false;
+}
+
+abbrev pub decreases-loop-chunk : goal.decreases-loop-chunk
+decreases-loop-chunk l = length l.from.bits - l.next

@@ -1,0 +1,3 @@
+pub mod Told
+pub mod Checks
+pub mod Steps

@@ -1,0 +1,241 @@
+//! Failures that end a run, and exit statuses.
+ghost use Rattle.std.specs.Prelude.{◌≡◌};
+ghost use Rattle.std.specs.Process.{exit_status};
+ghost use Rattle.xw_puzzle_files.specs.Status.{code_of, status_of, run_ended};
+ghost use Rattle.xw_puzzle_files.specs.Explained.{is_of_disk};
+ghost use Rattle.xw_puzzle_files.specs.Told.{IsFaultOf, IsOldFaultOf};
+
+use crate::location::Location;
+use std::alloc::AllocError;
+use std::fmt;
+use std::process::ExitCode;
+use xw_disk::DiskFault;
+use xw_lines::RunEnd;
+
+/// The outcome of a run, as the exit status of the program.
+#[derive(Clone, Copy, Debug, PartialEq, Eq)]
+pub enum Status {
+    /// Every command was accepted, or help was requested.
+    Accepted,
+    /// At least one command was refused.
+    Refused,
+    /// The arguments are invalid.
+    Usage,
+    /// A file is malformed, a word list has too many words, or a file format cannot hold the puzzle.
+    Format,
+    /// An allocation or a stream failed, or a file could not be read or written.
+    Failed,
+}
+
+impl Status {
+    pub fn code(self) -> u8
+        ensures { result ≡ code_of self }
+    {
+        match self {
+            Status::Accepted => 0,
+            Status::Refused => 1,
+            Status::Usage => 2,
+            Status::Format => 3,
+            Status::Failed => 4,
+        }
+    }
+
+    pub fn exit_code(self) -> ExitCode
+        ensures { exit_status result ≡ code_of self }
+    {
+        ExitCode::from(self.code())
+    }
+}
+
+/// A failure that ends a run early, with the names of the call. Its text is the message to print.
+#[derive(Clone, Copy)]
+pub enum Failure<'a> {
+    Input,
+    Output,
+    Memory,
+    CannotRead {
+        file: &'a str,
+    },
+    CannotWrite {
+        file: &'a str,
+    },
+    InUse {
+        file: &'a str,
+    },
+    Replaced {
+        file: &'a str,
+    },
+    /// The old file cannot be kept under its name and `~`.
+    OldUnwritable {
+        file: &'a str,
+    },
+    /// Another program has the file with this name and `~` as its journal.
+    OldInUse {
+        file: &'a str,
+    },
+    File {
+        file: &'a str,
+        name: &'static str,
+    },
+    Located {
+        file: &'a str,
+        name: &'static str,
+        location: Location,
+    },
+    Line {
+        file: &'a str,
+        number: usize,
+        name: &'static str,
+    },
+    /// The word list is a file to write.
+    OneFile {
+        file: &'a str,
+    },
+    /// The puzzle and the session are written into one file.
+    TwoTexts {
+        file: &'a str,
+    },
+    /// The session is written over the puzzle to start with.
+    OverPuzzle {
+        file: &'a str,
+    },
+    /// The name for the session asks for `.puz`.
+    SavedAsPuz {
+        file: &'a str,
+    },
+    /// The journal is another file of the call.
+    SharedJournal {
+        file: &'a str,
+    },
+    /// Two of the files to start with are standard input.
+    InputTwice,
+}
+
+impl<'a> fmt::Display for Failure<'a> {
+    ghost use Rattle.std.specs.Prelude.{Some};
+    ghost use Rattle.xw_puzzle_files.specs.Told.{failure_text};
+
+    ghost output = { λ failure. Some (failure_text failure) };
+
+    fn fmt<W: fmt::Write>(&self, f: &mut fmt::Formatter<W>) -> fmt::Result {
+        match *self {
+            Failure::Input => f.write_str("xw: input fault"),
+            Failure::Output => f.write_str("xw: output fault"),
+            Failure::Memory => f.write_str("xw: memory"),
+            Failure::CannotRead { file } => write!(f, "xw: {file}: cannot read"),
+            Failure::CannotWrite { file } => write!(f, "xw: {file}: cannot write"),
+            Failure::InUse { file } => write!(f, "xw: {file}: in use"),
+            Failure::Replaced { file } => write!(f, "xw: {file}: replaced"),
+            Failure::OldUnwritable { file } => write!(f, "xw: {file}~: cannot write"),
+            Failure::OldInUse { file } => write!(f, "xw: {file}~: in use"),
+            Failure::File { file, name } => write!(f, "xw: {file}: {name}"),
+            Failure::Located {
+                file,
+                name,
+                location,
+            } => write!(f, "xw: {file}: {name}\nxw: {location}"),
+            Failure::Line { file, number, name } => {
+                write!(f, "xw: {file}: line {number}: {name}")
+            }
+            Failure::OneFile { file } => {
+                write!(f, "xw: {file}: the word list cannot be the file to write")
+            }
+            Failure::TwoTexts { file } => write!(
+                f,
+                "xw: {file}: the puzzle and the session cannot be written into one file"
+            ),
+            Failure::OverPuzzle { file } => write!(
+                f,
+                "xw: {file}: the session cannot be written over the puzzle to start with"
+            ),
+            Failure::SavedAsPuz { file } => {
+                write!(f, "xw: {file}: the session cannot be written as .puz")
+            }
+            Failure::SharedJournal { file } => write!(
+                f,
+                "xw: {file}: the journal cannot be another file of the call"
+            ),
+            Failure::InputTwice => f.write_str("xw: -: standard input can be read only once"),
+        }
+    }
+}
+
+impl<'a> Failure<'a> {
+    pub fn status(&self) -> Status
+        ensures { result ≡ status_of self.now }
+    {
+        match self {
+            Failure::File { .. } => Status::Format,
+            Failure::Located { .. } => Status::Format,
+            Failure::Line { .. } => Status::Format,
+            Failure::OneFile { .. } => Status::Usage,
+            Failure::TwoTexts { .. } => Status::Usage,
+            Failure::OverPuzzle { .. } => Status::Usage,
+            Failure::SavedAsPuz { .. } => Status::Usage,
+            Failure::SharedJournal { .. } => Status::Usage,
+            Failure::InputTwice => Status::Usage,
+            _ => Status::Failed,
+        }
+    }
+
+    /// Returns whether a call of the system failed on a file.
+    pub fn is_of_disk(&self) -> bool
+        ensures { result ≡ is_of_disk self.now }
+    {
+        match self {
+            Failure::CannotRead { .. } => true,
+            Failure::CannotWrite { .. } => true,
+            Failure::OldUnwritable { .. } => true,
+            _ => false,
+        }
+    }
+}
+
+impl<'a> From<AllocError> for Failure<'a> {
+    ghost use Rattle.std.specs.Prelude.{◌≡◌};
+    ghost use Rattle.xw_puzzle_files.specs.declared.failure.Failure.TheVariants.{Memory};
+
+    ghost from_gives = { λ _ failure. failure ≡ Memory };
+
+    fn from(_error: AllocError) -> Failure<'a> {
+        Failure::Memory
+    }
+}
+
+/// Returns the failure for a fault of the disk with a file.
+pub fn failure_of<'a>(fault: DiskFault, file: &'a str) -> Failure<'a>
+    ensures { IsFaultOf fault file.entry.now result }
+{
+    match fault {
+        DiskFault::Memory => Failure::Memory,
+        DiskFault::Unreadable => Failure::CannotRead { file },
+        DiskFault::Unwritable => Failure::CannotWrite { file },
+        DiskFault::InUse => Failure::InUse { file },
+        DiskFault::Replaced => Failure::Replaced { file },
+    }
+}
+
+/// Returns the failure for a fault of the disk with the name under which an old file is kept.
+pub fn old_failure_of<'a>(fault: DiskFault, file: &'a str) -> Failure<'a>
+    ensures { IsOldFaultOf fault file.entry.now result }
+{
+    match fault {
+        DiskFault::Memory => Failure::Memory,
+        DiskFault::InUse => Failure::OldInUse { file },
+        _ => Failure::OldUnwritable { file },
+    }
+}
+
+/// Returns the outcome of answering commands. `before` is the number of lines refused earlier. If the line handler
+/// stopped the run, an answer was not finished.
+pub fn run_status<'a>(end: RunEnd, before: usize) -> Result<Status, Failure<'a>>
+    ensures { result ≡ run_ended before end }
+{
+    match end {
+        RunEnd::Done { refused: 0 } if before == 0 => Ok(Status::Accepted),
+        RunEnd::Done { .. } => Ok(Status::Refused),
+        RunEnd::ReadFailed | RunEnd::Endless => Err(Failure::Input),
+        RunEnd::WriteFailed | RunEnd::Stopped => Err(Failure::Output),
+        RunEnd::Memory => Err(Failure::Memory),
+    }
+}

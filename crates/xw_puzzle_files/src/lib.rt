@@ -1,0 +1,14 @@
+//! Reads, writes and checks puzzle files on a disk. Also has the failures of the program, with their messages and exit
+//! codes. It needs no session.
+#![tactic(auto)]
+
+pub mod apart;
+pub mod checking;
+pub mod explaining;
+pub mod failure;
+pub mod files;
+pub mod location;
+pub mod names;
+pub mod outlet;
+
+pub use xw_arguments::{SessionFiles, Usage};

@@ -1,0 +1,155 @@
+//! Standard output, which may lose its reader, and standard error, which may be a terminal.
+ghost use Rattle.std.specs.Prelude.{◌≡◌, Bool, false};
+
+use std::cell::Cell;
+use std::io::{self, ErrorKind, Write};
+use xw_lines::{DeviceFault, Sink};
+
+/// A writer that knows whether its reader is gone.
+pub trait Outlet: Sink {
+    // whether a call failed because nobody reads any more
+    ghost is_closed: { Self → Bool };
+
+    /// Returns whether a call failed because the pipe has no reader.
+    fn is_closed(&self) -> bool
+        ensures { result ≡ is_closed self.now };
+}
+
+/// A writer that sets a mark when its pipe has no reader.
+#[derive(Drop)]
+pub struct Watched<'a, W: Drop> {
+    writer: W,
+    mark: &'a Cell<bool>,
+}
+
+impl<'a, W: Write + Drop> Watched<'a, W> {
+    pub fn new(writer: W, mark: &'a Cell<bool>) -> Watched<'a, W> {
+        Watched { writer, mark }
+    }
+
+    /// Sets the mark if the error says so, and returns the error.
+    fn marked(&self, error: io::Error) -> io::Error {
+        if error.kind() == ErrorKind::BrokenPipe {
+            self.mark.set(true);
+        }
+        error
+    }
+}
+
+impl<'a, W: Write + Drop> Write for Watched<'a, W> {
+    fn write(&mut self, bytes: &[u8]) -> io::Result<usize> {
+        match self.writer.write(bytes) {
+            Ok(count) => Ok(count),
+            Err(error) => Err(self.marked(error)),
+        }
+    }
+
+    fn flush(&mut self) -> io::Result<()> {
+        match self.writer.flush() {
+            Ok(()) => Ok(()),
+            Err(error) => Err(self.marked(error)),
+        }
+    }
+}
+
+/// A sink over a `Watched` with this mark, as an `Outlet`.
+#[derive(Drop)]
+pub struct Output<'a, S: Sink + Drop> {
+    sink: S,
+    mark: &'a Cell<bool>,
+    is_closed: bool,
+}
+
+impl<'a, S: Sink + Drop> Output<'a, S> {
+    pub fn new(sink: S, mark: &'a Cell<bool>) -> Output<'a, S>
+        ensures sink { result.sink ≡ sink }
+        ensures open { result.is_closed ≡ false }
+    {
+        Output {
+            sink,
+            mark,
+            is_closed: false,
+        }
+    }
+
+    /// Returns the sink.
+    pub fn into_sink(self) -> S
+        ensures { result ≡ self.entry.sink }
+    {
+        self.sink
+    }
+}
+
+impl<'a, S: Sink + Drop> Sink for Output<'a, S> {
+    ghost transcript = { λ output. S.transcript output.sink };
+
+    ghost failures = { λ output. S.failures output.sink };
+
+    fn write(&mut self, bytes: &[u8]) -> Result<usize, DeviceFault> {
+        let answer = self.sink.write(bytes);
+        self.is_closed = self.mark.get();
+        answer
+    }
+
+    fn flush(&mut self) -> Result<(), DeviceFault> {
+        let answer = self.sink.flush();
+        self.is_closed = self.mark.get();
+        answer
+    }
+}
+
+impl<'a, S: Sink + Drop> Outlet for Output<'a, S> {
+    ghost is_closed = { λ output. output.is_closed };
+
+    fn is_closed(&self) -> bool {
+        self.is_closed
+    }
+}
+
+/// A writer of messages that knows whether it is a terminal.
+pub trait Messages: Sink {
+    // whether it is a terminal
+    ghost is_terminal: { Self → Bool };
+
+    /// Returns whether it is a terminal.
+    fn is_terminal(&self) -> bool
+        ensures { result ≡ is_terminal self.now };
+}
+
+/// A sink, and whether it is a terminal, as `Messages`.
+#[derive(Drop)]
+pub struct Errors<S: Sink + Drop> {
+    sink: S,
+    is_terminal: bool,
+}
+
+impl<S: Sink + Drop> Errors<S> {
+    pub fn new(sink: S, is_terminal: bool) -> Errors<S>
+        ensures sink { result.sink ≡ sink }
+        ensures terminal { result.is_terminal ≡ is_terminal }
+    {
+        Errors { sink, is_terminal }
+    }
+}
+
+impl<S: Sink + Drop> Sink for Errors<S> {
+    ghost transcript = { λ errors. S.transcript errors.sink };
+
+    ghost failures = { λ errors. S.failures errors.sink };
+
+    fn write(&mut self, bytes: &[u8]) -> Result<usize, DeviceFault> {
+        self.sink.write(bytes)
+    }
+
+    fn flush(&mut self) -> Result<(), DeviceFault> {
+        self.sink.flush()
+    }
+}
+
+impl<S: Sink + Drop> Messages for Errors<S> {
+    ghost is_terminal = { λ errors. errors.is_terminal };
+
+    fn is_terminal(&self) -> bool {
+        self.is_terminal
+    }
+}
