@@ -58,7 +58,7 @@ export function load(source?: string | URL | BufferSource): Promise<WebAssembly.
 export function toBytes(text: string): Uint8Array;
 
 /** The string that bytes are in Windows-1252, with one character for each byte. */
-export function toText(bytes: Uint8Array): string;
+export function toText(bytes: Uint8Array | ArrayBuffer): string;
 
 /** A session. Each has its own memory. */
 export class Xw {

@@ -32,8 +32,10 @@ const HIGH_BYTES = new Map(Array.from(HIGH, (character, at) => [character, 0x80 
 
 const isPlain = (unit) => unit < 0x80 || (unit > 0x9f && unit < 0x100);
 
-// The bytes of a string in Windows-1252. Throws a Fault with the status `Character` if the string has another character.
+// The bytes of a string in Windows-1252. Throws a Fault with the status `Character` if the string has another character, and a TypeError if it
+// is not a string.
 export function toBytes(text) {
+  if (typeof text !== 'string') throw new TypeError('the text is not a string');
   const bytes = new Uint8Array(text.length);
   for (let at = 0; at < text.length; at++) {
     const unit = text.charCodeAt(at);
@@ -50,8 +52,9 @@ function strange(code) {
   return new Fault('Character', character, `${character} (${name}) is not a character of Windows-1252`);
 }
 
-// The string that bytes are in Windows-1252. It has one character for each byte.
-export function toText(bytes) {
+// The string that bytes are in Windows-1252. It has one character for each byte. Throws a TypeError for anything but bytes.
+export function toText(source) {
+  const bytes = rawBytesOf(source, 'the source is not a Uint8Array or an ArrayBuffer');
   let text = '';
   for (let at = 0; at < bytes.length; at += 8192) text += String.fromCharCode.apply(null, bytes.subarray(at, at + 8192));
   return text.replace(/[\x80-\x9f]/g, (character) => HIGH[character.charCodeAt(0) - 0x80]);

@@ -1,20 +1,24 @@
 // The page: it joins the views with the session.
 import { Claim } from './claim.js';
 import { CluesView } from './clues.js';
+import { CrossingsView } from './crossings-view.js';
 import { DetailsView } from './details.js';
 import { Editor } from './editor.js';
+import { Figures } from './figures.js';
 import { Files } from './files.js';
 import { Filler } from './fill.js';
 import { Fills } from './fills.js';
 import { GridView } from './grid.js';
 import { Helpers } from './helpers.js';
 import { whenIdle } from './idle.js';
+import { nameKeys } from './key-names.js';
 import { keepAddress, keptAddress, whyNotKept } from './keep.js';
+import { LeastView, leftOf } from './least.js';
 import { LibraryView, sketchOf } from './library.js';
 import { Lists } from './lists.js';
 import { ListsView } from './lists-view.js';
 import { Faults } from './faults.js';
-import { endWarning, endingMessage, refusalText, refuse, say, useMessages, warn } from './messages.js';
+import { endWarning, endingMessage, refusalText, refuse, refuseAsIs, say, sayAsIs, useMessages, warn } from './messages.js';
 import { PATTERNS, blankRows, recordOf, rowsOf } from './patterns.js';
 import { Printer } from './print.js';
 import { Reasons } from './reasons.js';
@@ -22,7 +26,9 @@ import { escapeText, nearestText, parseRecord, strangeCharacter, textLines } fro
 import { Shelf } from './shelf.js';
 import { StandingView } from './standing.js';
 import { foldedText, leftOutText, readList, wordCount } from './word-list.js';
+import { termed } from './terms.js';
 import { ThemesView } from './themes-view.js';
+import { WarningsView } from './warnings-view.js';
 import { WordsView, titleOf } from './words.js';
 
 // An element of the page, of whatever kind it is.
@@ -51,6 +57,9 @@ const editor = new Editor(makeWorker);
 const helpers = new Helpers(editor, makeWorker);
 let builtIn;
 let lists;
+// the lists before each change, the last one at the end
+const formerLists = [];
+const MOST_FORMER = 10;
 
 // Edits, and what is said of a refusal.
 
@@ -75,16 +84,30 @@ async function edit(lines, options) {
   return refused;
 }
 
-// Sets a text to what an element holds. The engine gets near characters for those that it cannot keep.
+// Sets a text to what an element holds; returns what it is refused for, or null.
 async function editText(element, field) {
   const typed = element.value;
-  const { near, count } = nearestText(typed);
   element.dataset.kept = typed;
+  const refused = await editTexts([[field, typed]]);
+  const { near, count } = nearestText(typed);
+  if (!refused && count) sayAsIs(`“${strangeCharacter(typed)}” stays here and in .ipuz; a .puz gets: ${near}`);
+  return refused;
+}
+
+// Sets the texts of fields in one step. The engine gets near characters for those that it cannot keep.
+function editTexts(texts) {
   const originals = new Map(editor.originals);
-  if (count) originals.set(field, typed);
-  else originals.delete(field);
-  const refused = await edit(textLines(field, escapeText(near)), { originals });
-  if (!refused && count) say(`“${strangeCharacter(typed)}” stays here and in .ipuz; a .puz gets: ${near}`);
+  const lines = texts.flatMap(([field, typed]) => {
+    const { near, count } = nearestText(typed);
+    if (count) originals.set(field, typed);
+    else originals.delete(field);
+    return textLines(field, escapeText(near));
+  });
+  return edit(lines, { originals });
+}
+
+async function addLengths(texts) {
+  if (texts.length && !(await editTexts(texts))) say(`${texts.length} ${texts.length === 1 ? 'clue has' : 'clues have'} a length now`, 'good');
 }
 
 // Places a word in the light of the cursor. `needs` names the crossing lights whose letters in pencil are in its way, if there are some: those
@@ -94,18 +117,10 @@ async function place(word, needs = null) {
   editor.edited = { cell: editor.cursor, direction: light.direction };
   const cells = light.cells.filter((index, at) => editor.board.cells[index].letter !== word[at]).map((index) => editor.board.cells[index].coordinates);
   const pencil = new Set([...editor.pencil].filter((cell) => !cells.includes(cell)));
-  const cleared = needs ? pencilledAcross(light, needs) : [];
+  const cleared = needs ? editor.pencilledAcross(light, needs) : [];
   const refused = await edit([...cleared.map((cell) => `clear ${cell}`), `place ${light.name} ${word}`], { pencil });
   if (!refused && cleared.length) say(`${word} is entered; ${cleared.length} letters in pencil that crossed it are cleared: fill again (Ctrl F)`);
   return refused;
-}
-
-// The coordinates of the letters in pencil of the lights that cross a light, or of the named ones.
-function pencilledAcross(light, names) {
-  const { board, pencil } = editor;
-  const crossing = light.cells.flatMap((cell) => board.through(cell)).filter((one) => one !== light && (!names.length || names.includes(one.name)));
-  const cells = new Set(crossing.flatMap((one) => one.cells).filter((cell) => !light.cells.includes(cell)));
-  return [...cells].map((cell) => board.cells[cell]).filter((cell) => cell.letter && pencil.has(cell.coordinates)).map((cell) => cell.coordinates);
 }
 
 async function strike(word) {
@@ -152,6 +167,12 @@ function showLeft() {
 // The views.
 
 const toGrid = () => grid.focus();
+
+function goTo(light) {
+  editor.moveTo(light.cells[0], light.direction);
+  grid.focus();
+}
+
 const grid = new GridView(editor, $('grid'), {
   edit,
   mayEdit,
@@ -170,11 +191,13 @@ const faults = new Faults(editor, grid);
 new StandingView(editor, $('standing'), faults, {
   add: (word) => add(word),
   erase: () => grid.eraseLight().then(toGrid),
-  go: (light) => {
-    editor.moveTo(light.cells[0], light.direction);
-    toGrid();
-  },
+  go: goTo,
 });
+new CrossingsView(editor, $('crossings'), (light, cell) => {
+  editor.moveTo(cell, light.direction);
+  grid.focus();
+});
+new WarningsView(editor, faults, { button: $('rules'), count: $('rules-count'), tab: $('tab-puzzle') }, () => showTab('puzzle'));
 const reasons = new Reasons(editor, grid, () => !filler.isRunning);
 const words = new WordsView(
   editor,
@@ -185,7 +208,7 @@ const words = new WordsView(
   { place, strike, toGrid, isFilling: () => filler.isRunning, enter: (letter) => grid.enter(letter) },
 );
 $('candidates').addEventListener('scroll', () => words.scrolled());
-const clues = new CluesView(editor, $('clue-list'), $('clue-summary'), { text: editText, toGrid });
+const clues = new CluesView(editor, { list: $('clue-list'), summary: $('clue-summary'), lengths: $('clue-lengths') }, { text: editText, texts: addLengths, toGrid });
 const details = new DetailsView(
   editor,
   {
@@ -199,47 +222,64 @@ const themes = new ThemesView(
   helpers,
   {
     dialog: $('themes-dialog'), entries: $('themes-entries'), style: $('themes-style'), sym: $('themes-sym'), size: $('themes-size'), show: $('themes-show'),
-    told: $('themes-told'), grids: $('themes-grids'),
+    told: $('themes-told'), grids: $('themes-grids'), lengths: $('themes-lengths'),
   },
-  (record) => beginWith(record).catch(unforeseen),
+  (record, entries) => beginWith(record, entries).catch(unforeseen),
 );
+const figures = new Figures(editor, grid, { box: $('figures'), text: $('figures-text'), worst: $('figures-worst') }, goTo);
 const fills = new Fills(editor, { box: $('fills'), list: $('fills-list') }, mayEdit);
-const filler = new Filler(editor, helpers, { show: showFill, explain: () => whenIdle(() => reasons.ask().catch(() => {})), found: () => fills.add() });
+const filler = new Filler(editor, helpers, fills, { show: showFill, explain: () => whenIdle(() => reasons.ask().catch(() => {})), proved: (proof) => figures.prove(proof) });
 const printer = new Printer(editor, $('sheet'));
-const files = new Files(editor, { mayEdit, toGrid, toClue, opened, changeLists });
+const files = new Files(editor, { mayEdit, toGrid, toClue, opened, changeLists, addPuzzles: (text) => shelf.addAll(text) });
 files.takeDrops(document.body);
 
 function showChosen() {
   const { size } = editor.chosen;
-  $('fill-label').textContent = size ? `Fill ${size} ${size === 1 ? 'light' : 'lights'}` : 'Fill all';
+  $('fill-label').textContent = size ? termed(`Fill ${size} ${size === 1 ? 'light' : 'lights'}`) : 'Fill all';
 }
 
 function showFill(progress) {
   $('stop').hidden = !progress;
-  $('fill').disabled = $('another').disabled = Boolean(progress);
-  $('progress').hidden = !progress;
+  $('fill').disabled = $('another').disabled = filler.isRunning;
+  $('progress').hidden = !filler.isRunning;
   if (!progress) {
     if (document.activeElement === document.body) grid.focus();
     return;
   }
+  if (progress.isRaising) return;
   $('progress').value = progress.part;
   say(`filling … ${progress.placements.toLocaleString('en')} placements tried; Esc stops`, 'busy');
 }
 
+// What a click on a cell does while a tool is in hand.
+const MODES = {
+  block: 'Blocks: click a cell, or drag over several. Esc ends this.', right: 'Bars on the right: click a cell, or drag over several. Esc ends this.',
+  below: 'Bars below: click a cell, or drag over several. Esc ends this.', circle: 'Circles: click a cell, or drag over several. Esc ends this.',
+  pencil: 'Locks: click a letter in pencil to lock it, and a locked one to put it in pencil, or drag over several. Esc ends this.',
+};
+
 function showTool() {
-  const label = first(`[data-tool=${grid.tool}] span`);
-  $('more').lastElementChild.textContent = label ? label.textContent : 'Tools';
-  $('more').setAttribute('aria-pressed', String(Boolean(label)));
-  for (const button of all('[data-tool]')) button.setAttribute('aria-pressed', String(button.dataset.tool === grid.tool));
+  const text = MODES[grid.tool] ?? '';
+  $('mode').hidden = !text;
+  first('span', $('mode')).textContent = text;
+  $('more').setAttribute('aria-pressed', String(Boolean(text)));
+  for (const button of all('.tool')) button.setAttribute('aria-pressed', String(button.dataset.tool === grid.tool));
   $('grid').dataset.tool = grid.tool ?? '';
+}
+
+function endMode() {
+  grid.tool = null;
+  showTool();
+  grid.focus();
 }
 
 function showFacts() {
   const { board, list } = editor;
   const lacking = board.lights.filter((light) => !board.isEntered(light)).length;
   const letters = lacking ? `${board.entered} of ${board.open} letters` : 'filled';
-  const known = list.name ? `${list.name}, ${wordCount(list.words)}` : 'no word list';
-  put($('facts'), 'textContent', `${board.width} × ${board.height} · ${letters} · ${known}`);
+  const left = list.grade ? `${leftOf(list, list.grade).toLocaleString('en')} of ` : '';
+  const known = list.name ? `${list.name}, ${left}${wordCount(list.words)}` : 'no word list';
+  put($('facts'), 'textContent', [`${board.width} × ${board.height}`, letters, wordCount(board.lights.length), known].join(' · '));
   put($('undo'), 'disabled', !editor.canUndo);
   put($('redo'), 'disabled', !editor.canRedo);
   put($('symmetry'), 'value', editor.sym);
@@ -308,63 +348,106 @@ function opened() {
 // is opened. Returns whether they are in use.
 async function changeLists(changed, name = '', bytes = new Uint8Array()) {
   if (!mayEdit()) return false;
+  filler.stop();
   const other = changed(lists);
   const fault = await editor.useList(other.chosen);
   if (fault) {
-    const why = fault === 'NoWord' ? leftOutText(readList(bytes, other.least).leftOut, other.least) : '';
-    refuse(`${name || 'the lists'}: ${[refusalText(fault), why].filter(Boolean).join('; ')}`);
+    const why = fault === 'NoWord' ? leftOutText(readList(bytes).leftOut) : '';
+    refuseAsIs(`${name || 'the lists'}: ${[refusalText(fault), why].filter(Boolean).join('; ')}`);
     showList();
     return false;
   }
+  formerLists.push(lists);
+  if (formerLists.length > MOST_FORMER) formerLists.shift();
   lists = other;
   const { scored } = editor.list;
-  say(`${editor.list.name || 'no list'}: ${[`${wordCount(editor.list.words)}${scored ? ', the best scores first' : ''}`, ...listFacts()].join('; ')}`, 'good');
+  sayAsIs(`${editor.list.name || 'no list'}: ${[`${wordCount(editor.list.words)}${scored ? ', the best scores first' : ''}`, ...listFacts()].join('; ')}`, 'good');
   showList();
   await storeLists();
   return true;
 }
 
+// Takes the last change of the lists back.
+async function undoLists() {
+  const before = formerLists.at(-1);
+  if (!before || !(await changeLists(() => before))) return;
+  // the change that this was is none to take back
+  formerLists.splice(-2);
+  showList();
+}
+
+// how often the lists are being kept now
+let storing = 0;
+
 async function storeLists() {
   endWarning('list');
+  const tell = (step) => $('lists').setAttribute('aria-busy', String((storing += step) > 0));
+  tell(1);
   try {
     await lists.keep();
   } catch (fault) {
     warn('list', `The word lists are not kept: ${whyNotKept(fault)}. Load them again next time.`);
+  } finally {
+    tell(-1);
   }
 }
 
 // What was left out of the lists, or changed.
 function listFacts() {
-  const { leftOut, least, folded } = editor.list;
-  return [foldedText(folded), leftOutText(leftOut, least)].filter(Boolean);
+  const { leftOut, folded } = editor.list;
+  return [foldedText(folded), leftOutText(leftOut)].filter(Boolean);
 }
 
 function showList() {
-  const { name, words: count, scored, best, least } = editor.list;
+  const { name, words: count } = editor.list;
   const none = 'No word list is in use, so no word is known: load one, or add words.';
   $('list-name').textContent = name ? [`${name}: ${wordCount(count)}`, ...listFacts()].join('; ') : none;
-  $('least-row').hidden = !scored;
-  if (scored) {
-    $('least').max = best;
-    $('least').value = least;
-    $('least-shown').textContent = least;
-  }
-  listsView.show(lists);
+  leastView.show();
+  listsView.show(lists, formerLists.length > 0);
   showFacts();
 }
 
-const listsView = new ListsView(
+// Has the engine take over a least score, which may lead into a dead end.
+async function useLeast(least) {
+  filler.stop();
+  editor.edited = null;
+  await editor.useLeast(least);
+  lists = lists.atLeast(least);
+  showFacts();
+}
+
+function keepLeast() {
+  const { list } = editor;
+  const left = leftOf(list, list.grade);
+  say(list.grade ? `${left.toLocaleString('en')} of ${wordCount(list.words)} have ${list.least} or more` : `all ${wordCount(list.words)} are in use`, left ? 'good' : 'bad');
+  if (editor.board.lights.some((light) => light.count === 0 && !editor.board.isEntered(light))) reasons.soon();
+  storeLists();
+}
+
+const leastView = new LeastView(
+  editor,
+  { row: $('least-row'), slider: $('least'), shown: $('least-shown'), left: $('least-left'), weak: $('weak') },
   {
-    list: $('lists'), summary: $('personal-summary'), edit: $('personal-edit'), export: $('personal-export'), dialog: $('personal-dialog'), text: $('personal-text'),
-    count: $('personal-count'),
+    mayChange: mayEdit,
+    use: useLeast,
+    kept: keepLeast,
+    weak: (score) => {
+      editor.markBelow(score);
+      lists = lists.markingBelow(score);
+      storeLists();
+      toGrid();
+    },
+    toGrid,
   },
-  { change: (changed) => changeLists(changed).catch(unforeseen), export: (text) => files.saveText(text, 'my-words.txt') },
 );
 
-$('least').addEventListener('input', () => {
-  $('least-shown').textContent = $('least').value;
-});
-$('least').addEventListener('change', () => changeLists((now) => now.atLeast(Number($('least').value))));
+const listsView = new ListsView(
+  {
+    list: $('lists'), undo: $('lists-undo'), summary: $('personal-summary'), edit: $('personal-edit'), export: $('personal-export'), dialog: $('personal-dialog'),
+    text: $('personal-text'), count: $('personal-count'), file: $('personal-file'), import: $('personal-import'),
+  },
+  { change: (changed) => changeLists(changed).catch(unforeseen), undo: () => undoLists().catch(unforeseen), export: (text) => files.saveText(text, 'my-words.txt') },
+);
 
 $('picker').addEventListener('change', async () => {
   for (const file of [...$('picker').files]) await files.open(file);
@@ -398,10 +481,12 @@ function begin(rows, sym) {
   return beginWith(recordOf(rows, sym));
 }
 
-// Begins a puzzle with a record.
-async function beginWith(record) {
+// Begins a puzzle with a record. Entries of the setter's own that are in no list become words of the puzzle.
+async function beginWith(record, entries = []) {
   if (!mayEdit()) return;
-  await editor.replace({ record: await editor.engine.call('read', { record }) });
+  const found = await editor.ask(...entries.map((word) => `match ${word}`));
+  const added = [...new Set(entries.filter((_, at) => !found[at]?.length))].map((word) => `add ${word}\n`);
+  await editor.replace({ record: await editor.engine.call('read', { record: [...added, record].join('') }) });
   say('a new puzzle; undo goes back to the old one', 'good');
   reasons.soon();
   grid.focus();
@@ -456,7 +541,7 @@ const ACTIONS = {
   new: () => $('new-dialog').showModal(),
   library: () => library.show(),
   themes: () => themes.show(),
-  open: () => pick('.puz,.ipuz,.txt,.xw,.dict'),
+  open: () => pick('.puz,.ipuz,.txt,.xw,.json,.dict'),
   save: () => files.saveAny(),
   'save-puz': () => files.save('puz'),
   'save-ipuz': async () => files.saveIpuz(),
@@ -479,6 +564,7 @@ const ACTIONS = {
   hardest,
   help: () => $('help-dialog').showModal(),
   'next-clue': async () => toClue(null),
+  'end-mode': async () => endMode(),
 };
 
 document.addEventListener('click', (event) => {
@@ -521,8 +607,9 @@ function actionOf(event, key) {
       $('title').focus();
     },
     f6: nextPane,
+    escape: filler.isRunning || filler.isRaising ? () => filler.stop() : undefined,
   };
-  return keys[key];
+  return document.querySelector('dialog[open]') && key === 'escape' ? null : keys[key];
 }
 
 function nextPane() {
@@ -600,7 +687,11 @@ editor.addEventListener('whole', () => {
 const claim = new Claim();
 const shelf = new Shelf(editor, claim, () => files.saveSession());
 const library = new LibraryView($('library-dialog'), $('library-list'), shelf, (session, isVersion) => reopen(session, isVersion).catch(unforeseen));
+$('library-save').addEventListener('click', () => shelf.all().then((text) => files.saveText(text, 'puzzles.json')).catch(unforeseen));
 shelf.addEventListener('kept', (/** @type {CustomEvent} */ { detail }) => showKept(detail));
+shelf.addEventListener('lasting', (/** @type {CustomEvent} */ { detail: isLasting }) => {
+  $('kept').title = isLasting ? '' : 'The browser may take it away if it runs out of room, or if you clear its data. Save puzzles that matter to files too.';
+});
 shelf.addEventListener('held', () => {
   // the button of the warning is gone
   if (document.activeElement === document.body) grid.focus();
@@ -649,13 +740,6 @@ function greet(session, count) {
   else say(editor.list.name ? `type a letter, or choose File ▸ New${others}` : 'load a word list first: File ▸ Load a word list, or drop the file here');
 }
 
-// The keys of a Mac have other names.
-function nameKeys() {
-  if (!/Mac|iP(ad|hone)/.test(navigator.platform)) return;
-  for (const key of all('kbd')) key.textContent = key.textContent.replace('Ctrl ', '⌘');
-  for (const element of all('[title*="Ctrl "]')) element.title = element.title.replace('Ctrl ', '⌘');
-}
-
 // What the page needs of a browser, as what it is for; null if all is there.
 function lacking() {
   const needs = [
@@ -668,7 +752,7 @@ function lacking() {
 async function start() {
   const why = lacking();
   if (why) return cannotRun(why);
-  nameKeys();
+  nameKeys(document);
   builtIn = { name: $('list') ? 'built-in list' : '', bytes: $('list') ? await embedded('list') : new Uint8Array() };
   showLicence();
   lists = await Lists.kept(builtIn);

@@ -10,6 +10,10 @@
 // `cells` are indices; `count` is how many words the light has left.
 /** @typedef {{ name: string, number: string, direction: 'across' | 'down', cells: number[], count: number }} Light */
 
+// The cells of a long light, and the part of blocks below which a grid is not done.
+const LONG = 9;
+const SPARSE = 0.1;
+
 export class Board {
   width = 0;
   height = 0;
@@ -121,9 +125,21 @@ export class Board {
     return this.cells.findIndex((cell) => !cell.block && !cell.letter);
   }
 
-  // Whether the grid has neither blocks nor bars yet.
+  // Whether the grid is large and has neither blocks nor bars yet.
   get isOpenGrid() {
-    return !this.cells.some((cell) => cell.block || cell.right || cell.below);
+    return Math.max(this.width, this.height) >= LONG && !this.cells.some((cell) => cell.block || cell.right || cell.below);
+  }
+
+  // Whether it has fewer blocks, or bars for them, than a grid that is done.
+  get isSparse() {
+    const count = this.cells.reduce((sum, cell) => sum + Number(cell.block) + (Number(cell.right) + Number(cell.below)) / 2, 0);
+    return count < SPARSE * this.cells.length;
+  }
+
+  // Whether a light that no word matches may wait for blocks: it is long, and most of it is empty.
+  isLongGap(light) {
+    const { length } = light.cells.filter((cell) => !this.cells[cell].letter);
+    return light.cells.length >= LONG && 2 * length > light.cells.length;
   }
 
   get entered() {

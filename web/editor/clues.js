@@ -1,21 +1,29 @@
 // The tab of clues: one list of all lights, with a field for each.
+import { hasEnumeration, withEnumeration } from './enumeration.js';
+import { termed } from './terms.js';
 import { titleOf } from './words.js';
 
 export class CluesView {
   #editor;
   #root;
   #summary;
+  #lengths;
   #fields = new Map();
   #due = 0;
   #here = null;
   // whether the tab is in sight
   isShown = false;
 
-  constructor(editor, root, summary, actions) {
+  // `lengths` is the button that gives all clues an enumeration. `actions`: `text` sets the text of a field, `texts` those of several in one step.
+  constructor(editor, { list: root, summary, lengths }, actions) {
     this.#editor = editor;
     this.#root = root;
     this.#summary = summary;
+    this.#lengths = lengths;
     this.actions = actions;
+    lengths.addEventListener('click', () => this.#addLengths());
+    root.addEventListener('click', (event) => this.#addLength(event.target.closest('.length')));
+    root.addEventListener('input', (event) => this.#showLength(event.target));
     editor.addEventListener('whole', () => this.draw());
     editor.addEventListener('letters', () => this.#wordsSoon());
     editor.addEventListener('move', () => this.#mark());
@@ -28,14 +36,21 @@ export class CluesView {
     const { board } = this.#editor;
     const names = board.lights.map((light) => light.name).join();
     if (names !== this.names) this.#make(names);
-    for (const light of board.lights) {
-      const { field } = this.#fields.get(light.name);
-      const text = this.#editor.textOf(`clue ${light.name}`);
-      if (document.activeElement !== field || field.dataset.kept !== text) field.value = text;
-      field.dataset.kept = text;
-    }
+    for (const light of board.lights) if (!this.#underWay.has(light.name)) this.#showText(light);
+    this.#lengths.disabled = !this.#withoutLengths.length;
     this.#words();
     this.#mark();
+  }
+
+  // how many edits of a clue are not answered yet, by the name of its light: until they are, its field shows what was typed
+  #underWay = new Map();
+
+  #showText(light) {
+    const { field } = this.#fields.get(light.name);
+    const text = this.#editor.textOf(`clue ${light.name}`);
+    if (document.activeElement !== field || field.dataset.kept !== text) field.value = text;
+    field.dataset.kept = text;
+    this.#showLength(field);
   }
 
   #make(names) {
@@ -62,9 +77,47 @@ export class CluesView {
     field.setAttribute('aria-label', `clue of ${titleOf(light)}`);
     field.autocomplete = 'off';
     field.spellcheck = true;
-    row.append(number, word, field);
-    this.#fields.set(light.name, { row, word, field });
+    const length = document.createElement('button');
+    length.type = 'button';
+    length.className = 'length';
+    length.textContent = `(${light.cells.length})`;
+    length.title = 'Put the length at the end of the clue';
+    length.setAttribute('aria-label', `put (${light.cells.length}) at the end of the clue of ${titleOf(light)}`);
+    length.tabIndex = -1;
+    row.append(number, word, field, length);
+    this.#fields.set(light.name, { row, word, field, length });
     return row;
+  }
+
+  // The button of a length can be pressed while the clue has no enumeration.
+  #showLength(field) {
+    const { length } = this.#fields.get(field.dataset.light) ?? {};
+    if (length) length.disabled = !field.value.trim() || hasEnumeration(field.value);
+  }
+
+  // Puts the length of a light at the end of its clue, and selects it, so that another one can be typed over it, such as 3,5.
+  #addLength(button) {
+    if (!button) return;
+    const field = button.previousElementSibling;
+    field.value = withEnumeration(field.value, this.#editor.board.byName.get(field.dataset.light).cells.length);
+    this.#showLength(field);
+    this.#change(field);
+    field.focus();
+    field.setSelectionRange(field.value.lastIndexOf('(') + 1, field.value.length - 1);
+  }
+
+  // The lights whose clues have a text and no enumeration.
+  get #withoutLengths() {
+    return this.#editor.board.lights.filter(({ name }) => {
+      const { value } = this.#fields.get(name).field;
+      return value.trim() && !hasEnumeration(value);
+    });
+  }
+
+  #addLengths() {
+    const { board } = this.#editor;
+    const fieldOf = (light) => `clue ${board.cells[light.cells[0]].coordinates} ${light.direction}`;
+    return this.actions.texts(this.#withoutLengths.map((light) => [fieldOf(light), withEnumeration(this.#fields.get(light.name).field.value, light.cells.length)]));
   }
 
   // Letters come one after another: the words are shown once for those of a frame, and only in sight.
@@ -91,7 +144,7 @@ export class CluesView {
       word.classList.toggle('entered', board.isEntered(light));
     }
     const lacking = board.lights.filter((light) => !board.texts.has(`clue ${light.name}`)).length;
-    this.#summary.textContent = lacking ? `${board.lights.length - lacking} of ${board.lights.length} lights have a clue` : 'every light has a clue';
+    this.#summary.textContent = termed(lacking ? `${board.lights.length - lacking} of ${board.lights.length} lights have a clue` : 'every light has a clue');
   }
 
   #mark() {
@@ -137,13 +190,22 @@ export class CluesView {
     return board.lights.find((light) => !board.texts.has(`clue ${light.name}`)) ?? board.lights[0];
   }
 
-  #change(field) {
+  async #change(field) {
     if (field.value === field.dataset.kept) return;
     field.value = field.value.trim();
     const light = this.#editor.board.byName.get(field.dataset.light);
     if (!light) return;
-    const { coordinates } = this.#editor.board.cells[light.cells[0]];
-    this.actions.text(field, `clue ${coordinates} ${light.direction}`);
+    const { name, cells, direction } = light;
+    const count = (step) => this.#underWay.set(name, (this.#underWay.get(name) ?? 0) + step).get(name);
+    count(1);
+    const refused = await this.actions.text(field, `clue ${this.#editor.board.cells[cells[0]].coordinates} ${direction}`);
+    if (count(-1)) return;
+    this.#underWay.delete(name);
+    const now = this.#editor.board.byName.get(name);
+    // what was refused stays in its field, so that it can be tried again
+    if (refused) field.dataset.kept = this.#editor.textOf(`clue ${name}`);
+    else if (now) this.#showText(now);
+    this.#lengths.disabled = !this.#withoutLengths.length;
   }
 }
 

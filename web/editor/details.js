@@ -1,7 +1,9 @@
 // The tab of the puzzle: its texts, counts, repeats and words.
+import { whyUnlisted } from './faults.js';
 import { parseRecord } from './record.js';
 import { refuse, say } from './messages.js';
 import { warningsOf } from './rules.js';
+import { termed } from './terms.js';
 import { titleOf } from './words.js';
 
 // how long after an edit counts are asked for, in milliseconds
@@ -62,7 +64,9 @@ export class DetailsView {
     if (this.#elements.panel.hidden) return;
     const [stats, dups, unlisted] = await this.#editor.ask('stats', 'dups', 'unlisted');
     this.#showCounts((stats ?? []).map((line) => line.split(' ')));
-    this.#showChecks(dups ?? [], unlisted ?? []);
+    const words = (unlisted ?? []).map((line) => line.split(' '));
+    const whys = await whyUnlisted(this.#editor, words.map(([, , word]) => word));
+    this.#showChecks(dups ?? [], words.map((line, at) => [...line, whys[at]]));
     this.#showChanged();
   }
 
@@ -91,9 +95,8 @@ export class DetailsView {
       const [one, first] = [{ number, direction }, { number: otherNumber, direction: other }].map(titleOf);
       items.push(check(`${word} stands twice: ${one} and ${first}`, `${number} ${direction}`));
     }
-    for (const line of unlisted) {
-      const [number, direction, word] = line.split(' ');
-      const item = check(`${word} is not in your lists: ${titleOf({ number, direction })}`, `${number} ${direction}`);
+    for (const [number, direction, word, why] of unlisted) {
+      const item = check(`${why}: ${titleOf({ number, direction })}`, `${number} ${direction}`);
       item.append(button('Add it', { add: word }), button('Erase it', { erase: `${number} ${direction}` }));
       items.push(item);
     }
@@ -105,14 +108,16 @@ export class DetailsView {
     const empty = board.firstEmpty();
     if (empty >= 0) {
       const item = element('li', '');
-      item.append(button(`${board.open - board.entered} cells are empty`, { cell: empty }));
+      const count = board.open - board.entered;
+      item.append(button(count === 1 ? 'one cell is empty' : `${count} cells are empty`, { cell: empty }));
       items.push(item);
     }
     const dead = board.lights.filter((light) => light.count === 0 && !board.isEntered(light));
-    if (dead.length) items.unshift(check(`${dead.length} lights have no word left`, dead[0].name));
+    if (dead.length) items.unshift(check(dead.length === 1 ? `${titleOf(dead[0])} has no word left` : `${dead.length} lights have no word left`, dead[0].name));
     for (const warning of warningsOf(board)) {
       const item = element('li', '', 'warning');
-      item.append(button(`⚠ ${warning.text}`, warning.cell === undefined ? { light: warning.light ?? '' } : { cell: warning.cell }));
+      const place = warning.cell === undefined ? { light: warning.light ?? '' } : { cell: warning.cell };
+      item.append(button(`⚠ ${warning.text}`, { ...place, ...(warning.isClue && { tab: 'clue' }) }));
       items.push(item);
     }
     if (!items.length) items.push(element('li', 'Nothing is missing: no repeat, no unlisted word, no empty cell, a clue for each light.', 'good'));
@@ -162,7 +167,7 @@ export class DetailsView {
 
 function element(name, text, className = '') {
   const made = document.createElement(name);
-  made.textContent = text;
+  made.textContent = typeof text === 'string' ? termed(text) : text;
   made.className = className;
   return made;
 }

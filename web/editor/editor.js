@@ -1,9 +1,11 @@
 // The session: edits go to the engine in order, and each is kept in a history of records.
 import { Board } from './board.js';
 import { Engine } from './engine.js';
+import { gradeOf, usualWeak } from './grades.js';
 import { bodyOf, nearestText, parseRecord, transition, unescapeText } from './record.js';
 import { refusalText, refuse } from './messages.js';
 import { whenIdle } from './idle.js';
+import { useTermsOf } from './terms.js';
 
 // A step of the history, as the browser keeps it too.
 /**
@@ -11,11 +13,12 @@ import { whenIdle } from './idle.js';
  *   puzzle: string, record: string, pencil: string[], originals: [string, string][], cursor: number, direction: 'across' | 'down',
  * }} State
  */
-// The word lists in use as one.
+// The word lists in use as one. `byGrade` has the number of words of each grade; `least` is the least score, and `grade` its grade; words
+// below the score `weak` are marked.
 /**
  * @typedef {{
- *   name: string, words: number, scored: boolean, best: number, leftOut: Record<string, number>, folded: number, least: number,
- *   sources: Uint8Array[], personal: string,
+ *   name: string, words: number, scored: boolean, best: number, byGrade: Uint32Array, leftOut: Record<string, number>, folded: number, least: number,
+ *   grade: number, weak: number, sources: Uint8Array[], personal: string,
  * }} WordList
  */
 
@@ -40,12 +43,16 @@ export class Editor extends EventTarget {
   // cells of a reason, by index, and the name of the light that they leave no word
   reason = new Set();
   reasonLight = '';
-  // cells of lights that no word matches, and of words that are not in the list or stand twice, by index
+  // whether long lights that no word matches wait for blocks
+  waits = false;
+  // cells of other lights that no word matches, and of words that are not in use or stand twice, by index
   unmatched = new Set();
   faulty = new Set();
+  // cells of words below the score that is chosen, by index, and the directions of these words
+  weak = { across: new Set(), down: new Set() };
   commands = new Set();
   /** @type {WordList} */
-  list = { name: '', words: 0, scored: false, best: 0, leftOut: {}, folded: 0, least: 0, sources: [], personal: '' };
+  list = { name: '', words: 0, scored: false, best: 0, byGrade: new Uint32Array(), leftOut: {}, folded: 0, least: 0, grade: 0, weak: 0, sources: [], personal: '' };
   // names the puzzle: edits keep the name, another file or pattern has another one
   puzzle = newPuzzleName();
   /** @type {State[]} */
@@ -105,8 +112,8 @@ export class Editor extends EventTarget {
     const { sources, personal, least } = list;
     const opened = await this.engine.call('open', { sources, personal, least, record });
     this.commands = new Set(opened.commands);
-    const { words, scored, best, leftOut, folded } = opened;
-    this.list = { ...list, words, scored, best, leftOut, folded };
+    const { words, scored, best, byGrade, grade, leftOut, folded } = opened;
+    this.list = { ...list, weak: list.weak ?? usualWeak(best), words, scored, best, byGrade, grade, leftOut, folded };
     this.record = opened.record;
     this.board.takeWhole(opened);
     this.#afterWhole();
@@ -133,6 +140,7 @@ export class Editor extends EventTarget {
 
   #afterWhole() {
     this.sym = parseRecord(this.record).sym;
+    useTermsOf(this.board);
     const { cells } = this.board;
     if (this.cursor >= cells.length) this.cursor = 0;
     for (const coordinates of this.pencil) if (!this.cellAt(coordinates)?.letter) this.pencil.delete(coordinates);
@@ -174,10 +182,13 @@ export class Editor extends EventTarget {
   }
 
   // Sends lines as one step of the history. If one is refused, all are taken back, and its name is returned.
-  // The answer is shown before the record is read.
+  // The answer is shown before the record is read. Edits of one `stroke`, as a drag is, are one step. With `only`, the lines belong to the step
+  // before, and are sent only if the record is this one still; else the answer is `Changed`.
   /**
    * @param {string[]} lines
-   * @param {{ isWhole?: boolean, pencil?: Set<string> | null, originals?: Map<string, string> | null }} options
+   * @param {{
+   *   isWhole?: boolean, pencil?: Set<string> | null, originals?: Map<string, string> | null, stroke?: object | null, only?: string | null,
+   * }} options
    * @returns {Promise<string | null>}
    */
   edit(lines, options = {}) {
@@ -190,7 +201,8 @@ export class Editor extends EventTarget {
     }, lines);
   }
 
-  async #edit(lines, { isWhole = true, pencil = null, originals = null }) {
+  async #edit(lines, { isWhole = true, pencil = null, originals = null, stroke = null, only = null }) {
+    if (only !== null && only !== this.record) return 'Changed';
     const told = await this.engine.call('edit', { lines, isWhole });
     const refused = told.answers.find(({ refusal }) => refusal)?.refusal ?? null;
     if (refused) {
@@ -205,7 +217,8 @@ export class Editor extends EventTarget {
     if (!isWhole) await this.#idle();
     this.record = await this.engine.call('record');
     if (isWhole) this.sym = parseRecord(this.record).sym;
-    this.#step();
+    if (only === null) this.#step(stroke);
+    else this.#arrive(this.#state(this.record));
     return null;
   }
 
@@ -242,13 +255,18 @@ export class Editor extends EventTarget {
     return index;
   }
 
-  #step() {
+  // the stroke of the last step
+  #stroke = null;
+
+  #step(stroke = null) {
     const now = this.#state(this.record);
     const isSameState = ['record', 'pencil', 'originals'].every((part) => String(now[part]) === String(this.#now[part] ?? ''));
     if (!isSameState) {
-      this.#past.push(this.#now);
+      const isLonger = stroke && stroke === this.#stroke;
+      if (!isLonger) this.#past.push(this.#now);
       if (this.#past.length > MOST_STEPS) this.#past.shift();
       this.#future = [];
+      this.#stroke = stroke;
     }
     this.#arrive(now);
   }
@@ -261,20 +279,33 @@ export class Editor extends EventTarget {
     this.#tell('step', before);
   }
 
-  // Leads the engine to a record, and checks that it is there.
-  async #goTo(record) {
+  // Leads the engine to a record, and checks that it is there. The cursor goes with it to another place, unless it was moved meanwhile.
+  /** @param {{ cursor: number, direction: 'across' | 'down' }} place */
+  async #goTo(record, place = this) {
+    const { cursor, direction } = this;
     const now = await this.engine.call('record');
-    await this.engine.call('edit', { lines: transition(now, record), isWhole: false });
+    await this.#lead(now, record);
     let after = await this.engine.call('record');
     if (!isSame(after, record)) {
-      await this.engine.call('edit', { lines: ['size 1 1', ...transition('size 1 1', record)], isWhole: false });
+      await this.engine.call('edit', { lines: ['size 1 1'], isWhole: false });
+      await this.#lead('size 1 1', record);
       after = await this.engine.call('record');
     }
     const told = await this.engine.call('edit', { lines: [], isWhole: true });
     this.record = after;
     this.#unmark();
     this.board.takeWhole(told);
+    if (cursor === this.cursor && direction === this.direction) ({ cursor: this.cursor, direction: this.direction } = place);
     this.#afterWhole();
+  }
+
+  // Sends what leads from one record to another.
+  async #lead(from, to) {
+    const regraded = [...parseRecord(from).regraded];
+    const grades = regraded.length ? await this.engine.call('listGrades', { words: regraded }) : [];
+    const { words, rest } = transition(from, to, (word) => grades[regraded.indexOf(word)]);
+    const lines = words.length ? ['least 0', ...words, `least ${this.list.grade}`, ...rest] : rest;
+    await this.engine.call('edit', { lines, isWhole: false });
   }
 
   // What was said of a dead end is over.
@@ -304,6 +335,7 @@ export class Editor extends EventTarget {
     return this.inOrder(async () => {
       const state = from().pop();
       if (!state) return false;
+      this.#stroke = null;
       to().push(this.#now);
       await this.#take(state);
       return true;
@@ -313,9 +345,8 @@ export class Editor extends EventTarget {
   async #take(state) {
     this.pencil = new Set(state.pencil);
     this.originals = new Map(state.originals);
-    this.cursor = state.cursor;
-    this.direction = state.direction;
-    await this.#goTo(state.record);
+    // the board that is here may not have that cell
+    await this.#goTo(state.record, state);
     this.puzzle = state.puzzle;
     this.edited = null;
     this.#arrive({ ...state, record: this.record });
@@ -353,16 +384,34 @@ export class Editor extends EventTarget {
     });
   }
 
+  // Marks words below another score.
+  markBelow(weak) {
+    this.list = { ...this.list, weak };
+    this.#tell('whole');
+  }
+
+  // Chooses the least score of the words in use, which is no step of the history.
+  useLeast(least) {
+    return this.inOrder(async () => {
+      const grade = gradeOf(least, this.list.best);
+      this.list = { ...this.list, least, grade };
+      const told = await this.engine.call('edit', { lines: [`least ${grade}`], isWhole: true });
+      this.#unmark();
+      this.board.takeWhole(told);
+      this.#afterWhole();
+    });
+  }
+
   // Takes back what lines did that are no step of the history, such as an unfinished fill.
   restore() {
     return this.inOrder(() => this.#take({ ...this.#now, cursor: this.cursor, direction: this.direction }));
   }
 
-  setPencil(pencil) {
+  setPencil(pencil, stroke = null) {
     return this.inOrder(() => {
       this.pencil = pencil;
       this.#tell('whole');
-      this.#step();
+      this.#step(stroke);
     });
   }
 
@@ -389,6 +438,14 @@ export class Editor extends EventTarget {
   get crossing() {
     const cell = this.board.cells[this.cursor];
     return cell?.[this.direction === 'across' ? 'down' : 'across'] ?? null;
+  }
+
+  // The coordinates of the letters in pencil of the lights that cross a light, or of the named ones.
+  pencilledAcross(light, names) {
+    const { board, pencil } = this;
+    const crossing = light.cells.flatMap((cell) => board.through(cell)).filter((one) => one !== light && (!names.length || names.includes(one.name)));
+    const cells = new Set(crossing.flatMap((one) => one.cells).filter((cell) => !light.cells.includes(cell)));
+    return [...cells].map((cell) => board.cells[cell]).filter((cell) => cell.letter && pencil.has(cell.coordinates)).map((cell) => cell.coordinates);
   }
 
   moveTo(index, direction = this.direction) {

@@ -1,5 +1,6 @@
 // The engine in a worker: it answers the messages of engine.js, edits in order and ahead of queries that wait.
 import { Fault, Xw, load } from '../xw.js';
+import { MOST, UNSCORED, gradeOf } from './grades.js';
 import { crossingPatterns, gridFrom } from './themes.js';
 import { joinLists } from './word-list.js';
 
@@ -19,8 +20,9 @@ function encode(text) {
 
 let module;
 let xw;
-// the score of each word, if the list has scores
+// the score of each word, if the list has scores; a word that has none has null
 let scores = new Map();
+let bestScore = 0;
 
 function ask(line) {
   const { status, answer } = xw.answer(encode(line));
@@ -52,28 +54,58 @@ function known() {
 const SLICE = 4;
 
 // What words of a light leave: each is placed, the counts are read, and the letters are put back. It ends when its time is over, with the words
-// that are counted by then.
-function probe({ light, words }) {
+// that are counted by then. `cleared` has the letters that a word needs cleared, as lists of cells by the word: the first list that leaves each
+// light a word is taken, and its number is in `taken`; it is -1 if none does.
+function probe({ light, words, cleared = {} }) {
   const end = performance.now() + SLICE;
-  const line = asked('lights').find((one) => one.startsWith(`${light} `));
+  const lines = asked('lights');
+  const here = lightNamed(lines, light);
   // an edit was ahead of this query, and the light is gone
-  if (!line) return {};
-  const [, , row, column, letters] = line.split(' ');
-  const [down, right] = light.endsWith('down') ? [1, 0] : [0, 1];
-  const cells = Array.from(letters, (letter, at) => ({ coordinates: `${Number(row) + down * at} ${Number(column) + right * at}`, letter }));
-  const answers = {};
+  if (!here) return { left: {}, taken: {} };
+  const isDead = deadWithout(here);
+  const standing = Object.keys(cleared).length ? lettersOf(lines) : new Map();
+  const entered = (coordinates) => ({ coordinates, letter: standing.get(coordinates) ?? '.' });
+  const [left, taken] = [{}, {}];
   for (const word of words) {
-    answers[word] = leftAfter(light, word, cells);
+    const gone = (cleared[word] ?? [[]]).map((cells) => cells.map(entered).filter(({ letter }) => letter !== '.'));
+    taken[word] = gone.findIndex((cells) => {
+      left[word] = leftAfter(here, word, cells, isDead);
+      return left[word] !== 0;
+    });
     if (performance.now() > end) break;
   }
-  return answers;
+  return { left, taken };
 }
 
-function leftAfter(light, word, cells) {
-  if (ask(`place ${light} ${word}`).refusal) return 0;
-  const open = asked('lights').map((line) => /\.[A-Z.]*$/.test(line));
-  const left = counts().filter((_, at) => open[at]);
+// The letters of all lights, by coordinates.
+function lettersOf(lines) {
+  const names = lines.map((line) => line.split(' ').slice(0, 2).join(' '));
+  return new Map(names.flatMap((name) => lightNamed(lines, name).cells.map(({ coordinates, letter }) => /** @type {[string, string]} */ ([coordinates, letter]))));
+}
+
+// Whether each light has no word whatever stands in the given one, as where the dead end is in another part of the grid.
+function deadWithout({ letters, cells }) {
+  const deadNow = () => [...counts()].map((count) => count === 0);
+  const isDead = deadNow();
+  if (letters.includes('.') || !isDead.includes(true)) return isDead;
+  for (const { coordinates } of cells) ask(`clear ${coordinates}`);
+  const isDeadStill = deadNow();
+  putBack(cells);
+  return isDeadStill;
+}
+
+function putBack(cells) {
   for (const { coordinates, letter } of cells) ask(letter === '.' ? `clear ${coordinates}` : `set ${coordinates} ${letter}`);
+}
+
+// The fewest words that a light has after a word is placed in one and letters elsewhere are cleared, or that this fills the grid.
+function leftAfter({ name, cells }, word, cleared, isDead) {
+  for (const { coordinates } of cleared) ask(`clear ${coordinates}`);
+  const isRefused = ask(`place ${name} ${word}`).refusal !== null;
+  const open = isRefused ? [] : asked('lights').map((line) => /\.[A-Z.]*$/.test(line));
+  const left = counts().filter((_, at) => open[at] && !isDead[at]);
+  putBack([...cells, ...cleared]);
+  if (isRefused) return 0;
   return left.length ? Math.min(...left) : 'done';
 }
 
@@ -117,7 +149,7 @@ function alternatives({ light, pencil }) {
   const wide = open.length ? wordsNow().filter((word) => !known.has(word)).slice(0, MOST_JUDGED) : [];
   for (const { coordinates, letter } of [...open, ...here.cells]) if (letter !== '.') ask(`set ${coordinates} ${letter}`);
   const needs = (word) => allowed.filter(({ at, letters }) => letters && !letters.has(word[at])).map(({ name }) => name);
-  // those first that change the fewest words; no name means letters farther off
+  // those first that change the fewest words; no name means all that cross
   const changes = (other) => other.needs.length || Infinity;
   const others = wide.map((word) => ({ word, needs: needs(word) })).sort((a, b) => (changes(a) === changes(b) ? 0 : changes(a) - changes(b))).slice(0, MOST_OTHERS);
   const told = [...fit, ...others.map(({ word }) => word)];
@@ -134,6 +166,34 @@ function fillsWithout({ cells, most }) {
   for (const line of is) if (!was.has(line)) ask(`clear ${line.split(' ').slice(1, 3).join(' ')}`);
   for (const coordinates of before.filter((line) => !is.includes(line))) ask(coordinates);
   return answer === 'filled';
+}
+
+// The light that runs out of words first, if words are entered as `suggest` has them, so many at most; with their number. Or null. It is for a worker
+// that helps, since the words stay.
+function firstDead({ most }) {
+  for (let entered = 0; entered <= most; entered++) {
+    const [what, number, direction, word] = (asked('suggest')[0] ?? '').split(' ');
+    const light = `${number} ${direction}`;
+    if (what === 'dead' || what === 'noword') return { light, entered };
+    if (what !== 'try') return null;
+    if (!enterNew(light, word)) return { light, entered };
+  }
+  return null;
+}
+
+// Enters a word that does not stand in the grid yet and leaves each light a word: the given one, or else another one. Returns whether there is one.
+function enterNew(light, word) {
+  const letters = asked('lights').map((line) => line.slice(line.lastIndexOf(' ') + 1));
+  const isNew = (other) => !letters.includes(other);
+  const others = () => asked(`words ${light}`).slice(1).filter(isNew).slice(0, MOST_TRIED);
+  for (const one of isNew(word) ? [word] : others()) {
+    const line = asked('lights').find((other) => other.startsWith(`${light} `));
+    ask(`place ${light} ${one}`);
+    if (Math.min(...counts()) > 0) return true;
+    const { cells } = lightNamed([line], light);
+    for (const { coordinates, letter } of cells) ask(letter === '.' ? `clear ${coordinates}` : `set ${coordinates} ${letter}`);
+  }
+  return false;
 }
 
 // A session without words, in which grids are tried.
@@ -165,17 +225,23 @@ function grids({ wanted, seed, tries }) {
   return { fit, spare: made.find((grid) => !fit.includes(grid)) ?? null };
 }
 
-// What the words say of a grid, in a worker that helps: the patterns of its lights that no word matches, the fewest words of a light, and whether
-// searches of so many placements fill it.
+// What the words say of a grid, in a worker that helps: the patterns of its lights that no word matches, with the cells of these, the fewest words
+// of a light, and whether searches of so many placements fill it.
 function judge({ lines, most }) {
   for (const line of lines) ask(line);
   const numbers = [...counts()];
-  const fewest = asked('lights').reduce((least, line, at) => (line.slice(line.lastIndexOf(' ')).includes('.') ? Math.min(least, numbers[at]) : least), Infinity);
-  const unmatched = asked('unmatched').map((line) => line.slice(line.lastIndexOf(' ') + 1));
+  const lights = asked('lights');
+  const fewest = lights.reduce((least, line, at) => (line.slice(line.lastIndexOf(' ')).includes('.') ? Math.min(least, numbers[at]) : least), Infinity);
+  const told = asked('unmatched').map((line) => line.split(' '));
+  const unmatched = told.map(([, , pattern]) => pattern);
+  const dead = told.flatMap(([number, direction]) => lightNamed(lights, `${number} ${direction}`).cells.map(({ coordinates }) => coordinates));
   let fill = fewest ? 'limit' : 'nofill';
   for (let seed = 1; seed <= JUDGED_SEEDS && fill === 'limit'; seed++) [fill] = asked(`autofill ${most} ${seed}`);
-  return { unmatched, fewest, fill };
+  return { unmatched, dead, fewest, fill };
 }
+
+// The most words that are tried in place of one that stands already.
+const MOST_TRIED = 20;
 
 // From how many seeds a search tells whether a grid fills.
 const JUDGED_SEEDS = 2;
@@ -184,11 +250,62 @@ const JUDGED_SEEDS = 2;
 const MOST_JUDGED = 2000;
 const MOST_OTHERS = 100;
 
-// The word list for the engine, with a grade from 0 to 100 for each word that has a score.
+// The word list for the engine, with a grade for each word that has a score.
 function graded(words, scoresRead, best) {
   if (!scoresRead.size) return words.join('\n');
-  const share = best > 100 ? 100 / best : 1;
-  return words.map((word) => `${word};${Math.round(share * scoresRead.get(word))}`).join('\n');
+  const line = (word, score) => (score === null ? word : `${word};${gradeOf(score, best)}`);
+  return words.map((word) => line(word, scoresRead.get(word) ?? null)).join('\n');
+}
+
+// The grade that the engine has for a word of a list by its score, or by none.
+const gradeInList = (score, best) => (score === null ? UNSCORED : gradeOf(score, best));
+
+// How many words have each grade.
+function countByGrade(words, scoresRead, best) {
+  const byGrade = new Uint32Array(MOST + 1);
+  for (const word of words) byGrade[gradeInList(scoresRead.get(word) ?? null, best)]++;
+  return byGrade;
+}
+
+// The least grade that a least score asks for. Some words are left, those of the best grade at least.
+function leastGrade(least, best, byGrade) {
+  const top = byGrade.findLastIndex((count) => count > 0);
+  return Math.max(0, Math.min(gradeOf(least, best), top));
+}
+
+// The record without the least grade, which belongs to the word lists and not to a puzzle.
+const withoutLeast = (record) => latin.decode(record).replace(/^least \d+\n/m, '');
+
+// The letters of the grid, as lines; the given cells are empty after it.
+function takenLetters(cells) {
+  const letters = latin.decode(xw.record()).split('\n').filter((one) => one.startsWith('set '));
+  for (const coordinates of cells) ask(`clear ${coordinates}`);
+  return letters;
+}
+
+// A slice of a search that raises the worst word, in a worker that helps: a fill of words that have this grade at least, and what is proved. With
+// a fill it has its letters; the grid is then without those of the given cells again. A quick slice takes any fill. A `least` of null is that of the
+// slice before.
+function best({ least, isQuick, limits, cells }) {
+  if (least !== null) ask(`least ${least}`);
+  if (isQuick) return anyFill(limits, cells);
+  const { lines, refusal } = ask(`best ${limits}`);
+  const [answer, ...told] = refusal ? [refusal] : lines;
+  const figures = Object.fromEntries(told.map((one) => one.split(' ')).map(([name, grade]) => [name, Number(grade)]));
+  if (answer !== 'filled') return { answer, bound: figures.bound ?? null };
+  return { answer, grade: figures.least, bound: figures.bound, letters: takenLetters(cells) };
+}
+
+// Any fill of active words, with the grade of the worst new one.
+function anyFill(limits, cells) {
+  const isWhole = (line) => !line.slice(line.lastIndexOf(' ')).includes('.');
+  const nameOf = (line) => line.split(' ').slice(0, 2).join(' ');
+  const whole = new Set(asked('lights').filter(isWhole).map(nameOf));
+  const { lines, refusal } = ask(`autofill ${limits}`);
+  const answer = refusal ?? lines[0];
+  if (answer !== 'filled') return { answer, bound: null };
+  const grades = asked('grades').filter((line) => !whole.has(nameOf(line))).map((line) => Number(line.split(' ')[2]));
+  return { answer, grade: Math.min(MOST, ...grades), bound: null, letters: takenLetters(cells) };
 }
 
 const calls = {
@@ -198,20 +315,24 @@ const calls = {
 
   // Opens a session over word lists, and replays a record. If it cannot, the session before stays.
   open({ sources, personal, least, record }) {
-    const { words, scores: scoresRead, ...told } = joinLists(sources, personal, least);
+    const { words, scores: scoresRead, ...told } = joinLists(sources, personal);
     if (sources.length && !words.length) throw Object.assign(new Error('no word'), { status: 'NoWord', answer: '' });
     const other = Xw.open(module, { list: graded(words, scoresRead, told.best), record: encode(record) });
     xw?.close();
     xw = other;
     scores = scoresRead;
+    bestScore = told.best;
+    const byGrade = countByGrade(words, scoresRead, told.best);
+    const grade = told.scored ? leastGrade(least, told.best, byGrade) : 0;
+    if (grade) ask(`least ${grade}`);
     ask('watch on');
-    return { reports: other.reports, commands: known(), words: words.length, ...told, record: latin.decode(xw.record()), ...whole() };
+    return { reports: other.reports, commands: known(), words: words.length, byGrade, grade, ...told, record: withoutLeast(xw.record()), ...whole() };
   },
 
   // The record of a puzzle file, or of a record itself. The session is not touched.
   read({ puzzle, record }) {
     const other = puzzle ? Xw.open(module, { puzzle }) : Xw.open(module, { record: encode(record) });
-    const text = latin.decode(other.record());
+    const text = withoutLeast(other.record());
     other.close();
     return text;
   },
@@ -239,16 +360,23 @@ const calls = {
     return words.map((word) => scores.get(word) ?? null);
   },
 
+  // The grades that words of the list have in it.
+  listGrades({ words }) {
+    return words.map((word) => gradeInList(scores.get(word) ?? null, bestScore));
+  },
+
   probe,
   alternatives,
   fillsWithout,
+  firstDead,
   orbit,
   search,
+  best,
   grids,
   judge,
 
   record() {
-    return latin.decode(xw.record());
+    return withoutLeast(xw.record());
   },
 
   file({ form }) {

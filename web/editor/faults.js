@@ -1,11 +1,31 @@
-// Entered words that are not in the list, or that stand twice: marked in the grid, and named for the light under the cursor.
+// Entered words that are not in use, or that stand twice: marked in the grid, and named for the light under the cursor.
+import { gradeOf } from './grades.js';
 import { whenIdle } from './idle.js';
+import { parseRecord } from './record.js';
+import { readPersonal } from './word-list.js';
+
+// Why words that stand in the grid are not in use, each in a few words: they are hidden, have a score below the least one, or are in no list.
+export async function whyUnlisted(editor, words) {
+  const { list, record, engine } = editor;
+  const { added, struck, regraded } = parseRecord(record);
+  // a word that was added and is struck again is in no list
+  const isHidden = (word) => struck.includes(word) && (regraded.has(word) || !added.includes(word));
+  const { hidden } = readPersonal(list.personal);
+  const scores = list.grade && words.length ? await engine.call('grades', { words }) : [];
+  return words.map((word, at) => {
+    if (isHidden(word)) return `${word} is hidden in this puzzle`;
+    const score = scores[at] ?? null;
+    if (score !== null && gradeOf(score, list.best) < list.grade) return `${word} (${score}) is below your least score, ${list.least}`;
+    return hidden.has(word) ? `${word} is hidden by your words` : `${word} is not in your lists`;
+  });
+}
 
 export class Faults extends EventTarget {
   #editor;
   #grid;
   #turn = 0;
-  // the words that are not in the list, and for those that stand twice the other light, by the name of the light
+  // the words that are not in use, each with why, and for those that stand twice the other light, by the name of the light
+  /** @type {Map<string, { word: string, why: string }>} */
   unlisted = new Map();
   repeated = new Map();
 
@@ -25,8 +45,10 @@ export class Faults extends EventTarget {
     const { board } = this.#editor;
     const isAny = board.lights.some((light) => board.isEntered(light));
     const [unlisted, dups] = isAny ? await this.#editor.ask('unlisted', 'dups') : [[], []];
+    const found = (unlisted ?? []).map((line) => line.split(' '));
+    const whys = await whyUnlisted(this.#editor, found.map(([, , word]) => word));
     if (turn !== this.#turn) return;
-    this.unlisted = new Map((unlisted ?? []).map((line) => line.split(' ')).map(([number, direction, word]) => [`${number} ${direction}`, word]));
+    this.unlisted = new Map(found.map(([number, direction, word], at) => [`${number} ${direction}`, { word, why: whys[at] }]));
     this.repeated = new Map((dups ?? []).map((line) => line.split(' ')).map(([number, direction, ...first]) => [`${number} ${direction}`, first.slice(0, 2).join(' ')]));
     this.#grid.showFaults([...this.unlisted.keys(), ...this.repeated.keys()]);
     this.dispatchEvent(new Event('told'));
@@ -34,8 +56,8 @@ export class Faults extends EventTarget {
 
   // What is left to do in an entered grid, as { light, text }, or null.
   get first() {
-    const [[light, word] = []] = this.unlisted;
-    if (light) return { light, text: `${word} is not in your lists` };
+    const [[light, unlisted] = []] = this.unlisted;
+    if (light) return { light, text: unlisted.why };
     const [[again] = []] = this.repeated;
     return again ? { light: again, text: `${this.#editor.board.spell(this.#editor.board.byName.get(again))} stands twice` } : null;
   }

@@ -1,10 +1,11 @@
 // Files: what is opened, dropped and saved.
 import { csvOf, htmlOf } from './clue-sheet.js';
+import { enumerated } from './enumeration.js';
 import { ipuzOf, recordOfIpuz } from './ipuz.js';
 import { SESSION_HEAD, hasCommands, kindOf } from './kinds.js';
-import { refusalText, refuse, say } from './messages.js';
-import { enumerated } from './print.js';
-import { strangeCharacter } from './record.js';
+import { refusalText, refuseAsIs as refuse, sayAsIs as say } from './messages.js';
+import { bodyOf, strangeCharacter } from './record.js';
+import { termed } from './terms.js';
 
 const latin = new TextDecoder('windows-1252');
 const PENCIL = '# pencil ';
@@ -35,6 +36,8 @@ export class Files {
           break;
         case 'ipuz':
           return await this.#openIpuz(file.name, new TextDecoder().decode(bytes));
+        case 'puzzles':
+          return await this.#openPuzzles(file.name, new TextDecoder().decode(bytes));
         case 'session':
           if (!(await this.#openSession(file.name, latin.decode(bytes)))) return false;
           break;
@@ -57,9 +60,21 @@ export class Files {
   }
 
   async #openIpuz(name, text) {
-    const { record, originals } = recordOfIpuz(text.replace(/^\ufeff/, ''));
+    const { record, originals, lost } = recordOfIpuz(text.replace(/^\ufeff/, ''));
     await this.#editor.replace({ record: await this.#editor.engine.call('read', { record }), originals });
-    return this.#opened(name);
+    return this.#opened(name, lost ? `; ${lost} ${lost === 1 ? 'clue has' : 'clues have'} no place in its grid` : '');
+  }
+
+  // Adds the puzzles of a file to those that the browser keeps.
+  async #openPuzzles(name, text) {
+    try {
+      const { added, others } = await this.actions.addPuzzles(text);
+      const versions = others ? `; of ${others} that are here already, versions` : '';
+      say(`${name}: ${added} ${added === 1 ? 'puzzle is' : 'puzzles are'} added to File ▸ Puzzles${versions}`, 'good');
+      return true;
+    } catch {
+      return this.#refuse(`${name} has puzzles that cannot be read or kept: nothing is added`);
+    }
   }
 
   #refuse(text) {
@@ -88,7 +103,7 @@ export class Files {
     const lines = text.split('\n').map((line) => line.replace(/\r$/, ''));
     const words = lines.filter((line) => /^\s*(add|strike)\s/.test(line));
     const read = await this.#editor.engine.call('read', { record: text });
-    const body = read.split('\n').filter((line) => !/^(add|strike) /.test(line));
+    const body = bodyOf(read);
     const pencil = lines.find((line) => line.startsWith(PENCIL))?.slice(PENCIL.length).split(', ').filter(Boolean) ?? [];
     const originals = parsedPairs(lines.find((line) => line.startsWith(ORIGINALS))?.slice(ORIGINALS.length));
     await this.#editor.replace({ record: [...words, ...body].join('\n'), pencil, originals });
@@ -158,9 +173,9 @@ export class Files {
     const lacking = order.find((light) => !board.texts.has(`clue ${light.name}`));
     if (status === 'Field' && lacking) {
       this.actions.toClue(lacking);
-      return refuse(`not saved: a text file needs a clue for each light, and ${lacking.name} has none`);
+      return refuse(termed(`not saved: a text file needs a clue for each light, and ${lacking.name} has none`));
     }
-    refuse(`not saved: ${refusalText(status)}`);
+    refuse(termed(`not saved: ${refusalText(status)}`));
   }
 
   saveSession(why = '') {

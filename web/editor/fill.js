@@ -1,6 +1,7 @@
 // Fills: `autofill` in slices, so that one can be stopped. Each slice goes on where the last one ended. A search that is not done soon goes on in
-// other workers too, each with a seed of its own; the first `filled` or `nofill` ends all.
+// other workers too, each with a seed of its own; the first `filled` or `nofill` ends all. If the words have scores, the fill is raised then.
 import { refuse, say } from './messages.js';
+import { Raiser } from './raising.js';
 import { titleOf } from './words.js';
 
 // The placements of a slice, for the first slices and for later ones, and the slices after which a search gives up.
@@ -13,6 +14,15 @@ const SEEDS = 1000003;
 // the most entries that are tried where there is no fill
 const MOST_ENTRIES_TRIED = 12;
 
+// how many fills there are to choose from after another one, and the placements, the most slices and the seeds of those that are offered
+const ENOUGH = 3;
+const OFFERED = 5000;
+const MOST_OFFERED_SLICES = 6;
+const OTHER_SEEDS = 7000003;
+// the most words that are entered to see which light dies first
+const MOST_ENTERED = 60;
+const NEXT = 'another fill changes the letters in pencil (coloured), and keeps the others';
+
 const DECIDED = new Set(['filled', 'nofill']);
 
 /** @typedef {{ answer: string, letters?: string[] }} Slice */
@@ -20,22 +30,32 @@ const DECIDED = new Set(['filled', 'nofill']);
 export class Filler {
   #editor;
   #helpers;
+  #raiser;
   #seed = 0;
   #isStopped = false;
+  // whether a search has the worker of the session, so that nothing can be edited
   isRunning = false;
 
-  // `show` shows how far a fill is, `explain` where a dead end comes from, and `found` is told when there is a fill.
-  constructor(editor, helpers, { show, explain, found }) {
+  // `fills` keeps what is found. `show` shows how far a fill is, `explain` where a dead end comes from; `proved` takes over what a raising proved,
+  // and returns what is said of the fill.
+  constructor(editor, helpers, fills, { show, explain, proved }) {
     this.#editor = editor;
     this.#helpers = helpers;
+    this.#raiser = new Raiser(editor, helpers, () => fills.add(true));
+    this.fills = fills;
     this.show = show;
     this.explain = explain;
-    this.found = found;
+    this.proved = proved;
+  }
+
+  get isRaising() {
+    return this.#raiser.isRunning;
   }
 
   stop() {
     if (this.isRunning) say('stopping …', 'busy');
     this.#isStopped = true;
+    this.#raiser.stop();
   }
 
   // The cells that a fill may enter: those of the chosen lights, or all.
@@ -46,52 +66,118 @@ export class Filler {
     return [...indices].map((index) => board.cells[index]);
   }
 
-  // Fills what is empty; `isAnother` first empties what is in pencil, and takes the next seed.
+  // Fills what is empty, and raises the fill; `isAnother` first empties what is in pencil, and takes the next seed. If nothing is empty, the letters
+  // in pencil are raised again.
   async run(isAnother) {
     if (this.isRunning) return;
+    this.#raiser.stop();
+    this.#isStopped = false;
     const cells = this.#cells();
-    const emptied = isAnother ? cells.filter((cell) => cell.letter && this.#editor.pencil.has(cell.coordinates)) : [];
-    if (!emptied.length && cells.every((cell) => cell.letter)) {
-      const isLocked = 'every letter here is locked: choose other lights, or put letters in pencil (=)';
-      return refuse(isAnother ? isLocked : 'every cell is filled already: ask for another fill');
+    const inPencil = cells.filter((cell) => cell.letter && this.#editor.pencil.has(cell.coordinates));
+    const emptied = isAnother ? inPencil : [];
+    const isFull = cells.every((cell) => cell.letter);
+    if (isFull && !inPencil.length) return refuse('every letter here is locked: choose other lights, or put letters in pencil (=)');
+    if (isFull && !isAnother) {
+      if (!this.#editor.list.scored) return refuse('every cell is filled already: ask for another fill');
+      await this.#raise(inPencil);
+      return this.#rest();
     }
     this.isRunning = true;
-    this.#isStopped = false;
     if (isAnother) this.#seed++;
+    let filled = null;
     try {
-      await this.#search(cells, emptied);
+      filled = await this.#search(cells, emptied);
     } catch (fault) {
       if (!fault.status) throw fault;
       refuse('the fill failed; the grid is kept');
     } finally {
       this.isRunning = false;
-      this.#helpers.rest();
       this.show(null);
     }
+    if (filled) await this.#raise(filled);
+    if (filled && isAnother) await this.#offer(filled);
+    this.#rest();
   }
 
+  // Lets the other workers rest, unless a later search has them.
+  #rest() {
+    if (!this.isRunning && !this.isRaising) this.#helpers.rest();
+  }
+
+  get #names() {
+    return [...this.#editor.chosen].map((name) => ` ${name}`).join('');
+  }
+
+  // Fills cells, and returns those that are filled; or says why not, and returns null.
   async #search(cells, emptied) {
     const editor = this.#editor;
     const pencil = new Set(editor.pencil);
-    const names = [...editor.chosen].map((name) => ` ${name}`).join('');
-    const record = [editor.state.record, ...emptied.map((cell) => `clear ${cell.coordinates}\n`)].join('');
-    const before = new Set(cells.filter((cell) => cell.letter && !emptied.includes(cell)).map((cell) => cell.coordinates));
+    const record = without(editor.state.record, emptied);
+    const filled = cells.filter((cell) => !cell.letter || emptied.includes(cell));
     if (emptied.length) await this.#send(emptied.map((cell) => `clear ${cell.coordinates}`));
-    const { answer, placements, letters } = await this.#race(names, record);
+    const { answer, placements, letters } = await this.#race(this.#names, record);
     if (answer !== 'filled') {
       await editor.restore();
-      if (answer === 'nofill') {
-        refuse(names ? 'there is no fill of these lights' : 'there is no fill: no words of the list fit what is entered');
-        await this.#explain(Boolean(names));
-      }
-      else if (answer === 'stopped') say('stopped; the grid is as it was');
-      else refuse(`no fill was found in ${placements.toLocaleString('en')} placements: try again, add blocks, or take a letter back`);
-      return;
+      await this.#tellNone(answer, placements);
+      return null;
     }
-    for (const cell of cells) if (!before.has(cell.coordinates)) pencil.add(cell.coordinates);
+    for (const cell of filled) pencil.add(cell.coordinates);
     await editor.edit(letters, { pencil });
-    this.found();
-    say('filled; another fill changes the letters in pencil (coloured), and keeps the others', 'good');
+    this.fills.add();
+    if (!editor.list.scored) say(`filled; ${NEXT}`, 'good');
+    return filled;
+  }
+
+  // Says why there is no fill.
+  async #tellNone(answer, placements) {
+    const isPart = this.#editor.chosen.size > 0;
+    if (answer === 'stopped') return say('stopped; the grid is as it was');
+    if (answer === 'nofill') refuse(isPart ? 'there is no fill of these lights' : 'there is no fill: no words of the list fit what is entered');
+    else refuse(`no fill was found in ${placements.toLocaleString('en')} placements: try again, add blocks, or take a letter back`);
+    return this.#explain(answer, isPart);
+  }
+
+  // Raises the letters of cells, if the words have scores.
+  async #raise(filled) {
+    const editor = this.#editor;
+    const { list, board, record } = editor;
+    if (!list.scored) return;
+    const cells = filled.map((cell) => cell.coordinates);
+    const indices = new Set(cells.map((coordinates) => board.cells.indexOf(editor.cellAt(coordinates))));
+    const lights = board.lights.filter((light) => board.isEntered(light) && light.cells.some((cell) => indices.has(cell)));
+    const [lines] = lights.length ? await editor.ask(`grades ${lights.map(({ name }) => name).join(' ')}`) : [[]];
+    const grades = (lines ?? []).map((line) => Number(line.split(' ')[2]));
+    if (!grades.length || grades.some(Number.isNaN)) return say(`filled; ${NEXT}`, 'good');
+    const names = [...editor.chosen];
+    const raising = this.#raiser.run({ base: without(record, filled), names: this.#names, cells, seed: this.#seed, grade: Math.min(...grades) });
+    if (this.#raiser.isRunning) {
+      say('filled; its worst word is raised … Esc ends this', 'busy');
+      this.show({ isRaising: true });
+    }
+    const { bound, isStopped, isChanged } = await raising;
+    if (this.isRunning || this.isRaising) return;
+    this.show(null);
+    if (isChanged) return;
+    const text = await this.proved({ bound, names });
+    say(`${isStopped ? 'stopped' : 'filled'}: ${text}`, 'good');
+  }
+
+  // Finds further fills of the same cells beside the one in the grid, as long as that stays, until there are some to choose from.
+  async #offer(filled) {
+    const editor = this.#editor;
+    const { record } = editor;
+    const isDue = () => !this.#isStopped && !this.isRunning && !this.isRaising && editor.record === record;
+    const [command, names] = [editor.list.scored ? 'best' : 'autofill', this.#names];
+    try {
+      for (let slice = 1; slice <= MOST_OFFERED_SLICES && isDue() && this.fills.count < ENOUGH; slice++) {
+        const [begun] = this.#helpers.begin(without(record, filled), 1);
+        const { letters } = await (await begun).call('search', { line: `${command} ${OFFERED} ${this.#seed + OTHER_SEEDS * slice}${names}` });
+        if (letters.length && isDue()) this.fills.offer(letters);
+      }
+    } catch (fault) {
+      // there are fewer to choose from
+      if (!fault.status) throw fault;
+    }
   }
 
   // Sends lines that are no step of the history.
@@ -150,27 +236,49 @@ export class Filler {
     return 'limit';
   }
 
-  // Shows the place of a dead end: where it is already, or an entry without which there is a fill.
-  async #explain(isPart) {
+  // Shows the place of a dead end: where it is already; an entry without which there is a fill; or the light that dies first in the search.
+  async #explain(answer, isPart) {
     const { board } = this.#editor;
-    if (board.lights.some((light) => light.count === 0 && !board.isEntered(light))) this.explain();
-    else if (!isPart) await this.#takeBack();
+    if (board.lights.some((light) => light.count === 0 && !board.isEntered(light))) return this.explain();
+    if (answer === 'nofill' && !isPart && (await this.#takeBack())) return undefined;
+    return isPart ? undefined : this.#showFirstDead(answer);
   }
 
-  // Looks for an entry in ink without which a short search finds a fill. Letters that it shares with other entries stay.
+  // Goes to the light that dies first if the tightest lights are entered one by one.
+  async #showFirstDead(answer) {
+    const editor = this.#editor;
+    if (this.#isStopped) return;
+    const [begun] = this.#helpers.begin(editor.record, 1);
+    const dead = await (await begun).call('firstDead', { most: MOST_ENTERED });
+    const light = dead && editor.board.byName.get(dead.light);
+    if (!light) return;
+    const empty = light.cells.find((cell) => !editor.board.cells[cell].letter);
+    editor.moveTo(empty ?? light.cells[0], light.direction);
+    const what = answer === 'nofill' ? 'there is no fill' : 'no fill was found';
+    const after = dead.entered === 0 ? '' : dead.entered === 1 ? ' after one word' : ` after ${dead.entered} words`;
+    const hint = editor.pencil.size ? 'Another (Ctrl G) changes the letters in pencil too' : 'Change what crosses it, or the blocks beside it';
+    refuse(`${what}: ${titleOf(light)} is the first light that runs out of words${after}. ${hint}`);
+  }
+
+  // Looks for an entry in ink without which a short search finds a fill, and says so if there is one. Letters that it shares with other entries
+  // stay.
   async #takeBack() {
     const editor = this.#editor;
     const { board, pencil } = editor;
     const isInk = (cell) => board.cells[cell].letter && !pencil.has(board.cells[cell].coordinates);
     const entries = board.lights.filter((light) => light.cells.every(isInk)).slice(0, MOST_ENTRIES_TRIED);
     for (const light of entries) {
-      if (this.#isStopped) return;
+      if (this.#isStopped) return true;
       const own = light.cells.filter((cell) => !board.through(cell).some((other) => other !== light && entries.includes(other)));
       const cells = own.map((cell) => board.cells[cell].coordinates);
       if (!cells.length || !(await editor.engine.call('fillsWithout', { cells, most: SLICES[1][1] }))) continue;
       editor.moveTo(light.cells[0], light.direction);
       refuse(`there is no fill with ${board.spell(light)}, ${titleOf(light)}; without it there is one (Shift Del takes it back)`);
-      return;
+      return true;
     }
+    return false;
   }
 }
+
+// A record without the letters of cells.
+const without = (record, cells) => [record, ...cells.map((cell) => `clear ${cell.coordinates}\n`)].join('');

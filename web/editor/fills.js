@@ -1,4 +1,5 @@
 // The fills that were found, side by side as small grids, to look at and choose from.
+import { figuresOf, figuresText } from './grades.js';
 import { whenIdle } from './idle.js';
 import { sketchOf } from './library.js';
 import { say } from './messages.js';
@@ -23,11 +24,25 @@ export class Fills {
     for (const name of ['step', 'whole']) editor.addEventListener(name, () => this.#soon());
   }
 
-  // Keeps the fill that is in the grid.
-  add() {
+  // Keeps the fill that is in the grid; if it is a better one of the fill before, in its place.
+  add(isBetter = false) {
     const letters = this.#letters();
     this.#drop();
+    if (isBetter) this.#kept.shift();
     this.#kept = [letters, ...this.#kept.filter((fill) => !isSame(fill, letters))].slice(0, MOST_KEPT);
+    this.#soon();
+  }
+
+  get count() {
+    this.#drop();
+    return this.#kept.length;
+  }
+
+  // Keeps a fill that is not in the grid, given by lines that set its letters, behind the others.
+  offer(lines) {
+    const letters = new Map(lines.map((line) => [line.slice('set '.length, -2), line.slice(-1)]));
+    this.#drop();
+    if (this.#kept.length < MOST_KEPT && !this.#kept.some((fill) => isSame(fill, letters))) this.#kept.push(letters);
     this.#soon();
   }
 
@@ -62,7 +77,7 @@ export class Fills {
     list.replaceChildren(...(isChoice ? this.#kept.map((fill, at) => this.#card(fill, figures[at])) : []));
   }
 
-  // What is said of a fill: that it is in the grid, or how many of its words are others; and if the list has scores, the worst and the mean.
+  // What is said of a fill: that it is in the grid, or how many of its words are others; and if the list has scores, how good its words are.
   async #figures(fill) {
     const { board, list, engine } = this.#editor;
     const spelled = (light, letters) => light.cells.map((cell) => letters.get(board.cells[cell].coordinates) ?? '.').join('');
@@ -70,9 +85,8 @@ export class Fills {
     const others = board.lights.filter((light) => spelled(light, fill) !== spelled(light, now)).length;
     const told = others ? `${others} other ${others === 1 ? 'word' : 'words'}` : 'in the grid';
     if (!list.scored) return told;
-    const grades = (await engine.call('grades', { words: board.lights.map((light) => spelled(light, fill)) })).filter((grade) => grade !== null);
-    const mean = Math.round(grades.reduce((sum, grade) => sum + grade, 0) / grades.length);
-    return grades.length ? `${told}; worst ${Math.min(...grades)}, mean ${mean}` : told;
+    const figures = figuresOf(await engine.call('grades', { words: board.lights.map((light) => spelled(light, fill)) }), list.weak);
+    return figures ? `${told}; ${figuresText(figures)}` : told;
   }
 
   #card(fill, figures) {

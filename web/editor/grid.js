@@ -6,8 +6,11 @@ import { TypingField } from './typing.js';
 // longer, the letter is shown alone.
 const WAIT = 4;
 
-// The least size of a cell; a larger grid pans.
+// The least size of a cell; a larger grid pans. Less room than NARROW has smaller margins.
 const LEAST_CELL = 22;
+const NARROW = 640;
+// Below this size of a cell its letter stands at the foot, and leaves no room for a line below it.
+const SMALL = 30;
 
 const ARROWS = { ArrowLeft: ['across', -1], ArrowRight: ['across', 1], ArrowUp: ['down', -1], ArrowDown: ['down', 1] };
 
@@ -20,7 +23,7 @@ export class GridView {
   // what lies over the light of the cursor, over the one that crosses it, and around the light of a reason
   #bands = ['light-band', 'crossing-band', 'reason-band'].map((name) => Object.assign(document.createElement('div'), { className: name }));
   #typing = new TypingField((key) => this.#actionOf({ key, shiftKey: false })?.());
-  // whether lights without a word wait for blocks, since there are none yet
+  // whether lights without a word wait for blocks, since there are none yet or few
   #isOpenGrid = false;
   // cells whose letters are entered but not shown yet, by index
   #undrawn = new Set();
@@ -66,16 +69,18 @@ export class GridView {
     const { board } = this.#editor;
     if (!board.width) return;
     const { clientWidth, clientHeight } = this.#root.parentElement;
-    const size = Math.floor(Math.min((clientWidth - 16) / board.width, (clientHeight - 16) / board.height, 64));
+    const margin = clientWidth < NARROW ? 8 : 16;
+    const size = Math.floor(Math.min((clientWidth - margin) / board.width, (clientHeight - margin) / board.height, 64));
     this.#root.style.setProperty('--cell', `${Math.max(size, LEAST_CELL)}px`);
     this.#root.classList.toggle('pans', size < LEAST_CELL);
+    this.#root.classList.toggle('small', size < SMALL);
     this.#show();
   }
 
   draw() {
     const { board, chosen } = this.#editor;
     this.#undrawn.clear();
-    this.#isOpenGrid = board.isOpenGrid;
+    this.#isOpenGrid = board.isOpenGrid || (this.#editor.waits && board.isSparse);
     if (!chosen.size) this.#anchor = this.#far = null;
     if (this.#cells.length !== board.cells.length || this.width !== board.width) this.#make(board);
     for (let index = 0; index < this.#cells.length; index++) this.paint(index);
@@ -121,7 +126,7 @@ export class GridView {
 
   // Shows a cell as the board has it.
   paint(index) {
-    const { board, pencil, reason, unmatched, faulty } = this.#editor;
+    const { board, pencil, reason, unmatched, faulty, weak } = this.#editor;
     const cell = board.cells[index];
     const classes = ['cell'];
     if (cell.block) classes.push('block');
@@ -130,8 +135,9 @@ export class GridView {
     if (cell.circle && !cell.block) classes.push('circled');
     if (cell.letter && pencil.has(cell.coordinates)) classes.push('pencil');
     if (reason.has(index)) classes.push('reason');
-    if (unmatched.has(index) && !this.#isOpenGrid) classes.push('unmatched');
+    if (unmatched.has(index)) classes.push('unmatched');
     if (faulty.has(index) && cell.letter) classes.push('faulty');
+    if (cell.letter) for (const direction of ['across', 'down']) if (weak[direction].has(index)) classes.push(`weak-${direction}`);
     const isOpen = !cell.block && !cell.letter;
     if (isOpen && !cell.left && !this.isBlank) classes.push(this.#isOpenGrid ? 'waiting' : 'dead');
     if (isOpen && cell.left.length === 1) classes.push('only');
@@ -221,10 +227,15 @@ export class GridView {
   }
 
   // Shows what an edit of letters changed.
+  #wasBlank = true;
+
   #letters({ cells, engine }) {
     this.#drawLate();
-    if (this.isExplained) this.draw();
+    // cells without a letter left look other once there is an entry
+    const isBlank = this.isBlank;
+    if (this.isExplained || isBlank !== this.#wasBlank) this.draw();
     this.isExplained = false;
+    this.#wasBlank = isBlank;
     for (const index of cells) this.paint(index);
     mark('letter answered', { detail: { engine } });
   }
@@ -270,6 +281,17 @@ export class GridView {
     for (const index of new Set([...faulty, ...cells])) if (faulty.has(index) !== cells.has(index) && this.#cells[index]) this.paint(index);
   }
 
+  // Marks the words of lights as weak.
+  showWeak(lights) {
+    const { weak } = this.#editor;
+    const of = (direction) => new Set(lights.filter((light) => light.direction === direction).flatMap(({ cells }) => cells));
+    const now = { across: of('across'), down: of('down') };
+    this.#editor.weak = now;
+    for (let index = 0; index < this.#cells.length; index++) {
+      if (weak.across.has(index) !== now.across.has(index) || weak.down.has(index) !== now.down.has(index)) this.paint(index);
+    }
+  }
+
   focus() {
     if (!this.#typing.isActive) this.#root.focus({ preventScroll: true });
   }
@@ -302,7 +324,8 @@ export class GridView {
   #ended = '';
 
   get #place() {
-    return `${this.#editor.cursor} ${this.#editor.direction}`;
+    const { puzzle, cursor, direction, light } = this.#editor;
+    return [puzzle, cursor, direction, light?.cells.length].join(' ');
   }
 
   // Enters the letters of a text from the cursor on, as far as the light goes.
@@ -329,12 +352,12 @@ export class GridView {
       Tab: () => this.#nextLight(shiftKey ? -1 : 1),
       Enter: () => (shiftKey ? this.#choose() : this.turn()),
       ' ': () => this.#clear(1),
-      Backspace: () => this.#backspace(),
+      Backspace: () => (shiftKey ? this.eraseLight() : this.#backspace()),
       Delete: () => (shiftKey ? this.eraseLight() : this.#clear(0)),
       Home: () => this.#toEnd(0),
       End: () => this.#toEnd(-1),
       Escape: () => this.#escape(),
-      '.': () => this.toggleBlock(this.#editor.cursor, true),
+      '.': () => this.toggleBlock(this.#editor.cursor, { isTyped: true }),
       '|': () => this.toggleBar(this.#editor.cursor, 'right'),
       _: () => this.toggleBar(this.#editor.cursor, 'below'),
       '*': () => this.toggleCircle(this.#editor.cursor),
@@ -384,7 +407,7 @@ export class GridView {
     const cell = editor.board.cells[editor.cursor];
     if (cell.block) return refuse(refusalText('OnBlock'));
     if (!this.actions.mayEdit()) return;
-    if (this.#ended && this.#ended === this.#place) return refuse('the light ends here: Tab goes on, Backspace takes the letter back');
+    if (cell.letter && this.#ended === this.#place) return refuse('the light ends here: Tab goes on, Backspace takes the letter back');
     const index = editor.cursor;
     const sent = this.#send([`set ${cell.coordinates} ${letter}`], { isWhole: false });
     if (typedAt) mark('letter typed', { startTime: typedAt });
@@ -480,7 +503,7 @@ export class GridView {
 
   // Blocks, bars, circles, pencil.
 
-  async toggleBlock(index, isTyped = false) {
+  async toggleBlock(index, { isTyped = false, stroke = null } = {}) {
     const editor = this.#editor;
     const { board } = editor;
     const cell = board.cells[index];
@@ -493,17 +516,17 @@ export class GridView {
     this.#blocking = -1;
     editor.edited = null;
     const block = `block ${cell.coordinates}`;
-    let refused = await this.#send(cell.letter ? [`clear ${cell.coordinates}`, block] : [block], { isBlock: true });
-    if (refused === 'Occupied') refused = await this.#blockOver(index, block);
+    let refused = await this.#send(cell.letter ? [`clear ${cell.coordinates}`, block] : [block], { isBlock: true, stroke });
+    if (refused === 'Occupied') refused = await this.#blockOver(index, block, stroke);
     if (!refused && isTyped && editor.cursor === index) this.#stepFreely(1);
   }
 
   // Puts a block where letters are in its way. Those in pencil give way; one in ink is named.
-  async #blockOver(index, block) {
+  async #blockOver(index, block, stroke) {
     const editor = this.#editor;
     const images = (await editor.orbit(index)).filter((cell) => cell.letter);
     const ink = images.find((cell) => cell !== editor.board.cells[index] && !editor.pencil.has(cell.coordinates));
-    if (!ink) return this.#send([...images.map(({ coordinates }) => `clear ${coordinates}`), block]);
+    if (!ink) return this.#send([...images.map(({ coordinates }) => `clear ${coordinates}`), block], { stroke });
     const [row, column] = ink.coordinates.split(' ');
     refuse(`the letter at row ${row}, column ${column} is in the way of the block's image`);
     return 'Occupied';
@@ -512,16 +535,16 @@ export class GridView {
   // the cell with a letter in ink that a block is asked for, by index
   #blocking = -1;
 
-  toggleBar(index, side) {
-    return this.#send([`bar ${this.#editor.board.cells[index].coordinates} ${side}`]);
+  toggleBar(index, side, stroke = null) {
+    return this.#send([`bar ${this.#editor.board.cells[index].coordinates} ${side}`], { stroke });
   }
 
-  toggleCircle(index) {
-    return this.#send([`circle ${this.#editor.board.cells[index].coordinates}`]);
+  toggleCircle(index, stroke = null) {
+    return this.#send([`circle ${this.#editor.board.cells[index].coordinates}`], { stroke });
   }
 
   // Letters in pencil are changed by another fill; the others are locked.
-  async togglePencil(indices) {
+  async togglePencil(indices, stroke = null) {
     const editor = this.#editor;
     if (!this.actions.mayEdit()) return;
     const entered = indices.map((index) => editor.board.cells[index]).filter((cell) => cell.letter).map((cell) => cell.coordinates);
@@ -532,7 +555,7 @@ export class GridView {
       if (isLocked) pencil.add(coordinates);
       else pencil.delete(coordinates);
     }
-    await editor.setPencil(pencil);
+    await editor.setPencil(pencil, stroke);
     say(isLocked ? 'in pencil: another fill may change it' : 'locked: another fill keeps it');
   }
 
@@ -602,8 +625,9 @@ export class GridView {
     event.preventDefault();
     if (event.pointerType !== 'touch') this.#root.focus({ preventScroll: true });
     if (this.tool) {
-      this.#painting = { isOn: !this.#hasTool(index), done: new Set([index]) };
-      return this.#useTool(index);
+      this.#painting = { isOn: !this.#hasTool(index), done: new Set([index]), at: index, last: Promise.resolve() };
+      this.#painting.last = this.#useTool(index, this.#painting);
+      return this.#painting.last;
     }
     const editor = this.#editor;
     if (event.shiftKey) {
@@ -632,12 +656,31 @@ export class GridView {
     return this.tool === 'pencil' ? !pencil.has(cell.coordinates) : cell[this.tool];
   }
 
+  // Paints from the last cell of the drag to this one.
   #paint(index) {
-    const { isOn, done } = this.#painting;
-    if (index < 0 || done.has(index)) return;
-    done.add(index);
-    // what an image of an earlier cell has made already stays
-    if (this.#hasTool(index) !== isOn && (this.tool !== 'pencil' || this.#editor.board.cells[index].letter)) this.#useTool(index);
+    const painting = this.#painting;
+    if (index < 0 || index === painting.at) return;
+    for (const cell of this.#between(painting.at, index)) {
+      if (painting.done.has(cell)) continue;
+      painting.done.add(cell);
+      painting.last = painting.last.then(() => this.#paintCell(cell, painting)).catch(() => {});
+    }
+    painting.at = index;
+  }
+
+  // What an image of an earlier cell has made already stays.
+  #paintCell(index, painting) {
+    if (this.#hasTool(index) === painting.isOn) return null;
+    return this.tool !== 'pencil' || this.#editor.board.cells[index].letter ? this.#useTool(index, painting) : null;
+  }
+
+  // The cells on a line from one cell, which is left out, to another: a fast drag skips some.
+  #between(from, to) {
+    const { board } = this.#editor;
+    const [row, column] = [board.rowOf(from), board.columnOf(from)];
+    const [down, right] = [board.rowOf(to) - row, board.columnOf(to) - column];
+    const steps = Math.max(Math.abs(down), Math.abs(right));
+    return Array.from({ length: steps }, (_, at) => board.index(row + Math.round((down * (at + 1)) / steps), column + Math.round((right * (at + 1)) / steps)));
   }
 
   #pointerMove(event) {
@@ -654,6 +697,8 @@ export class GridView {
 
   // A tap brings up the keyboard of the screen.
   #pointerUp(event) {
+    // the last moves of a fast drag may not be told
+    if (this.#painting) this.#paint(this.#indexOf(event));
     this.#painting = null;
     if (event.pointerType === 'touch' && this.#pressed !== null && this.#anchor === null) {
       this.#typing.focus();
@@ -662,16 +707,17 @@ export class GridView {
     this.#pressed = null;
   }
 
-  #useTool(index) {
+  // What is painted in one stroke is undone as one.
+  #useTool(index, stroke) {
     this.#editor.moveTo(index);
     const tools = {
-      block: () => this.toggleBlock(index),
-      right: () => this.toggleBar(index, 'right'),
-      below: () => this.toggleBar(index, 'below'),
-      circle: () => this.toggleCircle(index),
-      pencil: () => this.togglePencil([index]),
+      block: () => this.toggleBlock(index, { stroke }),
+      right: () => this.toggleBar(index, 'right', stroke),
+      below: () => this.toggleBar(index, 'below', stroke),
+      circle: () => this.toggleCircle(index, stroke),
+      pencil: () => this.togglePencil([index], stroke),
     };
-    tools[this.tool]();
+    return tools[this.tool]?.();
   }
 }
 

@@ -1,6 +1,6 @@
 // More workers with the engine, on the words of the session: for searches side by side, and for grids that are judged before they are chosen.
 import { Engine } from './engine.js';
-import { bodyOf } from './record.js';
+import { bodyOf, wordsOf } from './record.js';
 
 // the most workers of the page, on a screen that is touched, as of a tablet, and elsewhere
 const MOST_TOUCHED = 4;
@@ -10,13 +10,10 @@ const MOST_HELD = 120000;
 
 const isTouched = () => matchMedia('(pointer: coarse)').matches;
 
-// The lines of a record that change the words.
-const wordLines = (record) => record.split('\n').filter((line) => /^(add|strike) /.test(line));
-
 export class Helpers {
   #editor;
   #make;
-  // { engine, words }, where `words` names the words that it has, or is null
+  // { engine, words }, where `words` tells which words it has: the lists, the personal one, and the changes of a record; or is null
   #helpers = [];
 
   constructor(editor, makeWorker) {
@@ -29,9 +26,9 @@ export class Helpers {
     return Math.max(0, Math.min(navigator.hardwareConcurrency || 1, isTouched() ? MOST_TOUCHED : MOST) - 1);
   }
 
-  // Promises of so many engines that have a record. The words are loaded once for all records.
+  // Promises of so many engines that have a record, but for the first ones, which are in use. The words are loaded once for all records.
   /** @returns {Promise<Engine>[]} */
-  begin(record, count) {
+  begin(record, count, used = 0) {
     while (this.#helpers.length < count) {
       const helper = { engine: null, words: null };
       helper.engine = new Engine(this.#make, () => {
@@ -39,7 +36,7 @@ export class Helpers {
       });
       this.#helpers.push(helper);
     }
-    return this.#helpers.slice(0, count).map((helper) => {
+    return this.#helpers.slice(used, count).map((helper) => {
       const opened = this.#open(helper, record);
       // who awaits it gets the fault; one that nobody awaits is none
       opened.catch(() => {});
@@ -49,25 +46,26 @@ export class Helpers {
 
   async #open(helper, record) {
     const { list, module } = this.#editor;
-    const changed = wordLines(record).join();
-    if (helper.words?.list === list && helper.words.changed === changed) {
-      await helper.engine.call('edit', { lines: bodyOf(record), isWhole: false });
+    const { sources, personal, least, grade } = list;
+    const words = [sources, personal, wordsOf(record).join()];
+    if (words.every((part, at) => part === helper.words?.[at])) {
+      await helper.engine.call('edit', { lines: [`least ${grade}`, ...bodyOf(record)], isWhole: false });
       return helper.engine;
     }
-    const { sources, personal, least } = list;
     await helper.engine.call('load', { bytes: module });
     await helper.engine.call('open', { sources, personal, least, record });
-    helper.words = { list, changed };
+    helper.words = words;
     return helper.engine;
   }
 
-  // Lets their memory go where there is little of it, or where they need much.
+  // Lets their memory go where there is little of it. Where they need much, one stays.
   rest() {
-    if (isTouched() || this.#editor.list.words > MOST_HELD) this.end();
+    if (isTouched()) this.#end(0);
+    else if (this.#editor.list.words > MOST_HELD) this.#end(1);
   }
 
-  end() {
-    for (const { engine } of this.#helpers) engine.stop();
-    this.#helpers = [];
+  // Ends all but the first ones.
+  #end(kept) {
+    for (const { engine } of this.#helpers.splice(kept)) engine.stop();
   }
 }

@@ -8,3 +8,16 @@ export function whenIdle(action) {
   if ('requestIdleCallback' in globalThis) requestIdleCallback(() => action(), { timeout: LONGEST });
   else setTimeout(action, WAIT_BLINDLY);
 }
+
+// A function that has something done when the page is idle: once, however often it is called until then.
+export function onceIdle(action) {
+  let isDue = false;
+  return () => {
+    if (isDue) return;
+    isDue = true;
+    whenIdle(() => {
+      isDue = false;
+      action();
+    });
+  };
+}

@@ -1,4 +1,5 @@
 // Crosswords as .ipuz, version 2 (http://ipuz.org): grids with blocks, bars and circles, letters, texts and clues.
+import { hasEnumeration } from './enumeration.js';
 import { escapeText, nearestText, textLines } from './record.js';
 
 const VERSION = 'http://ipuz.org/v2';
@@ -32,7 +33,8 @@ function shownIn(cell) {
   return { cell: shown, style: { ...(cell.circle && { shapebg: 'circle' }), ...(barred && { barred }) } };
 }
 
-// The record that a file spells, and its texts that have characters which the record cannot have. Throws an IpuzFault.
+// The record that a file spells, its texts that have characters which the record cannot have, and how many clues have no place in the grid. Throws an
+// IpuzFault.
 export function recordOfIpuz(text) {
   const file = parsedIpuz(text);
   const { width, height } = file.dimensions ?? {};
@@ -43,7 +45,7 @@ export function recordOfIpuz(text) {
   }
   const grid = new IpuzGrid(file);
   const texts = new IpuzTexts(file, grid);
-  return { record: [`size ${width} ${height}`, ...grid.lines, ...texts.lines, ''].join('\n'), originals: texts.originals };
+  return { record: [`size ${width} ${height}`, ...grid.lines, ...texts.lines, ''].join('\n'), originals: texts.originals, lost: texts.lost };
 }
 
 function parsedIpuz(text) {
@@ -65,7 +67,7 @@ class IpuzGrid {
   #blocks = new Set();
   #bars = new Set();
 
-  constructor({ dimensions: { width, height }, puzzle, solution, block = '#' }) {
+  constructor({ dimensions: { width, height }, puzzle, solution, block = '#', styles = {} }) {
     this.size = { width, height };
     const circles = [];
     const letters = [];
@@ -79,8 +81,10 @@ class IpuzGrid {
         return;
       }
       if (cell && String(cell) !== '0') this.numbered.set(String(cell), coordinates);
-      if (shown?.style?.shapebg === 'circle') circles.push(`circle ${coordinates}`);
-      this.#addBars(row, column, String(shown?.style?.barred ?? ''));
+      // a style may be the name of one
+      const style = styles?.[shown?.style] ?? shown?.style;
+      if (style?.shapebg === 'circle') circles.push(`circle ${coordinates}`);
+      this.#addBars(row, column, String(style?.barred ?? ''));
       const letter = letterOf(given?.value ?? given ?? '', coordinates, block);
       if (letter) letters.push(`set ${coordinates} ${letter}`);
     });
@@ -130,6 +134,8 @@ function letterOf(given, coordinates, block) {
 class IpuzTexts {
   lines = [];
   originals = [];
+  // how many clues have no place in the grid
+  lost = 0;
 
   constructor(file, grid) {
     for (const field of FIELDS) if (file[field]) this.#add(field, plainOf(file[field]));
@@ -144,8 +150,12 @@ class IpuzTexts {
     const { number, clue: text, enumeration } = Array.isArray(clue) ? { number: clue[0], clue: clue[1], enumeration: '' } : clue;
     const cell = numbered.get(String(number?.number ?? number));
     const plain = plainOf(text ?? '');
-    if (!cell || !plain) return;
-    const isThere = !enumeration || plain.endsWith(')');
+    if (!plain) return;
+    if (!cell) {
+      this.lost++;
+      return;
+    }
+    const isThere = !enumeration || hasEnumeration(plain);
     this.#add(`clue ${cell} ${direction}`, isThere ? plain : `${plain} (${enumeration})`);
   }
 

@@ -134,6 +134,8 @@ const ofPuzzle = (puzzle) => IDBKeyRange.bound([puzzle], [puzzle, []]);
 
 export const versionsOf = (puzzle) => within('readonly', ({ versions }) => versions.getAll(ofPuzzle(puzzle)));
 
+export const storedVersions = () => within('readonly', ({ versions }) => versions.getAll());
+
 // Puts puzzles, and versions beside them, all or none.
 export function storePuzzles(entries, added = []) {
   return within('readwrite', ({ puzzles, versions }) => {
@@ -178,6 +180,15 @@ export async function keptLists() {
   if (lists || !former) return lists;
   const { name, bytes, least } = former;
   return { parts: [{ name, bytes, isOn: true }], personal: '', least };
+}
+
+// Asks the browser not to take away what the page keeps when it runs out of room. Returns whether it agrees.
+export async function askToPersist() {
+  try {
+    return (await navigator.storage.persisted()) || (await navigator.storage.persist());
+  } catch {
+    return false;
+  }
 }
 
 // Why the browser does not keep something, in a few words.

@@ -1,5 +1,6 @@
 // What a file is, by its bytes and its name.
 import { isIpuz } from './ipuz.js';
+import { isPuzzlesFile } from './puzzles-file.js';
 import { isWordList, listText } from './word-list.js';
 
 const MAGIC = 'ACROSS&DOWN';
@@ -10,7 +11,7 @@ export const SESSION_HEAD = '# xw session 1';
 
 // What a line of a session begins with. Those of older versions have no head.
 const COMMANDS = [
-  'size \\d+ \\d+', '(add|strike) [A-Za-z]+', 'sym [a-z]+', '(block|circle|clear) \\d+ \\d+', 'bar \\d+ \\d+ (right|below)', 'set \\d+ \\d+ [A-Za-z]',
+  'size \\d+ \\d+', 'add [A-Za-z]+( \\d+)?', 'strike [A-Za-z]+', 'least \\d+', 'sym [a-z]+', '(block|circle|clear) \\d+ \\d+', 'bar \\d+ \\d+ (right|below)', 'set \\d+ \\d+ [A-Za-z]',
   '(place|erase) \\d+ (across|down)( [A-Za-z]+)?', '(text|more) \\S+.*', 'watch (on|off)',
 ];
 const COMMAND = new RegExp(`^[ \\t]*(${COMMANDS.join('|')})[ \\t]*$`);
@@ -28,12 +29,13 @@ function isSession(name, head) {
 
 const isSixteenBits = (bytes) => (bytes[0] === 0xff && bytes[1] === 0xfe) || (bytes[0] === 0xfe && bytes[1] === 0xff);
 
-// What a file is: `puzzle` (.puz or text), `ipuz`, `session`, `list`, `empty`, or `other`.
+// What a file is: `puzzle` (.puz or text), `ipuz`, `session`, `puzzles`, `list`, `empty`, or `other`.
 export function kindOf(name, bytes) {
   if (!bytes.length) return 'empty';
   const head = new TextDecoder('windows-1252').decode(bytes.subarray(0, 4096)).replace(/^\u00ef\u00bb\u00bf/, '');
   if (head.slice(2, 2 + MAGIC.length) === MAGIC || /\.puz$/i.test(name)) return 'puzzle';
   if (/^\s*<across puzzle>/i.test(head)) return 'puzzle';
+  if (isPuzzlesFile(head)) return 'puzzles';
   if (isIpuz(head) || /\.ipuz$/i.test(name)) return 'ipuz';
   if (isSession(name, head)) return 'session';
   // a text of bytes has no NUL, and pictures and archives have one soon

@@ -121,11 +121,13 @@ function factsOf({ letters }, { at }) {
 // the most cells of a grid whose letters are in its picture
 const MOST_DRAWN = 1000;
 
-// A small picture of a grid with its letters. Those of `marked` cells are marked.
-export function sketchOf({ width, height, blocks, bars, letters }, marked = new Set()) {
+// A small picture of a grid with its letters. Those of `marked` cells are marked, and `dead` cells are shaded.
+export function sketchOf({ width, height, blocks, bars, letters }, marked = new Set(), dead = new Set()) {
   const svg = svgElement('svg', { viewBox: `0 0 ${width} ${height}`, 'aria-hidden': 'true' });
   const square = ([row, column]) => `M${column - 1} ${row - 1}h1v1h-1z`;
-  svg.append(svgElement('path', { d: [...blocks].map((block) => square(block.split(' ').map(Number))).join('') }));
+  const squares = (cells) => [...cells].map((cell) => square(cell.split(' ').map(Number))).join('');
+  if (dead.size) svg.append(svgElement('path', { class: 'dead', d: squares(dead) }));
+  svg.append(svgElement('path', { d: squares(blocks) }));
   const line = ([row, column, side]) => (side === 'right' ? `M${column} ${row - 1}v1` : `M${column - 1} ${row}h1`);
   const lines = [...Array.from({ length: width - 1 }, (_, at) => `M${at + 1} 0v${height}`), ...Array.from({ length: height - 1 }, (_, at) => `M0 ${at + 1}h${width}`)];
   svg.append(svgElement('path', { class: 'lines', d: lines.join('') }));

@@ -1,16 +1,19 @@
 // The word lists in the tab of the puzzle, and the dialog of the personal list.
-import { readPersonal } from './word-list.js';
+import { joinPersonal, listText, readPersonal } from './word-list.js';
 
 export class ListsView {
   #elements;
 
-  // `actions`: `change` takes the lists over that a function makes of them, `export` saves the personal list.
+  // `actions`: `change` takes the lists over that a function makes of them, `undo` takes the last change back, `export` saves the personal list.
   constructor(elements, actions) {
     this.#elements = elements;
     this.actions = actions;
     elements.list.addEventListener('change', ({ target }) => actions.change((lists) => lists.switching(target.dataset.name, target.checked)));
     elements.list.addEventListener('click', ({ target }) => target.dataset.remove && actions.change((lists) => lists.removing(target.dataset.remove)));
+    elements.undo.addEventListener('click', () => actions.undo());
     elements.edit.addEventListener('click', () => this.#edit());
+    elements.import.addEventListener('click', () => elements.file.click());
+    elements.file.addEventListener('change', () => this.#import(elements.file.files[0]));
     elements.export.addEventListener('click', () => actions.export(this.lists.personal));
     elements.dialog.addEventListener('close', () => {
       if (elements.dialog.returnValue === 'save' && elements.text.value !== this.lists.personal) actions.change((lists) => lists.withPersonal(elements.text.value));
@@ -18,8 +21,9 @@ export class ListsView {
     elements.text.addEventListener('input', () => this.#count(elements.text.value));
   }
 
-  show(lists) {
+  show(lists, canUndo) {
     this.lists = lists;
+    this.#elements.undo.disabled = !canUndo;
     this.#elements.list.replaceChildren(...lists.parts.filter(({ bytes }) => bytes.length).map((part) => row(part)));
     const { words, hidden } = readPersonal(lists.personal);
     this.#elements.summary.textContent = words.size + hidden.size ? `${words.size} added, ${hidden.size} hidden` : 'none yet';
@@ -30,6 +34,22 @@ export class ListsView {
     this.#elements.text.value = this.lists.personal;
     this.#count(this.lists.personal);
     this.#elements.dialog.showModal();
+  }
+
+  // Puts the lines of a file behind those of the personal list, and tells which.
+  async #import(file) {
+    const { text, count, file: picker } = this.#elements;
+    if (!file) return;
+    const bytes = await file.arrayBuffer().catch(() => null);
+    picker.value = '';
+    if (!bytes) {
+      count.textContent = `${file.name} cannot be read`;
+      return;
+    }
+    const { joined, taken, there, faults } = joinPersonal(text.value, listText(new Uint8Array(bytes)));
+    text.value = joined;
+    const dropped = [there && `${there} there already`, faults && `${faults} with no word`].filter(Boolean);
+    count.textContent = `${file.name}: ${taken} taken${dropped.length ? `; ${there + faults} dropped: ${dropped.join(', ')}` : ''}`;
   }
 
   #count(text) {

@@ -2,13 +2,16 @@
 import { keepLists, keptLists } from './keep.js';
 
 export class Lists {
-  // { name, bytes, isOn, isBuiltIn }; the personal list as text; the least score of a word
+  // { name, bytes, isOn, isBuiltIn }; the personal list as text; the least score of a word, and the score below which words are marked, or null for
+  // the usual one
   parts = [];
   personal = '';
   least = 0;
+  /** @type {number | null} */
+  weak = null;
 
-  constructor({ parts, personal = '', least = 0 }) {
-    Object.assign(this, { parts, personal, least });
+  constructor({ parts, personal = '', least = 0, weak = null }) {
+    Object.assign(this, { parts, personal, least, weak });
   }
 
   // What the browser keeps, or the built-in list alone.
@@ -26,11 +29,11 @@ export class Lists {
   // Keeps them. The built-in list is in the page already.
   keep() {
     const parts = this.parts.map(({ name, bytes, isOn, isBuiltIn }) => (isBuiltIn ? { name, isOn, isBuiltIn } : { name, bytes, isOn }));
-    return keepLists({ parts, personal: this.personal, least: this.least });
+    return keepLists({ parts, personal: this.personal, least: this.least, weak: this.weak });
   }
 
   #with(changed) {
-    return new Lists({ parts: this.parts, personal: this.personal, least: this.least, ...changed });
+    return new Lists({ parts: this.parts, personal: this.personal, least: this.least, weak: this.weak, ...changed });
   }
 
   // With one more list, which is used in place of the others. These stay, off.
@@ -39,7 +42,7 @@ export class Lists {
     const isTaken = (wanted) => others.some((part) => part.name === wanted);
     let free = name;
     for (let count = 2; isTaken(free); count++) free = `${name} (${count})`;
-    return this.#with({ parts: [...others, { name: free, bytes, isOn: true }], least: 0 });
+    return this.#with({ parts: [...others, { name: free, bytes, isOn: true }], least: 0, weak: null });
   }
 
   switching(name, isOn) {
@@ -48,7 +51,7 @@ export class Lists {
 
   // With the built-in list alone in use.
   onlyBuiltIn() {
-    return this.#with({ parts: this.parts.map((part) => ({ ...part, isOn: Boolean(part.isBuiltIn) })), least: 0 });
+    return this.#with({ parts: this.parts.map((part) => ({ ...part, isOn: Boolean(part.isBuiltIn) })), least: 0, weak: null });
   }
 
   removing(name) {
@@ -59,6 +62,10 @@ export class Lists {
     return this.#with({ least });
   }
 
+  markingBelow(weak) {
+    return this.#with({ weak });
+  }
+
   withPersonal(personal) {
     return this.#with({ personal });
   }
@@ -67,7 +74,7 @@ export class Lists {
   get chosen() {
     const on = this.parts.filter(({ isOn, bytes }) => isOn && bytes.length);
     const name = on.length === 1 ? on[0].name : on.length ? `${on.length} lists` : '';
-    return { name: name || (this.personal.trim() ? 'my words' : ''), sources: on.map(({ bytes }) => bytes), personal: this.personal, least: this.least };
+    return { name: name || (this.personal.trim() ? 'my words' : ''), sources: on.map(({ bytes }) => bytes), personal: this.personal, least: this.least, weak: this.weak };
   }
 }
 

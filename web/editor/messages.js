@@ -1,4 +1,6 @@
 // What the page says: a message at a time over the grid, a list of them, and warnings.
+import { keyed } from './key-names.js';
+import { termed } from './terms.js';
 
 // Refusals of commands, and faults of files, in a few words.
 export const REFUSALS = {
@@ -62,8 +64,12 @@ export function useMessages(elements) {
   ({ line, toast, history, warnings } = elements);
 }
 
-// Says something; `tone` is '', 'good' or 'bad', or 'busy' for what passes, which is not listed.
-export function say(text, tone = '') {
+// Says something in the terms of the grid; `tone` is '', 'good' or 'bad', or 'busy' for what passes, which is not listed.
+export const say = (text, tone = '') => sayAsIs(termed(text), tone);
+
+// Says something that has names of files or texts of the puzzle.
+export function sayAsIs(told, tone = '') {
+  const text = keyed(told);
   count++;
   line.textContent = text;
   line.dataset.tone = tone;
@@ -79,6 +85,7 @@ export function say(text, tone = '') {
 }
 
 export const refuse = (text) => say(text, 'bad');
+export const refuseAsIs = (text) => sayAsIs(text, 'bad');
 
 // A function that ends the message that stands now. It does nothing if another one has come since.
 export function endingMessage() {

@@ -1,4 +1,5 @@
 // What is printed: the blank grid with its clues, and the solution.
+import { enumerated, hasEnumeration } from './enumeration.js';
 
 // The room on the papers within the margins, in millimetres.
 const ROOM = { A4: { width: 182, height: 269 }, letter: { width: 188, height: 251 } };
@@ -15,19 +16,6 @@ function sizeFor(lengths, columns, grid, { width, height }) {
     return lines * 1.25 * size * POINT + lengths.length * 0.8 < columns * (height - AROUND - grid);
   };
   return SIZES.find(fits) ?? SIZES.at(-1);
-}
-
-// Whether a clue ends with the lengths of its words, as in “(3,5)”, “(2-4, 6)”, “(1’1,4)” or “(3 wds.)”. A number of three digits or more, as of
-// a year, is no length.
-export function hasEnumeration(clue) {
-  return /\(\s*\d{1,2}(\s*[-‐–—,;.'’/\s]\s*\d{1,2})*([\s,;]+(wds?|words?|letters?|hyph|hyphenated|abbr)\.?)*\s*\)[\s.]*$/i.test(clue);
-}
-
-// A clue without its enumeration, and that: as the clue has it, or the length of the word.
-export function enumerated(clue, length) {
-  if (!hasEnumeration(clue)) return { text: clue, enumeration: `(${length})` };
-  const at = clue.lastIndexOf('(');
-  return { text: clue.slice(0, at).trim(), enumeration: clue.slice(at).trim() };
 }
 
 export class Printer {
@@ -78,14 +66,20 @@ export class Printer {
     const head = make('header', '');
     head.append(make('h1', '', `${this.#text('title') || 'Crossword'}${what}`));
     const { width, height } = this.#editor.board;
-    head.append(make('p', 'address', hasAddress ? [this.#text('author'), this.address, `${width} × ${height}`].filter(Boolean).join('\n') : this.#text('author')));
+    const author = this.#text('author');
+    // an address mostly begins with the name
+    const sender = this.address.split('\n')[0].trim() === author ? [this.address] : [author, this.address];
+    head.append(make('p', 'address', hasAddress ? [...sender, `${width} × ${height}`].filter(Boolean).join('\n') : author));
     return head;
   }
 
   #answers() {
     const { board } = this.#editor;
     const table = make('table', 'answers');
-    for (const direction of ['across', 'down']) {
+    for (const [direction, title] of [['across', 'Across'], ['down', 'Down']]) {
+      const heading = make('th', '', title);
+      heading.colSpan = 3;
+      table.insertRow().append(heading);
       for (const light of board.lights.filter((one) => one.direction === direction)) {
         const { text, enumeration } = enumerated(this.#text(`clue ${light.name}`), light.cells.length);
         const row = table.insertRow();

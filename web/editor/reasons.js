@@ -8,6 +8,8 @@ const PATIENCE = 700;
 const MOST_ASKED = 9;
 const MOST_NAMED = 8;
 
+const WAITING = 'lights without a word wait for blocks (.) or bars: they are grey';
+
 export class Reasons {
   #editor;
   #grid;
@@ -28,14 +30,28 @@ export class Reasons {
     const { board, commands } = this.#editor;
     if (!board.lights.some(this.#isDead)) return;
     if (board.entered === 0) {
-      refuse('the list has no words for these lights yet: add blocks (.) or bars, or load a longer list');
+      const { list } = this.#editor;
+      const other = 'add blocks (.) or bars, or load a longer list';
+      refuse(list.grade ? `no words with ${list.least} or more fit these lights: lower the least score, or ${other}` : `the list has no words for these lights yet: ${other}`);
       return;
     }
-    if (board.isOpenGrid) return say('lights without a word wait for blocks (.) or bars: they are grey');
+    if (board.isOpenGrid) {
+      // they are grey after the first block too, until the engine has told which ones wait
+      this.#editor.waits = true;
+      return say(WAITING);
+    }
+    if (board.isSparse && commands.has('unmatched')) {
+      this.#markUnmatched().then(() => (this.#editor.waits ? say(WAITING) : this.#tell()), () => {});
+      return;
+    }
+    this.mark();
+    this.#tell();
+  }
+
+  #tell() {
     const entry = this.#entry();
     refuse(`${entry ? `${entry} leads to a dead end` : 'a dead end'}: no word is left for some lights. Click a red cell, or press ?, for the reason`);
-    this.mark();
-    if (commands.has('why')) this.#timer = setTimeout(() => this.#explainEntry(), PATIENCE);
+    if (this.#editor.commands.has('why')) this.#timer = setTimeout(() => this.#explainEntry(), PATIENCE);
   }
 
   // The word of the last entry, if it is whole; or ''.
@@ -63,15 +79,20 @@ export class Reasons {
     return this.#explain(here.length ? here : this.#afterEntry());
   }
 
-  // Marks the lights that no word matches.
+  // Marks the lights that no word matches, but for those that wait for blocks.
   mark() {
     if (this.#editor.commands.has('unmatched')) this.#markUnmatched().catch(() => {});
   }
 
   async #markUnmatched() {
-    const { record } = this.#editor;
-    const [lines] = await this.#editor.ask('unmatched');
-    if (record === this.#editor.record) this.#grid.showUnmatched((lines ?? []).map((line) => line.split(' ').slice(0, 2).join(' ')));
+    const editor = this.#editor;
+    const { record, board } = editor;
+    const [lines] = await editor.ask('unmatched');
+    if (record !== editor.record) throw new Error('another edit came');
+    const names = (lines ?? []).map((line) => line.split(' ').slice(0, 2).join(' '));
+    const isWaiting = (name) => board.isSparse && board.isLongGap(board.byName.get(name));
+    editor.waits = names.some(isWaiting);
+    this.#grid.showUnmatched(names.filter((name) => !isWaiting(name)));
   }
 
   // The lights without a word that are asked after an entry: those that cross its light, the nearest first, then that light. If these have

@@ -51,10 +51,11 @@ export function textLines(field, spelled) {
   return lines;
 }
 
-// What a record says: sets of cells and bars by their coordinates (`R C`, and for a bar `R C SIDE`), letters by coordinates, and texts as they are spelled, by field.
+// What a record says: the words that are added, with their grades, which of them are words of the list, and those that are struck; sets of cells
+// and bars by their coordinates (`R C`, and for a bar `R C SIDE`), letters by coordinates, and texts as they are spelled, by field.
 export function parseRecord(text) {
   const state = {
-    added: [], struck: [], width: 15, height: 15, sym: 'none', blocks: new Set(), bars: new Set(), circles: new Set(), letters: new Map(),
+    added: [], struck: [], grades: new Map(), regraded: new Set(), width: 15, height: 15, sym: 'none', blocks: new Set(), bars: new Set(), circles: new Set(), letters: new Map(),
     texts: new Map(),
   };
   for (const line of text.split('\n')) takeLine(state, line.replace(/\r$/, ''));
@@ -65,11 +66,10 @@ function takeLine(state, line) {
   const [, name, rest] = /^[ \t]*(\S*)[ \t]*(.*)$/s.exec(line);
   switch (name) {
     case 'add':
-      state.struck = state.struck.filter((word) => word !== rest);
-      if (!state.added.includes(rest)) state.added.push(rest);
+      takeWord(state, ...rest.toUpperCase().split(/[ \t]+/));
       break;
     case 'strike':
-      state.struck.push(rest);
+      state.struck.push(rest.toUpperCase());
       break;
     case 'size':
       [state.width, state.height] = rest.split(' ').map(Number);
@@ -96,28 +96,50 @@ function takeLine(state, line) {
   }
 }
 
+function takeWord(state, word, grade = '100') {
+  const isAdded = state.added.includes(word);
+  if (state.struck.includes(word) && !isAdded) state.regraded.add(word);
+  state.struck = state.struck.filter((other) => other !== word);
+  if (!isAdded) state.added.push(word);
+  state.grades.set(word, Number(grade));
+}
+
 function takeText(texts, name, rest) {
   const [, field, spelled] = /^(clue \d+ \d+ \w+|\w+) ?(.*)$/s.exec(rest);
   texts.set(field, name === 'more' ? (texts.get(field) ?? '') + spelled : spelled);
 }
 
-// The lines of a record that make its grid and its texts, without notes and those of words and of the watch.
+// The lines of a record that change the words.
+export const wordsOf = (record) => record.split('\n').filter((line) => /^(add|strike) /.test(line));
+
+// The lines of a record that make its grid and its texts, without notes and those of words, of the least grade and of the watch.
 export function bodyOf(record) {
-  return record.split('\n').filter((line) => line && !/^(#|(add|strike|watch) )/.test(line));
+  return record.split('\n').filter((line) => line && !/^(#|(add|strike|least|watch) )/.test(line));
 }
 
 const without = (some, others) => [...some].filter((one) => !others.has(one));
 
-function wordLines(from, to) {
+// The lines that lead from the words of one state to those of another. `gradeOf` tells the grade that a word has in the list. A word that
+// comes back would have its grade raised to the least one, so the least grade has to be 0 while these lines are sent.
+function wordLines(from, to, gradeOf) {
   const active = (state) => new Set(state.added.filter((word) => !state.struck.includes(word)));
   const bans = (state) => new Set(state.struck);
   const [now, then] = [active(from), active(to)];
+  // without a grade, a word that was known before would keep its own
+  const add = (word, grade) => `add ${word} ${grade}`;
+  // a word that is active may have another grade
+  const enter = (word) => [...(now.has(word) || to.regraded.has(word) ? [`strike ${word}`] : []), add(word, to.grades.get(word))];
+  // a word of the list that was given another grade gets its own again
+  const leave = (word) => [`strike ${word}`, ...(from.regraded.has(word) ? [add(word, gradeOf(word))] : [])];
   return [
-    // a word that was added, or a word of the list that is no longer struck
-    ...without(then, now).map((word) => `add ${word}`),
-    ...without(bans(from), bans(to)).filter((word) => !from.added.includes(word) && !then.has(word)).map((word) => `add ${word}`),
-    ...without(now, then).map((word) => `strike ${word}`),
-    ...without(bans(to), bans(from)).filter((word) => !now.has(word)).map((word) => `strike ${word}`),
+    ...[...then].filter((word) => !now.has(word) || from.grades.get(word) !== to.grades.get(word)).flatMap(enter),
+    // a word of the list that is no longer struck, which may have been given another grade before
+    ...without(bans(from), bans(to)).filter((word) => !then.has(word)).flatMap((word) => {
+      if (from.regraded.has(word)) return [add(word, gradeOf(word))];
+      return from.added.includes(word) ? [] : [`add ${word}`];
+    }),
+    ...without(now, then).filter((word) => !to.struck.includes(word)).flatMap(leave),
+    ...without(bans(to), bans(from)).map((word) => `strike ${word}`),
   ];
 }
 
@@ -149,16 +171,17 @@ function textChanges(from, to) {
   return lines;
 }
 
-// The commands that lead from one record to another, in a session that began with the same words.
-export function transition(before, after) {
+// The commands that lead from one record to another, in a session that began with the same words: those for the words, and those for the rest.
+export function transition(before, after, gradeOf) {
   const [from, to] = [parseRecord(before), parseRecord(after)];
+  const words = wordLines(from, to, gradeOf);
   // a circle under a block cannot be toggled
   const circles = [...without(from.circles, to.circles), ...without(to.circles, from.circles)];
   const isHidden = circles.some((coordinates) => from.blocks.has(coordinates) && to.blocks.has(coordinates));
   if (from.width !== to.width || from.height !== to.height || isHidden) {
     // a new size drops clues, and keeps the other texts
     const kept = without(from.texts.keys(), to.texts).filter((field) => !field.startsWith('clue '));
-    return [...wordLines(from, to), ...bodyOf(after), ...kept.map((field) => `text ${field} `)];
+    return { words, rest: [...bodyOf(after), ...kept.map((field) => `text ${field} `)] };
   }
-  return [...wordLines(from, to), ...gridLines(from, to), ...textChanges(from, to)];
+  return { words, rest: [...gridLines(from, to), ...textChanges(from, to)] };
 }

@@ -1,7 +1,9 @@
-// The usual rules of grids, as warnings: the number of words, lights of two letters, parts that do not connect, unchecked runs, and words that
-// are close to each other.
+// The usual rules of grids, as warnings: the number of words, lights of two letters, parts that do not connect, unchecked letters, words that
+// are close to each other, and enumerations of another length than the word.
 
 import { mostUnchecked } from './barred.js';
+import { enumeratedLength } from './enumeration.js';
+import { unescapeText } from './record.js';
 
 // The most words of an American grid, by its size.
 const MOST_WORDS = { 15: 78, 21: 140 };
@@ -9,6 +11,8 @@ const MOST_WORDS = { 15: 78, 21: 140 };
 const MOST_UNCHECKED = 2;
 // How many letters in a row two words may share.
 const MOST_SHARED = 4;
+// The letters that a root has at least.
+const LEAST_ROOT = 3;
 // Endings without which words have one root.
 const ENDING = /(S|ES|ED|ER|ERS|ING|INGS|LY)$/;
 
@@ -56,8 +60,17 @@ function gridWarnings(board) {
   }
   const isBarred = board.cells.some((cell) => cell.right || cell.below);
   if (isBarred) return [...warnings, ...barredWarnings(board)];
-  const unchecked = isAmerican(board) ? [] : board.lights.filter((light) => uncheckedRun(board, light) > MOST_UNCHECKED);
-  if (unchecked.length) warnings.push({ text: `${titled(unchecked[0])} has ${uncheckedRun(board, unchecked[0])} unchecked cells in a row`, light: unchecked[0].name });
+  return isAmerican(board) ? warnings : [...warnings, ...latticeWarnings(board)];
+}
+
+// In a lattice the unchecked cells in a row are counted, and half of the cells of a light are checked, but for one if their number is odd.
+function latticeWarnings(board) {
+  const warnings = [];
+  const unchecked = board.lights.find((light) => uncheckedRun(board, light) > MOST_UNCHECKED);
+  if (unchecked) warnings.push({ text: `${titled(unchecked)} has ${uncheckedRun(board, unchecked)} unchecked cells in a row`, light: unchecked.name });
+  const checkedIn = (light) => light.cells.filter((index) => isChecked(board, index)).length;
+  const loose = board.lights.find((light) => checkedIn(light) < Math.floor(light.cells.length / 2));
+  if (loose) warnings.push({ text: `${titled(loose)} has ${checkedIn(loose)} of ${loose.cells.length} cells checked; half is usual`, light: loose.name });
   return warnings;
 }
 
@@ -71,9 +84,12 @@ function barredWarnings(board) {
   return [{ text: `${titled(loose[0])} has ${uncheckedIn(loose[0])} unchecked letters of ${length}; ${mostUnchecked(length)} at most is usual${others}`, light: loose[0].name }];
 }
 
+// Of three letters nothing is left out, so that ERE and ERR are two words.
 const rootOf = (word) => {
-  const root = word.replace(ENDING, '');
-  return root.length >= 3 ? root.replace(/(.)\1$/, '$1').replace(/E$/, '') : word;
+  const stem = word.replace(ENDING, '');
+  if (stem.length < LEAST_ROOT) return word;
+  const root = stem.replace(/(.)\1$/, '$1').replace(/E$/, '');
+  return root.length < LEAST_ROOT ? stem : root;
 };
 
 // Words that share a root, or more letters in a row than they may. Each part of a word leads to the first light that has it.
@@ -96,5 +112,15 @@ function wordWarnings(board) {
   return warnings;
 }
 
-// What the usual rules say against a grid: { text, light or cell to go to }.
-export const warningsOf = (board) => [...gridWarnings(board), ...wordWarnings(board)];
+// Clues whose enumeration counts other letters than their light has. One that leads to other lights may count theirs too.
+function clueWarnings(board) {
+  return board.lights.flatMap((light) => {
+    const clue = unescapeText(board.texts.get(`clue ${light.name}`) ?? '');
+    const length = enumeratedLength(clue);
+    if (length === null || length === light.cells.length || /\b(across|down|ac|dn)\b/i.test(clue)) return [];
+    return [{ text: `the clue of ${titled(light)} says ${clue.slice(clue.lastIndexOf('('))} and it has ${light.cells.length} letters`, light: light.name, isClue: true }];
+  });
+}
+
+// What the usual rules say against a grid: { text, light or cell to go to, isClue if it is about the clue }.
+export const warningsOf = (board) => [...gridWarnings(board), ...wordWarnings(board), ...clueWarnings(board)];

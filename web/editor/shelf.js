@@ -4,11 +4,12 @@ import { Claim } from './claim.js';
 import { newPuzzleName } from './editor.js';
 import { whenIdle } from './idle.js';
 import {
-  destroyPuzzles, draftOf, drafted, dropDraft, dropFormer, formerSessions, keepDraft, keepPuzzleOfTab, onOtherDraft, puzzleOfTab, storePuzzles, storedPuzzle,
-  storedPuzzles, whyNotKept,
+  askToPersist, destroyPuzzles, draftOf, drafted, dropDraft, dropFormer, formerSessions, keepDraft, keepPuzzleOfTab, onOtherDraft, puzzleOfTab, storePuzzles,
+  storedPuzzle, storedPuzzles, storedVersions, whyNotKept,
 } from './keep.js';
 import { endWarning, warn } from './messages.js';
 import { PATTERNS, recordOf, rowsOf } from './patterns.js';
+import { puzzlesFile, puzzlesIn } from './puzzles-file.js';
 import { parseRecord } from './record.js';
 
 // A version is kept before so many letters go at once, and after so many steps.
@@ -45,6 +46,8 @@ export class Shelf extends EventTarget {
   #isStoreDue = false;
   #draftFault = null;
   #begun = new Set();
+  // whether the browser was asked to keep its store
+  #isAsked = false;
 
   constructor(editor, claim, saveSession) {
     super();
@@ -195,6 +198,10 @@ export class Shelf extends EventTarget {
   #stored() {
     endWarning('room');
     if (this.#claim.isHeld) this.#tell(null);
+    // some browsers ask the user, so there is something to keep first
+    if (this.#isAsked || !this.#begun.size) return;
+    this.#isAsked = true;
+    askToPersist().then((isLasting) => this.dispatchEvent(new CustomEvent('lasting', { detail: isLasting })));
   }
 
   // Without the store a draft still keeps what is here, but nothing that was here before.
@@ -264,6 +271,23 @@ export class Shelf extends EventTarget {
     this.#isDue = true;
     warn('copy', 'The puzzle is open in another tab. What you changed here is kept as a copy.', { label: 'OK', title: 'Close this line', action: () => endWarning('copy') });
     this.begin();
+  }
+
+  // All puzzles with their versions, as the text of a file.
+  async all() {
+    const here = this.#claim.isHeld && this.#isBegun(this.#editor.state) ? [{ ...this.#editor.state, at: Date.now() }] : [];
+    const stored = (await storedPuzzles()).filter(({ puzzle }) => puzzle !== here[0]?.puzzle);
+    return puzzlesFile([...here, ...stored], await storedVersions());
+  }
+
+  // Adds the puzzles of such a file, and returns how many these are. Those that are here already get what it has as versions.
+  async addAll(text) {
+    const { puzzles, versions } = puzzlesIn(text);
+    const known = new Set((await storedPuzzles()).map(({ puzzle }) => puzzle).concat(this.#editor.puzzle));
+    const added = puzzles.filter(({ puzzle }) => !known.has(puzzle));
+    const others = puzzles.filter(({ puzzle }) => known.has(puzzle));
+    await storePuzzles(added, [...versions, ...others]);
+    return { added: added.length, others: others.length };
   }
 
   // Deletes a puzzle, which can be restored until it is destroyed.

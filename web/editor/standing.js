@@ -1,4 +1,4 @@
-// What is said of the word that stands in the light under the cursor: that it is not in the list or stands twice, with what can be done.
+// What is said of the word that stands in the light under the cursor: that it is not in use or stands twice, with what can be done.
 import { titleOf } from './words.js';
 
 export class StandingView {
@@ -19,9 +19,9 @@ export class StandingView {
   // The fault of the light, as a text and buttons; or null.
   #fault({ name }) {
     const { board } = this.#editor;
-    const word = this.#faults.unlisted.get(name);
-    if (word && word === board.spell(board.byName.get(name))) {
-      return [`${word} is not in your lists`, ['Add it', () => this.actions.add(word)], ['Erase it', () => this.actions.erase()]];
+    const unlisted = this.#faults.unlisted.get(name);
+    if (unlisted && unlisted.word === board.spell(board.byName.get(name))) {
+      return [unlisted.why, ['Add it', () => this.actions.add(unlisted.word)], ['Erase it', () => this.actions.erase()]];
     }
     const other = board.byName.get(this.#faults.repeated.get(name));
     return other ? [`${board.spell(other)} stands in ${titleOf(other)} too`, ['Go there', () => this.actions.go(other)], ['Erase it', () => this.actions.erase()]] : null;

@@ -1,6 +1,7 @@
 // The dialog of new grids, with theme entries or without: each grid is judged by the engine before it is chosen.
 import { sketchOf } from './library.js';
-import { bodyOf, parseRecord } from './record.js';
+import { bodyOf, parseRecord, wordsOf } from './record.js';
+import { termed } from './terms.js';
 import { checkWanted, recordOfGrid } from './themes.js';
 
 const MOST_ENTRIES = 8;
@@ -12,7 +13,7 @@ const MOST_SPARES = 4;
 const MOST_JUDGES = 3;
 const PLACEMENTS = 2000;
 // how often a worker is asked for grids, and from how many seeds each time; barred grids take longer
-const EFFORTS = { american: { rounds: 20, tries: 6 }, british: { rounds: 12, tries: 6 }, barred: { rounds: 8, tries: 2 } };
+const EFFORTS = { american: { rounds: 40, tries: 6 }, british: { rounds: 12, tries: 6 }, barred: { rounds: 8, tries: 2 } };
 // the seeds of one worker lie so far from those of the next
 const SEEDS = 100003;
 
@@ -24,13 +25,20 @@ export class ThemesView {
   // rises with each search, so that those before it end
   #turn = 0;
 
-  // `begin` begins a puzzle with a record.
+  // `begin` begins a puzzle with a record, in which these entries stand.
   constructor(editor, helpers, elements, begin) {
     this.#editor = editor;
     this.#helpers = helpers;
     this.#elements = elements;
     this.begin = begin;
     elements.show.addEventListener('click', () => this.#search().catch((fault) => this.#say(fault.message)));
+    elements.entries.addEventListener('input', () => this.#showLengths());
+    // Enter in a field shows grids, and does not close the dialog
+    elements.size.addEventListener('keydown', (event) => {
+      if (event.key !== 'Enter') return;
+      event.preventDefault();
+      elements.show.click();
+    });
     elements.dialog.addEventListener('close', () => {
       this.#turn++;
       helpers.rest();
@@ -47,12 +55,22 @@ export class ThemesView {
     this.#elements.grids.setAttribute('aria-busy', String(isBusy));
   }
 
+  // The entries that are typed, without what is no letter.
+  get #entries() {
+    return this.#elements.entries.value.split('\n').map((line) => line.normalize('NFD').replace(/[^A-Za-z]/g, '').toUpperCase()).filter(Boolean);
+  }
+
+  #showLengths() {
+    this.#elements.lengths.textContent = this.#entries.map((word) => `${word} ${word.length}`).join(' · ');
+  }
+
   // Shows grids as they are found. They are judged meanwhile, and at the end those that fill come first.
   async #search() {
     const turn = ++this.#turn;
-    const { grids, entries: typed, style, size, sym } = this.#elements;
-    const entries = typed.value.split('\n').map((line) => line.normalize('NFD').replace(/[^A-Za-z]/g, '').toUpperCase()).filter(Boolean);
+    const { grids, style, size, sym } = this.#elements;
+    const entries = this.#entries;
     grids.replaceChildren();
+    if (!size.checkValidity() || !size.value) return this.#say(`A grid has ${size.min} to ${size.max} rows.`);
     if (entries.length > MOST_ENTRIES) return this.#say(`Enter ${MOST_ENTRIES} entries at most, one a line.`);
     const short = entries.find((word) => word.length < 3);
     if (short) return this.#say(`${short} is too short.`);
@@ -88,24 +106,25 @@ export class ThemesView {
   async #judge(search, grid, judge, isSpare) {
     const record = recordOfGrid(grid);
     if (search.found.has(record)) return;
-    const { unmatched, fewest, fill } = await (await judge).call('judge', { lines: bodyOf(record), most: PLACEMENTS });
+    const { unmatched, dead, fewest, fill } = await (await judge).call('judge', { lines: bodyOf(record), most: PLACEMENTS });
     if (search.turn !== this.#turn) return;
     if (fill === 'nofill' && !isSpare) {
       search.spares.unshift(grid);
       return;
     }
-    const card = this.#card(grid, record, verdictOf(unmatched, fewest, fill));
+    const card = this.#card(grid, record, verdictOf(unmatched, fewest, fill), new Set(dead), search.wanted.entries);
     search.found.set(record, { card, rank: fill === 'filled' ? Infinity : fewest - unmatched.length });
     this.#elements.grids.append(card);
   }
 
-  #card(grid, record, verdict) {
+  // `dead` has the cells of lights without a word, which are marked.
+  #card(grid, record, verdict, dead, entries) {
     const card = Object.assign(document.createElement('button'), { type: 'button', className: 'pattern' });
     const facts = grid.bars.size ? `${grid.lights.length} words` : `${grid.lights.length} words, ${grid.blocks.size} blocks`;
-    card.append(sketchOf(parseRecord(record)), facts, Object.assign(document.createElement('small'), verdict));
+    card.append(sketchOf(parseRecord(record), new Set(), dead), facts, Object.assign(document.createElement('small'), { ...verdict, textContent: termed(verdict.textContent, this.#elements.style.value !== 'american') }));
     card.addEventListener('click', () => {
       this.#elements.dialog.close();
-      this.begin(record);
+      this.begin(record, entries);
     });
     return card;
   }
@@ -122,7 +141,7 @@ export class ThemesView {
   // Engines with the words of the session.
   #judges() {
     const count = Math.min(MOST_JUDGES, this.#helpers.most + 1);
-    return this.#helpers.begin([...this.#editor.record.split('\n').filter((line) => /^(add|strike) /.test(line)), 'size 1 1', ''].join('\n'), count);
+    return this.#helpers.begin([...wordsOf(this.#editor.record), 'size 1 1', ''].join('\n'), count);
   }
 }
 

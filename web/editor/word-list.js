@@ -1,4 +1,5 @@
 // Word lists: which lines are words, and why others are left out. The worker has this module too.
+import { UNSCORED, scoreOf } from './grades.js';
 import { randoms, shuffled } from './random.js';
 
 // The text of a list, or of its beginning, in UTF-8, in UTF-16 with its byte order mark, or in Windows-1252.
@@ -48,7 +49,7 @@ const WHY = {
   letters: () => 'with letters other than A to Z',
   signs: () => 'with signs that are not ASCII',
   unscored: () => 'without a score',
-  low: (count, least) => (count === 1 ? `with a score below ${least}` : `with scores below ${least}`),
+  low: (count) => (count === 1 ? 'with a score below 0' : 'with scores below 0'),
   short: () => 'with fewer than 2 letters',
   long: () => 'with more than 255 letters',
   repeated: (count) => (count === 1 ? 'that repeats a word' : 'that repeat words'),
@@ -58,10 +59,10 @@ const WHY = {
 const unaccented = (spelling) => (/[^\x00-\x7f]/.test(spelling) ? spelling.normalize('NFD').replace(/\p{M}/gu, '') : spelling);
 
 // What keeps a spelling without accents from being a word of the list, or null.
-function reasonToLeave(spelling, letters, score, isScored, least) {
+function reasonToLeave(spelling, letters, score, isScored) {
   if (/[^\x00-\x7f]/.test(spelling)) return /\p{L}/u.test(spelling.replace(/[\x00-\x7f]/g, '')) ? 'letters' : 'signs';
   if (isScored && score === null) return 'unscored';
-  if (isScored && score < least) return 'low';
+  if (isScored && score < 0) return 'low';
   if (letters.length < 2) return 'short';
   return letters.length > 255 ? 'long' : null;
 }
@@ -80,8 +81,8 @@ function inOrder(lines, scored) {
 }
 
 // Reads a list: its words in capitals, each once, the best scores first if most lines have one; the scores of these words; the best score of
-// the list; how many lines are left out, by reason; and how many words were spelled with accents. Words with a score below `least` are left out.
-export function readList(bytes, least = 0) {
+// the list; how many lines are left out, by reason; and how many words were spelled with accents.
+export function readList(bytes) {
   const read = listLines(listText(bytes));
   const scored = isMost(read.filter(({ score }) => score !== null).length, read);
   const lines = inOrder(read, scored);
@@ -92,7 +93,7 @@ export function readList(bytes, least = 0) {
     const written = scored ? spelling : whole;
     const spelled = unaccented(written);
     const letters = spelled.replace(/[^A-Za-z]/g, '').toUpperCase();
-    const reason = reasonToLeave(spelled, letters, score, scored, least) ?? (words.has(letters) ? 'repeated' : null);
+    const reason = reasonToLeave(spelled, letters, score, scored) ?? (words.has(letters) ? 'repeated' : null);
     if (reason) leftOut[reason] = (leftOut[reason] ?? 0) + 1;
     else words.set(letters, score);
     if (!reason && spelled !== written) folded++;
@@ -101,36 +102,61 @@ export function readList(bytes, least = 0) {
   return { words: [...words.keys()], scores: scored ? words : new Map(), scored, best, leftOut, folded };
 }
 
+// A line of the personal list: { letters, isHidden, score, spelling }. `letters` is '' if it has no word.
+function personalLine(line) {
+  const [, minus, spelling, score] = /^\s*(-?)([^;#]*)(?:;\s*(\d+))?/.exec(line);
+  const letters = unaccented(spelling).replace(/[^A-Za-z]/g, '').toUpperCase();
+  const isWord = letters.length >= 2 && letters.length <= 255;
+  return { letters: isWord ? letters : '', isHidden: Boolean(minus), score: score === undefined ? null : Number(score), spelling: spelling.trim() };
+}
+
+const linesOf = (text) => text.split(/\r\n?|\n/);
+
 // Reads the personal list. A line is a word, with a score after a semicolon and a note after `#`, or after a minus sign a word that is hidden.
 // Returns the words with their scores, the hidden words, and what is no word.
 export function readPersonal(text) {
   const [words, hidden, faults] = [new Map(), new Set(), []];
-  for (const line of text.split(/\r\n?|\n/)) {
-    const [, minus, spelling, score] = /^\s*(-?)([^;#]*)(?:;\s*(\d+))?/.exec(line);
-    const letters = unaccented(spelling).replace(/[^A-Za-z]/g, '').toUpperCase();
-    if (letters.length >= 2 && letters.length <= 255) {
-      if (minus) hidden.add(letters);
-      else words.set(letters, score === undefined ? null : Number(score));
-    } else if (spelling.trim()) faults.push(spelling.trim());
+  for (const { letters, isHidden, score, spelling } of linesOf(text).map(personalLine)) {
+    if (letters && isHidden) hidden.add(letters);
+    else if (letters) words.set(letters, score);
+    else if (spelling) faults.push(spelling);
   }
   return { words, hidden, faults };
 }
 
-// Reads lists as one. A word has its best score; the personal list decides over the others.
-export function joinLists(sources, personal, least) {
-  const parts = sources.map((bytes) => readList(bytes, least));
+// The personal list with the lines of another text behind its own, and how many of these were taken, said what is there already, or have no word.
+export function joinPersonal(text, other) {
+  const { words, hidden } = readPersonal(text);
+  const lines = [];
+  let [there, faults] = [0, 0];
+  for (const line of linesOf(other)) {
+    const { letters, isHidden, score, spelling } = personalLine(line);
+    const isThere = isHidden ? hidden.has(letters) : words.has(letters) && words.get(letters) === score;
+    if (!letters) faults += spelling ? 1 : 0;
+    else if (isThere) there++;
+    else lines.push(line.trim());
+  }
+  return { joined: [text.trimEnd(), ...lines].filter(Boolean).join('\n'), taken: lines.length, there, faults };
+}
+
+// Reads lists as one. A word has its best score, or null if no list gives it one; the personal list decides over the others.
+export function joinLists(sources, personal) {
+  const parts = sources.map((bytes) => readList(bytes));
   const own = readPersonal(personal);
   if (parts.length === 1 && !personal.trim()) return parts[0];
   const scores = new Map();
-  for (const part of parts) for (const word of part.words) scores.set(word, Math.max(scores.get(word) ?? 0, part.scores.get(word) ?? 0));
+  for (const part of parts) for (const word of part.words) scores.set(word, better(scores.get(word) ?? null, part.scores.get(word) ?? null));
   const best = parts.reduce((most, part) => Math.max(most, part.best), 0);
   // a word without a score of its own is as good as the best
-  for (const [word, score] of own.words) if ((score ?? best) >= least) scores.set(word, score ?? Math.max(best, scores.get(word) ?? 0));
+  for (const [word, score] of own.words) scores.set(word, score ?? better(best, scores.get(word) ?? null));
   for (const word of own.hidden) scores.delete(word);
   const scored = parts.some((part) => part.scored);
-  const words = scored ? [...scores].sort(([, a], [, b]) => b - a).map(([word]) => word) : [...scores.keys()];
+  const rank = (score) => score ?? scoreOf(UNSCORED, best);
+  const words = scored ? [...scores].sort(([, a], [, b]) => rank(b) - rank(a)).map(([word]) => word) : [...scores.keys()];
   return { words, scores: scored ? scores : new Map(), scored, best, leftOut: sumOf(parts.map((part) => part.leftOut)), folded: parts.reduce((sum, part) => sum + part.folded, 0) };
 }
+
+const better = (one, other) => (one === null || other === null ? one ?? other : Math.max(one, other));
 
 function sumOf(counts) {
   const sum = {};
@@ -144,10 +170,10 @@ export const wordCount = (count) => `${count.toLocaleString('en')} ${count === 1
 export const foldedText = (folded) => (folded ? `${folded.toLocaleString('en')} without ${folded === 1 ? 'its accent' : 'their accents'}` : '');
 
 // How many lines of a list are left out and why, as in “12 lines left out: 9 that repeat words, 3 with scores below 0”; or ''.
-export function leftOutText(leftOut, least) {
+export function leftOutText(leftOut) {
   const reasons = Object.keys(WHY).filter((reason) => leftOut[reason]);
   const count = reasons.reduce((sum, reason) => sum + leftOut[reason], 0);
   if (!count) return '';
-  const told = reasons.map((reason) => `${leftOut[reason].toLocaleString('en')} ${WHY[reason](leftOut[reason], least)}`);
+  const told = reasons.map((reason) => `${leftOut[reason].toLocaleString('en')} ${WHY[reason](leftOut[reason])}`);
   return `${count.toLocaleString('en')} ${count === 1 ? 'line' : 'lines'} left out: ${told.join(', ')}`;
 }

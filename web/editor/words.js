@@ -1,7 +1,8 @@
 // The tab of words: the candidates of the light under the cursor, and the letters of its cell.
 import { filtered } from './filter.js';
-import { whenIdle } from './idle.js';
+import { onceIdle, whenIdle } from './idle.js';
 import { refuse, refusalText } from './messages.js';
+import { termed } from './terms.js';
 
 // The most candidates that are listed, those of them that are listed at once, and the most words that are counted in one call.
 const MOST_LISTED = 200;
@@ -23,7 +24,6 @@ export class WordsView {
   #countTimer = null;
   #lateTimer = null;
   #restTimer = null;
-  #isHeadDue = false;
   // rises with each change, so that late answers are dropped; the last one whose words are listed
   #turn = 0;
   #answered = 0;
@@ -71,16 +71,15 @@ export class WordsView {
     clearTimeout(this.#timer);
     this.#timer = setTimeout(() => whenIdle(() => this.#ask(this.#turn)), REST);
     this.#showBusy();
-    if (this.#isHeadDue) return;
-    this.#isHeadDue = true;
-    whenIdle(() => this.#head());
+    this.#headSoon();
   }
+
+  #headSoon = onceIdle(() => this.#head());
 
   // The name of the light, and its letters. The candidates of another light stay until those of this one come, but cannot be chosen.
   #head() {
     const { light, board } = this.#editor;
     const { name, spelled } = this.#elements;
-    this.#isHeadDue = false;
     if (!light) {
       setText(name, board.cells[this.#editor.cursor]?.block ? 'A block' : 'No light');
       fit(spelled, this.#boxes, 0, makeBox);
@@ -156,10 +155,12 @@ export class WordsView {
     const { fit, others, scores } = await this.#editor.engine.call('alternatives', { light: light.name, pencil: [...this.#editor.pencil] });
     if (turn !== this.#turn) return;
     this.#left = new Map();
-    this.#isDead = this.#isCounting = false;
+    this.#isDead = false;
+    this.#isCounting = fit.length + others.length > 0;
     this.#needs = new Map(others.map(({ word, needs }) => [word, needs]));
     this.#take(turn, [...fit, ...this.#needs.keys()], scores);
     await this.#askLetters(turn);
+    await this.#probe(turn, light);
   }
 
   // In a dead end: the words that agree with the letters of the light alone.
@@ -169,6 +170,7 @@ export class WordsView {
   }
 
   #take(turn, words, scores) {
+    const pointed = this.#isCurrent ? this.shown[this.#at] : undefined;
     this.#answered = turn;
     if (!this.#isStanding) this.#needs = new Map();
     this.#listed = this.#editor.light?.name ?? '';
@@ -177,17 +179,20 @@ export class WordsView {
     this.#at = -1;
     this.#elements.list.scrollTop = 0;
     this.#list();
+    if (pointed) this.#pointAt(pointed);
   }
 
   #ordered() {
     const words = filtered(this.#words, this.#elements.filter.value);
     if (this.#elements.order.value === 'abc') return [...words].sort();
-    if (this.#elements.order.value !== 'left' || this.#isStanding) return words;
+    if (this.#elements.order.value !== 'left') return words;
     const rank = (word) => {
       const left = this.#left.get(word);
-      return left === 'done' ? Infinity : left ?? -1;
+      return left === 'done' ? Number.MAX_VALUE : left ?? -1;
     };
-    return [...words].sort((a, b) => rank(b) - rank(a));
+    // words that need others changed come last
+    const isNeedy = (word) => Number(this.#needs.has(word));
+    return [...words].sort((a, b) => isNeedy(a) - isNeedy(b) || rank(b) - rank(a));
   }
 
   #list() {
@@ -198,12 +203,14 @@ export class WordsView {
     this.#fillRows(FIRST_LISTED);
     clearTimeout(this.#restTimer);
     this.#restTimer = setTimeout(() => whenIdle(() => this.#fillRows(MOST_LISTED)), ALONE);
+    list.hidden = !words.length && this.#isCurrent;
     list.classList.toggle('dead-end', this.#isDead);
+    list.classList.toggle('alternatives', this.#isStanding && this.#needs.size > 0);
     this.#showBusy();
     setText(legend, this.#legend());
     this.#summary(words.length);
     this.#point();
-    if (filter.value && !this.#isDead && !this.#isStanding) this.#countSoon();
+    if (filter.value && !this.#isDead) this.#countSoon();
   }
 
   // Fills the rows of the first words.
@@ -214,11 +221,13 @@ export class WordsView {
   }
 
   #legend() {
-    if (!this.#words.length) return '';
+    if (!this.#words.length) return this.#isStanding && this.#editor.light ? 'no other word of your lists fits here' : '';
     if (!this.shown.length) return 'no word passes the filter; Esc in it clears it';
-    if (this.#isStanding) return this.#needs.size ? 'beside some words: the crossing words in pencil that they would change' : 'these fit the crossing words as they stand';
     if (this.#isCounting) return 'counting what each word leaves …';
-    return this.#isDead ? 'these agree with the letters of this light alone' : 'the number: words left to the tightest light after it';
+    if (this.#isStanding && this.#needs.size) return 'beside a word: the crossing words that it changes';
+    if (this.#isStanding && ![...this.#left.values()].some((left) => left !== 'done')) return 'these fit the crossing words as they stand';
+    if (this.#isDead) return 'these agree with the letters of this light alone';
+    return this.#scores.size ? 'the numbers: its score, and the words left to the tightest light after it' : 'the number: words left to the tightest light after it';
   }
 
   #summary(count) {
@@ -243,10 +252,12 @@ export class WordsView {
   #fillLeft(row, word) {
     const left = this.#left.get(word);
     const needs = this.#needs.get(word);
-    setClass(row, left === 0 ? 'dead' : needs ? 'needs' : '');
-    const uncounted = this.#isDead || this.#isStanding ? '' : '·';
-    const shown = { done: 'fills the grid', 0: 'dead end', undefined: needs ? needsText(needs) : uncounted };
-    setText(row.parts.left, shown[left] ?? left);
+    setClass(row, [left === 0 ? 'dead' : '', needs ? 'needs' : ''].filter(Boolean).join(' '));
+    const uncounted = this.#isDead ? '' : '·';
+    // in a grid that is filled each word that fits fills it
+    const shown = { done: this.#isStanding ? '' : 'fills the grid', 0: 'dead end', undefined: uncounted };
+    setText(row.parts.left, needs && left !== 0 ? needsText(needs) : shown[left] ?? left);
+    setTitle(row.parts.left, needs ? `changes ${needsText(needs)}` : LEFT_TITLE);
   }
 
   // What each of the first words leaves, and then those in sight.
@@ -287,8 +298,18 @@ export class WordsView {
         [answers, shownAt] = [{}, performance.now()];
       }
       if (isEnd) return this.#counted();
-      Object.assign(answers, await engine.call('probe', { light: light.name, words }));
+      const { left, taken } = await engine.call('probe', { light: light.name, words, cleared: this.#cleared(light, words) });
+      if (turn !== this.#turn) return undefined;
+      Object.assign(answers, left);
+      for (const word of words) if (taken[word] > 0) this.#needs.set(word, []);
     }
+  }
+
+  // The letters in pencil that placing a word clears, by the words that need that: those of the crossing lights in its way, or else of all.
+  #cleared(light, words) {
+    const cells = (names) => this.#editor.pencilledAcross(light, names);
+    const needy = words.filter((word) => this.#needs.has(word));
+    return Object.fromEntries(needy.map((word) => [word, [cells(this.#needs.get(word)), cells([])]]));
   }
 
   #inSight() {
@@ -310,7 +331,7 @@ export class WordsView {
   }
 
   scrolled() {
-    if (!this.#isDead && !this.#isStanding) this.#countSoon();
+    if (!this.#isDead) this.#countSoon();
   }
 
   // The feasible letters of the cell, with what they leave across and down.
@@ -368,6 +389,12 @@ export class WordsView {
     }
   }
 
+  // Points at a word again after the list was asked for anew, if the word is still in it.
+  #pointAt(word) {
+    this.#at = this.shown.indexOf(word);
+    this.#point();
+  }
+
   #point() {
     const { list, filter } = this.#elements;
     for (const row of list.querySelectorAll('[aria-selected=true]')) row.removeAttribute('aria-selected');
@@ -396,11 +423,11 @@ export class WordsView {
 
 function alternativesText(fit, others) {
   const text = `${fit.toLocaleString('en')} ${fit === 1 ? 'other word fits' : 'other words fit'}`;
-  return others ? `${fit.toLocaleString('en')} fit, ${others} with changes` : text;
+  return others ? `${fit.toLocaleString('en')} fit, ${others} others` : text;
 }
 
-// The lights that would change, as in “5D 7D”; or that letters farther off would.
-const needsText = (names) => names.map((name) => name.replace(/ (.).*/, (_, letter) => letter.toUpperCase())).join(' ') || 'farther off';
+// The lights that would change, as in “5D 7D”; or all that cross.
+const needsText = (names) => names.map((name) => name.replace(/ (.).*/, (_, letter) => letter.toUpperCase())).join(' ') || 'all crossings';
 
 export const titleOf = (light) => `${light.number} ${light.direction === 'across' ? 'Across' : 'Down'}`;
 
@@ -414,7 +441,7 @@ function fit(parent, elements, count, make) {
 }
 
 function setText(element, text) {
-  const spelled = String(text);
+  const spelled = termed(String(text));
   if (element.firstChild?.data === spelled) return;
   if (element.firstChild) element.firstChild.data = spelled;
   else element.append(spelled);
@@ -424,6 +451,13 @@ function setClass(element, name) {
   if (element.className !== name) element.className = name;
 }
 
+function setTitle(element, title) {
+  const spelled = termed(title);
+  if (element.title !== spelled) element.title = spelled;
+}
+
+const LEFT_TITLE = 'the least number of words that a light has then';
+
 const makeBox = () => document.createElement('span');
 
 function makeRow(at) {
@@ -432,7 +466,7 @@ function makeRow(at) {
   row.setAttribute('role', 'option');
   row.id = `word-${at}`;
   row.parts = {
-    name: document.createElement('span'), score: small('score', 'score'), left: small('left', 'the least number of words that a light has then'),
+    name: document.createElement('span'), score: small('score', 'score'), left: small('left', LEFT_TITLE),
     strike: small('strike', 'hide this word in this puzzle (Shift Delete)'),
   };
   setText(row.parts.strike, '×');

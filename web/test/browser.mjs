@@ -1,21 +1,24 @@
 // A headless Chromium, driven by its debugging protocol: real keys and clicks on a page.
 import { spawn } from 'node:child_process';
-import { mkdtempSync, rmSync } from 'node:fs';
+import { mkdtempSync, readFileSync, rmSync } from 'node:fs';
 import { tmpdir } from 'node:os';
 import { join } from 'node:path';
 
 const CODES = {
   Enter: 13, Tab: 9, Backspace: 8, Delete: 46, Escape: 27, Home: 36, End: 35, ArrowLeft: 37, ArrowUp: 38, ArrowRight: 39, ArrowDown: 40,
   F1: 112, F2: 113, F3: 114, F4: 115, F6: 117, '.': 190, '|': 220, _: 189, '*': 56, '=': 187, '+': 187, '?': 191, '/': 191,
-  '-': 189, ';': 186,
+  '-': 189, ';': 186, ',': 188, "'": 222, '(': 57, ')': 48, '&': 55, '%': 53, '#': 51, '$': 52, '!': 49, '"': 222,
 };
 
-// After so many milliseconds a page counts as hanging. No wait is for time to pass, so this is far above what a slow machine needs.
-const HANGS = 600000;
+// After so many milliseconds a page counts as hanging, unless the environment has another number. No wait is for time to pass, so this is far above
+// what a slow machine needs.
+export const HANGS = Number(process.env.HANGS ?? 600000);
 // How often what changes outside of the document, as in a store, is looked at.
 const LOOKS_EACH = 100;
 
 export class Browser {
+  // what the cases may need that this browser does not tell or do
+  lacks = new Set();
   #process;
   #host;
   #folder;
@@ -109,10 +112,27 @@ export class Browser {
     return new Promise((resolve, reject) => this.#waiting.set(id, { resolve, reject }));
   }
 
+  // Promises that the page is loaded again.
+  reloaded() {
+    return new Promise((resolve) => this.on('Page.loadEventFired', resolve));
+  }
+
   async go(url) {
-    const loaded = new Promise((resolve) => this.on('Page.loadEventFired', resolve));
+    const loaded = this.reloaded();
     await this.send('Page.navigate', { url });
     await loaded;
+  }
+
+  // Has a script run in each page before its own; returns what takes it away again.
+  async preload(source) {
+    const { identifier } = await this.send('Page.addScriptToEvaluateOnNewDocument', { source });
+    return () => this.send('Page.removeScriptToEvaluateOnNewDocument', { identifier });
+  }
+
+  // Drops a file on the page.
+  async drop(path) {
+    const data = { items: [], files: [path], dragOperationsMask: 1 };
+    for (const type of ['dragEnter', 'dragOver', 'drop']) await this.send('Input.dispatchDragEvent', { type, x: 300, y: 300, data });
   }
 
   // The value of an expression in the page; a promise is awaited.
@@ -155,35 +175,35 @@ export class Browser {
     for (const character of text) await this.press(character);
   }
 
-  // The middle of an element, when it is there and stays where it is for two frames.
   #middle(selector) {
-    return this.until(`(async () => {
-      const middle = () => {
-        const element = document.querySelector(${JSON.stringify(selector)});
-        if (!element) return null;
-        element.scrollIntoView({ block: 'nearest' });
-        const { x, y, width, height } = element.getBoundingClientRect();
-        return width ? { x: x + width / 2, y: y + height / 2 } : null;
-      };
-      const [one] = [middle(), await new Promise((resolve) => {
-        requestAnimationFrame(() => requestAnimationFrame(resolve));
-        // a page behind others has no frames
-        setTimeout(resolve, ${LOOKS_EACH});
-      })];
-      const other = middle();
-      return one && other && one.x === other.x && one.y === other.y ? other : null;
-    })()`);
+    return this.until(middleOf(selector));
   }
 
   #mouse(type, point, modifiers = 0, buttons = 1) {
     return this.send('Input.dispatchMouseEvent', { type, ...point, button: 'left', buttons, clickCount: 1, modifiers });
   }
 
+  // Clicks an element. A click that meets another one, since the page moved meanwhile, is kept from it and made again.
   async click(selector, modifiers = 0) {
-    const point = await this.#middle(selector);
-    await this.#mouse('mouseMoved', point, modifiers, 0);
-    await this.#mouse('mousePressed', point, modifiers);
-    await this.#mouse('mouseReleased', point, modifiers, 0);
+    let isMissed = true;
+    while (isMissed) {
+      const point = await this.#middle(selector);
+      await this.value(guardOf(selector, point));
+      await this.#mouse('mouseMoved', point, modifiers, 0);
+      await this.#mouse('mousePressed', point, modifiers);
+      await this.#mouse('mouseReleased', point, modifiers, 0);
+      isMissed = await this.#isMissed();
+    }
+  }
+
+  // Whether the last click met another element. The page may have been left by it, and then it did not.
+  async #isMissed() {
+    try {
+      return await this.value('window.endGuard?.() ?? false');
+    } catch (error) {
+      if (/navigated|context was destroyed|Cannot find context/.test(error.message)) return false;
+      throw error;
+    }
   }
 
   async drag(from, to) {
@@ -223,17 +243,18 @@ export class Browser {
 
   // Has files saved into a folder.
   saveInto(folder) {
+    this.folder = folder;
     return this.send('Browser.setDownloadBehavior', { behavior: 'allow', downloadPath: folder, eventsEnabled: true });
   }
 
-  // Promises the name of the next file that the page saves, when it is there.
+  // Promises the name and the bytes of the next file that the page saves.
   download() {
     return new Promise((resolve) => {
       let name;
       this.on('Browser.downloadWillBegin', ({ suggestedFilename }) => {
         name = suggestedFilename;
       });
-      this.on('Browser.downloadProgress', ({ state }) => state === 'completed' && resolve(name));
+      this.on('Browser.downloadProgress', ({ state }) => state === 'completed' && resolve({ name, bytes: readFileSync(join(this.folder, name)) }));
     });
   }
 
@@ -242,6 +263,11 @@ export class Browser {
     await this.send('Emulation.setDeviceMetricsOverride', { width, height, deviceScaleFactor: isTouched ? 2 : 1, mobile: isTouched });
     await this.send('Emulation.setTouchEmulationEnabled', { enabled: isTouched });
     await this.send('Emulation.setEmulatedMedia', { features: [{ name: 'prefers-color-scheme', value: scheme }] });
+  }
+
+  // The colours that the page is asked for: `light` or `dark`.
+  scheme(value) {
+    return this.send('Emulation.setEmulatedMedia', { features: [{ name: 'prefers-color-scheme', value }] });
   }
 
   async picture() {
@@ -263,8 +289,47 @@ export class Browser {
   }
 }
 
+// The expression of the middle of an element, when it is there and stays where it is for two frames; else null.
+export const middleOf = (selector) => `(async () => {
+  const middle = () => {
+    const element = document.querySelector(${JSON.stringify(selector)});
+    if (!element) return null;
+    element.scrollIntoView({ block: 'nearest' });
+    const { x, y, width, height } = element.getBoundingClientRect();
+    return width ? { x: x + width / 2, y: y + height / 2 } : null;
+  };
+  const [one] = [middle(), await new Promise((resolve) => {
+    requestAnimationFrame(() => requestAnimationFrame(resolve));
+    // a page behind others has no frames
+    setTimeout(resolve, ${LOOKS_EACH});
+  })];
+  const other = middle();
+  return one && other && one.x === other.x && one.y === other.y ? other : null;
+})()`;
+
+// The expression that keeps the next click from any element outside of those that a selector names. Where another element covers
+// these, as a label does, it lets all pass.
+const guardOf = (selector, { x, y }) => `(() => {
+  const isWanted = (target) => target instanceof Element && target.closest(${JSON.stringify(selector)}) !== null;
+  if (!isWanted(document.elementFromPoint(${x}, ${y}))) return;
+  const kinds = ['pointerdown', 'mousedown', 'pointerup', 'mouseup', 'click'];
+  let isMissed = false;
+  const listener = (event) => {
+    if (event.type === 'pointerdown') isMissed = !isWanted(event.target);
+    if (!isMissed) return;
+    event.stopImmediatePropagation();
+    event.preventDefault();
+  };
+  for (const kind of kinds) window.addEventListener(kind, listener, true);
+  window.endGuard = () => {
+    for (const kind of kinds) window.removeEventListener(kind, listener, true);
+    delete window.endGuard;
+    return isMissed;
+  };
+})()`;
+
 // The expression of a promise that is kept once another expression is true.
-const waitFor = (expression, most) => `new Promise((resolve, reject) => {
+export const waitFor = (expression, most) => `new Promise((resolve, reject) => {
   let fault = '';
   const wanted = async () => (${expression});
   const end = (action, value) => {

@@ -2,8 +2,8 @@
 //
 //   node --experimental-websocket web/test/example.mjs
 //
-// It needs ./build web, Debian's package chromium, and a Node with WebSocket (20.10 with the option above, or 22). tests/library runs the
-// example in Node.
+// It needs ./build web, Debian's package chromium, and a Node with WebSocket (20.10 with the option above, or 22). tests/page runs it.
+// tests/library runs the example in Node.
 import { deepStrictEqual } from 'node:assert/strict';
 import { readFileSync } from 'node:fs';
 import { createServer } from 'node:http';

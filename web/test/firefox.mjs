@@ -1,4 +1,5 @@
-// Tests the built page in Firefox, by keys: a word, a fill, a reload; a barred grid with two fills to choose from; grids around theme entries.
+// Tests the built page in Firefox, by keys: a word, a fill, a reload; a barred grid with fills to choose from; grids around theme entries; a raised
+// fill.
 //
 //   node --experimental-websocket web/test/firefox.mjs
 //
@@ -106,8 +107,9 @@ const isFilled = () => firefox.until("/filled/.test(document.getElementById('fac
 
 const CASES = {
   'a word, a fill and a reload': wordFillReload,
-  'a barred grid with two fills to choose from': barredFills,
+  'a barred grid with fills to choose from': barredFills,
   'grids around theme entries, judged': themes,
+  'a raised fill, weak words and the least score': raisedFill,
 };
 
 async function wordFillReload() {
@@ -131,7 +133,7 @@ async function barredFills() {
   await firefox.press(CONTROL, 'f');
   await isFilled();
   await firefox.press(CONTROL, 'g');
-  await firefox.until("document.querySelectorAll('#fills-list .fill').length === 2 && document.querySelector('#fills-list .fill:first-child[aria-pressed=true]')");
+  await firefox.until("document.querySelectorAll('#fills-list .fill').length === 3 && document.querySelector('#fills-list .fill:first-child[aria-pressed=true]')");
   await firefox.act("document.querySelector('#fills-list .fill:nth-child(2)').click()");
   await firefox.until("document.querySelector('#fills-list .fill:nth-child(2)[aria-pressed=true]')");
 }
@@ -142,6 +144,29 @@ async function themes() {
   await firefox.until("[...document.querySelectorAll('#themes-grids small')].every(({ textContent }) => /fill|word/.test(textContent))");
   await firefox.act("document.querySelector('#themes-grids .pattern').click()");
   await factsAre(/^15 × 15 · 27 of/);
+}
+
+async function raisedFill() {
+  const list = 'ab;90\\ncd;80\\nac;70\\nbd;60\\nef;75\\ngh;85\\neg;65\\nfh;95\\n';
+  await firefox.act(`(() => {
+    const data = new DataTransfer();
+    data.items.add(new File(['${list}'], 'squares.txt'));
+    document.getElementById('picker').files = data.files;
+    document.getElementById('picker').dispatchEvent(new Event('change'));
+  })()`);
+  await factsAre(/squares.txt, 8 words/);
+  await firefox.act("document.querySelector('[data-do=new]').click(), document.getElementById('new-width').value = 2, document.getElementById('new-height').value = 2, document.getElementById('new-blank').click()");
+  await factsAre(/^2 × 2 · 0 of/);
+  await firefox.press(CONTROL, 'f');
+  await firefox.until("document.getElementById('figures-text').textContent === 'worst 65, mean 80; no fill is better'");
+  await firefox.act("document.getElementById('weak').value = 70, document.getElementById('weak').dispatchEvent(new Event('change'))");
+  await firefox.until("document.querySelectorAll('.weak-across, .weak-down').length === 2");
+  await firefox.act("document.getElementById('least').value = 66, document.getElementById('least').dispatchEvent(new Event('input')), document.getElementById('least').dispatchEvent(new Event('change'))");
+  await firefox.until("document.getElementById('least-left').textContent === '6 of 8 words'");
+  await firefox.press(CONTROL, 'z');
+  await factsAre(/^2 × 2 · 0 of/);
+  await firefox.press(CONTROL, 'f');
+  await firefox.until("/there is no fill/.test(document.getElementById('status').textContent)");
 }
 
 let [passed, failed] = [0, 0];

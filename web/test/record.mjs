@@ -9,6 +9,9 @@ const source = readFileSync(new URL('../editor/record.js', import.meta.url));
 const { bodyOf, escapeText, parseRecord, textLines, transition, unescapeText } = await import(`data:text/javascript;base64,${source.toString('base64')}`);
 
 const LIST = 'cat\ncot\ncut\near\noar\ntea\ntoe\nare\ntar\nate\ntone\nrote\n';
+const LIST_WORDS = LIST.trim().split('\n');
+// the grade of a word of the list, which has no scores
+const GRADE = 50;
 const module = await load(readFileSync(new URL('../dist/xw.wasm', import.meta.url)));
 
 let seed = 20240601;
@@ -37,11 +40,20 @@ function someEdit(width, height) {
   return one([
     () => [`set ${coordinates} ${one([...'ABCDE'])}`], () => [`set ${coordinates} ${one([...'ABCDE'])}`], () => [`clear ${coordinates}`], () => [`block ${coordinates}`],
     () => [`bar ${coordinates} ${one(['right', 'below'])}`], () => [`circle ${coordinates}`], () => [`sym ${one(['none', 'half', 'quarter', 'leftright', 'updown'])}`],
-    () => [`strike ${one(LIST.trim().split('\n'))}`], () => [`add ${one(['new', 'newer', 'cat', 'zzz'])}`], () => [`strike ${one(['new', 'zzz'])}`], texts,
+    () => [`strike ${one(LIST_WORDS)}`], () => [`add ${one(['new', 'newer', 'cat', 'zzz'])}`], () => [`strike ${one(['new', 'zzz'])}`], texts,
+    // a word of another grade, and one that a least grade left out
+    () => [`strike ${one(LIST_WORDS)}`, `add ${one([...LIST_WORDS, 'new'])} ${below(101)}`], () => ['least 70', `add ${one(LIST_WORDS)}`, 'least 0'],
   ])();
 }
 
-const activeWords = (xw) => [2, 3, 4, 5].map((length) => toText(send(xw, `match ${'.'.repeat(length)}`).answer)).join();
+// The active words at several least grades, so that their grades count too.
+function activeWords(xw) {
+  const at = (grade) => {
+    send(xw, `least ${grade}`);
+    return [2, 3, 4, 5].map((length) => toText(send(xw, `match ${'.'.repeat(length)}`).answer).split('\n').sort().join(' '));
+  };
+  return [0, 20, 40, 50, 51, 70, 71, 100].map(at).join('; ');
+}
 
 function check(isSo, what) {
   if (isSo) return;
@@ -58,13 +70,15 @@ for (let round = 0; round < rounds; round++) {
   const size = [1 + below(6), 1 + below(6)];
   const [before, after] = [someSession(...size), someSession(...(below(3) ? size : [1 + below(6), 1 + below(6)]))];
   const xw = Xw.open(module, { list: LIST, record: before });
-  const lines = transition(before, after);
+  const { words, rest } = transition(before, after, () => GRADE);
+  // while a least grade leaves words out, those that come back would get it
+  const lines = ['least 60', 'least 0', ...words, 'least 60', ...rest];
   if (lines.some((line) => line.startsWith('size'))) whole++;
   for (const line of lines) check(line.length <= 4096, 'a line is too long');
   for (const line of lines) send(xw, line);
   check(bodyOf(recordOf(xw)).join('\n') === bodyOf(after).join('\n'), `round ${round} leads elsewhere:\n${lines.join('\n')}`);
   const there = Xw.open(module, { list: LIST, record: after });
-  check([...activeWords(xw)].sort().join('') === [...activeWords(there)].sort().join(''), `round ${round} has other words`);
+  check(activeWords(xw) === activeWords(there), `round ${round} has other words:\n${words.join('\n')}\n${activeWords(xw)}\n${activeWords(there)}`);
   check(parseRecord(recordOf(xw)).letters.size === parseRecord(after).letters.size, `round ${round} has other letters`);
 }
 console.log(`ok   ${rounds} pairs of sessions, ${whole} by the whole record`);

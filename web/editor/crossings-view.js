@@ -1,0 +1,52 @@
+// The lights that cross the one under the cursor, with their letters and the number of words that each has left.
+import { onceIdle } from './idle.js';
+import { titleOf } from './words.js';
+
+export class CrossingsView {
+  #editor;
+  #root;
+  #rows = [];
+
+  // `go` goes to a light, at a cell.
+  constructor(editor, root, go) {
+    this.#editor = editor;
+    this.#root = root;
+    const soon = onceIdle(() => this.#show());
+    for (const name of ['whole', 'letters', 'move']) editor.addEventListener(name, soon);
+    root.addEventListener('click', ({ target }) => {
+      const row = target.closest('button');
+      const light = row && editor.board.byName.get(row.dataset.light);
+      if (light) go(light, Number(row.dataset.cell));
+    });
+  }
+
+  #show() {
+    const { board, light } = this.#editor;
+    const crossing = (light?.cells ?? []).map((cell) => ({ cell, other: board.through(cell).find((one) => one !== light) })).filter(({ other }) => other);
+    this.#root.hidden = !crossing.length;
+    while (this.#rows.length < crossing.length) this.#rows.push(makeCrossing());
+    const list = this.#root.lastElementChild;
+    while (list.childElementCount > crossing.length) list.lastElementChild.remove();
+    crossing.forEach(({ cell, other }, at) => {
+      const { root, name, word, count } = this.#rows[at];
+      if (!root.parentElement) list.append(root);
+      const isEntered = board.isEntered(other);
+      Object.assign(root.dataset, { light: other.name, cell });
+      put(name, titleOf(other));
+      put(word, board.spell(other).replaceAll('.', '·'));
+      put(count, isEntered ? '' : other.count.toLocaleString('en'));
+      root.className = `crossing${isEntered ? ' entered' : other.count ? '' : ' dead'}`;
+      root.setAttribute('aria-label', isEntered ? `${titleOf(other)}, ${board.spell(other)}` : `${titleOf(other)}, ${other.count} words left`);
+    });
+  }
+}
+
+function makeCrossing() {
+  const root = Object.assign(document.createElement('button'), { type: 'button' });
+  const [name, word, count] = ['b', 'span', 'small'].map((kind) => root.appendChild(document.createElement(kind)));
+  return { root, name, word, count };
+}
+
+function put(element, text) {
+  if (element.textContent !== text) element.textContent = text;
+}

@@ -1,0 +1,27 @@
+// Enumerations: the lengths of the words of an answer at the end of its clue, as in “(3,5)”, “(2-4, 6)”, “(1’1,4)” or “(3 wds.)”.
+
+const WORDS = '(wds?|words?|letters?|hyph|hyphenated|abbr)';
+const LAST = new RegExp(`\\(\\s*(\\d{1,2}(?:\\s*[-‐–—,;.'’/\\s]\\s*\\d{1,2})*)((?:[\\s,;]+${WORDS}\\.?)*)\\s*\\)[\\s.]*$`, 'i');
+
+// Whether a clue ends with an enumeration. A number of three digits or more, as of a year, is no length.
+export const hasEnumeration = (clue) => LAST.test(clue);
+
+// A clue without its enumeration, and that: as the clue has it, or the length of the word.
+export function enumerated(clue, length) {
+  if (!hasEnumeration(clue)) return { text: clue, enumeration: `(${length})` };
+  const at = clue.lastIndexOf('(');
+  return { text: clue.slice(0, at).trim(), enumeration: clue.slice(at).trim() };
+}
+
+// A clue with an enumeration: its own, or the length of the word.
+export function withEnumeration(clue, length) {
+  const { text, enumeration } = enumerated(clue.trim(), length);
+  return `${text} ${enumeration}`.trim();
+}
+
+// How many letters the enumeration of a clue counts; null if the clue has none, or one that counts something else, as “(3 wds.)” does.
+export function enumeratedLength(clue) {
+  const [, lengths, words] = LAST.exec(clue) ?? [];
+  if (!lengths || /w|hyph/i.test(words)) return null;
+  return lengths.match(/\d+/g).reduce((sum, length) => sum + Number(length), 0);
+}

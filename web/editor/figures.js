@@ -1,0 +1,106 @@
+// How good the words in the grid are: the worst, the mean, and how many are weak, which are marked; and what is proved of fills.
+import { figuresOf, figuresText, gradeOf, scoreOf } from './grades.js';
+import { whenIdle } from './idle.js';
+import { wordsOf } from './record.js';
+import { titleOf } from './words.js';
+
+export class Figures {
+  #editor;
+  #grid;
+  #elements;
+  #turn = 0;
+  // what was measured last, so that a letter in a word that is not whole asks nothing
+  #measured = '';
+  // the figures, and the score of each light that has one; none without scores
+  #figures = null;
+  /** @type {Map<string, number>} */
+  #scores = new Map();
+  // what is proved: { bound, names, key }, a grade at which there is no fill of the lights with these names, or of all lights
+  #proof = null;
+
+  // `elements` are the box, the text in it, and the button that goes to the worst word.
+  constructor(editor, grid, elements, go) {
+    this.#editor = editor;
+    this.#grid = grid;
+    this.#elements = elements;
+    this.go = go;
+    for (const name of ['step', 'whole']) editor.addEventListener(name, () => this.#soon());
+  }
+
+  #soon() {
+    const turn = ++this.#turn;
+    whenIdle(() => turn === this.#turn && this.#show().catch(() => {}));
+  }
+
+  async #show() {
+    await this.#measure();
+    this.#tell();
+  }
+
+  // Takes over what is proved of the fill in the grid, and returns what is said of it.
+  async prove({ bound, names }) {
+    this.#proof = { bound, names, key: this.#key() };
+    await this.#show();
+    return this.text;
+  }
+
+  // What a proof rests on: the grid, its letters in ink, and the words.
+  #key() {
+    const { board, pencil, record, list } = this.#editor;
+    const cells = board.cells.map((cell) => `${cell.block ? '#' : pencil.has(cell.coordinates) ? '' : cell.letter}${cell.right ? '|' : ''}${cell.below ? '_' : ''}`);
+    return [cells, wordsOf(record), list.name, list.words, list.personal].join();
+  }
+
+  // The entered lights, if words have scores, and all that their figures rest on.
+  #entered() {
+    const { board, list } = this.#editor;
+    const lights = list.scored ? board.lights.filter((light) => board.isEntered(light)) : [];
+    const words = lights.map((light) => board.spell(light));
+    return { lights, words, all: [lights.map(({ name }) => name), words, list.weak, list.name, list.words].join() };
+  }
+
+  async #measure() {
+    const { lights, words, all } = this.#entered();
+    if (all === this.#measured) return;
+    const scores = lights.length ? await this.#editor.engine.call('grades', { words }) : [];
+    // an edit that came meanwhile is measured for itself
+    if (all !== this.#entered().all) return;
+    const { weak } = this.#editor.list;
+    this.#measured = all;
+    this.#figures = figuresOf(scores, weak);
+    this.#scores = new Map(lights.map((light, at) => /** @type {[string, number]} */ ([light.name, scores[at]])).filter(([, score]) => score !== null));
+    this.#grid.showWeak(lights.filter(({ name }) => this.#scores.get(name) < weak));
+  }
+
+  // What is said of the words in the grid; or ''.
+  get text() {
+    return this.#figures ? `${figuresText(this.#figures)}${this.#proofText()}` : '';
+  }
+
+  // What is proved of the words that a fill made.
+  #proofText() {
+    const { board, pencil, list } = this.#editor;
+    const proof = this.#proof;
+    if (!proof || proof.bound > 100 || proof.key !== this.#key()) return '';
+    const isOwn = (light) => (!proof.names.length || proof.names.includes(light.name)) && light.cells.some((cell) => pencil.has(board.cells[cell].coordinates));
+    const own = board.lights.filter((light) => this.#scores.has(light.name) && isOwn(light)).map(({ name }) => this.#scores.get(name));
+    if (!own.length) return '';
+    const worst = Math.min(...own);
+    const isBest = proof.bound <= gradeOf(worst, list.best) + 1;
+    const text = `no fill${proof.names.length ? ' of these lights' : ''} is better${isBest ? '' : ` than ${scoreOf(proof.bound, list.best) - 1}`}`;
+    return worst > this.#figures.worst ? `; the fill’s worst ${worst}, and ${text}` : `; ${text}`;
+  }
+
+  #tell() {
+    const { box, text, worst } = this.#elements;
+    box.hidden = !this.#figures;
+    if (!this.#figures) return;
+    const { board } = this.#editor;
+    const [name] = [...this.#scores].find(([, score]) => score === this.#figures.worst);
+    const light = board.byName.get(name);
+    if (text.textContent !== this.text) text.textContent = this.text;
+    worst.textContent = `Worst: ${board.spell(light)}`;
+    worst.title = `Go to the worst word, ${titleOf(light)}`;
+    worst.onclick = () => this.go(board.byName.get(name) ?? light);
+  }
+}

@@ -1,0 +1,92 @@
+// The least score of a word, as a slider beside the candidates with what it leaves, and the score below which words are marked.
+import { gradeOf, scoreOf } from './grades.js';
+import { wordCount } from './word-list.js';
+
+// How many words of the lists in use a least grade leaves.
+export const leftOf = ({ byGrade }, grade) => byGrade.slice(grade).reduce((sum, count) => sum + count, 0);
+
+export class LeastView {
+  #editor;
+  #elements;
+  // the grade that is wanted, while the engine takes one over
+  #wanted = null;
+  /** @type {Promise<void> | null} */
+  #taking = null;
+  // whether the slider is moved by a pointer, after which letters go to the grid again
+  #isPointed = false;
+
+  // `actions`: `mayChange` tells whether the words can change now, `use` has the engine take a least score, `kept` is told of the one that is chosen,
+  // `weak` of another score to mark words below, and `toGrid` goes back to the grid.
+  constructor(editor, elements, actions) {
+    this.#editor = editor;
+    this.#elements = elements;
+    this.actions = actions;
+    const { slider, weak } = elements;
+    slider.addEventListener('pointerdown', () => {
+      this.#isPointed = true;
+    });
+    slider.addEventListener('input', () => this.#move());
+    slider.addEventListener('change', () => this.#chosen());
+    weak.addEventListener('change', () => {
+      const score = Number(weak.value);
+      if (weak.value && score >= 0) actions.weak(score);
+      else this.show();
+    });
+  }
+
+  // Shows what the lists in use have.
+  show() {
+    const { scored, best, grade, weak } = this.#editor.list;
+    const { row, slider } = this.#elements;
+    row.hidden = !scored;
+    if (!scored) return;
+    slider.max = String(gradeOf(best, best));
+    slider.value = String(grade);
+    this.#elements.weak.max = String(best);
+    this.#elements.weak.value = String(weak);
+    this.#showLeft(grade);
+  }
+
+  #showLeft(grade) {
+    const { list } = this.#editor;
+    const { shown, left } = this.#elements;
+    shown.textContent = String(scoreOf(grade, list.best));
+    left.textContent = grade ? `${leftOf(list, grade).toLocaleString('en')} of ${wordCount(list.words)}` : `all ${wordCount(list.words)}`;
+    left.classList.toggle('none', leftOf(list, grade) === 0);
+  }
+
+  #move() {
+    if (!this.actions.mayChange()) return this.show();
+    this.#wanted = Number(this.#elements.slider.value);
+    this.#showLeft(this.#wanted);
+    return this.#take();
+  }
+
+  // Has the engine take over the grade that is wanted, and after it the one that is wanted by then.
+  #take() {
+    this.#taking ??= this.#takeAll().finally(() => {
+      this.#taking = null;
+    });
+    return this.#taking;
+  }
+
+  async #takeAll() {
+    while (this.#wanted !== null) {
+      const grade = this.#wanted;
+      this.#wanted = null;
+      await this.actions.use(scoreOf(grade, this.#editor.list.best));
+    }
+  }
+
+  async #chosen() {
+    const isPointed = this.#isPointed;
+    this.#isPointed = false;
+    if (this.actions.mayChange()) {
+      this.#wanted = Number(this.#elements.slider.value);
+      await this.#take();
+      this.actions.kept();
+    }
+    this.show();
+    if (isPointed) this.actions.toGrid();
+  }
+}

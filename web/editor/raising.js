@@ -1,0 +1,134 @@
+// The raising of a fill: its worst word gets better by `best` in slices, in workers beside the one of the session, each with a seed of its own. The
+// fill that is in the grid can be edited meanwhile, which ends the raising.
+import { MOST } from './grades.js';
+
+// The placements of a slice.
+const PLACEMENTS = 1000;
+// how long a raising takes at most, once it has words, and how long one worker is alone, in milliseconds
+const LONGEST = 2000;
+const ALONE = 300;
+// the seed of one worker lies so far from that of the next
+const SEEDS = 1000003;
+
+// what a search tells that was not refused
+const ANSWERS = new Set(['filled', 'nofill', 'limit']);
+
+/**
+ * @typedef {{
+ *   record: string, base: string, names: string, cells: string[], seed: number, grade: number, bound: number, isOver: boolean, isStopped: boolean,
+ *   isChanged: boolean, isEntering: boolean, pencil: string, end: () => void,
+ * }} Race
+ */
+
+export class Raiser {
+  #editor;
+  #helpers;
+  /** @type {Race | null} */
+  #race = null;
+
+  // `raised` is told of each better fill in the grid.
+  constructor(editor, helpers, raised) {
+    this.#editor = editor;
+    this.#helpers = helpers;
+    this.raised = raised;
+    editor.addEventListener('step', () => this.#stepped());
+  }
+
+  get isRunning() {
+    return this.#race !== null;
+  }
+
+  // Ends the raising; what is in the grid stays.
+  stop() {
+    if (!this.#race) return;
+    this.#race.isStopped = true;
+    this.#race.end();
+  }
+
+  // Another edit than its own ends the raising too.
+  #stepped() {
+    const race = this.#race;
+    if (!race || race.isEntering) return;
+    const { record, pencil } = this.#editor;
+    if (record === race.record && String([...pencil]) === race.pencil) return;
+    race.isChanged = true;
+    race.end();
+  }
+
+  // Raises the fill in the grid: `base` is the record without the letters of its cells, `names` are those of its lights, as a line has them, and
+  // `grade` is that of its worst word. Returns the grade that it has then, a grade at which there is no fill, and how it ended.
+  async run({ base, names, cells, seed, grade }) {
+    const editor = this.#editor;
+    const race = { base, names, cells, seed, grade, bound: MOST + 1, record: editor.record, pencil: String([...editor.pencil]), isOver: false, isStopped: false, isChanged: false, isEntering: false, end: () => {} };
+    const ended = new Promise((resolve) => {
+      race.end = () => {
+        race.isOver = true;
+        resolve(undefined);
+      };
+    });
+    this.#race = race;
+    if (grade >= MOST) race.end();
+    else this.#join(race, 0, 1);
+    const joining = setTimeout(() => this.#join(race, 1, this.#helpers.most), ALONE);
+    await ended;
+    clearTimeout(joining);
+    this.#race = null;
+    return race;
+  }
+
+  // Has workers join, from one number to another.
+  #join(race, from, to) {
+    if (race.isOver || to <= from) return;
+    this.#helpers.begin(race.base, to, from).forEach((begun, at) => this.#climb(race, begun, race.seed + SEEDS * (from + at), from + at === 0));
+  }
+
+  async #climb(race, begun, seed, isFirst) {
+    try {
+      const engine = await begun;
+      if (isFirst) setTimeout(race.end, LONGEST);
+      let [least, isQuick] = [0, false];
+      while (!race.isOver) {
+        const wanted = race.grade + 1;
+        const isNew = wanted !== least;
+        // any better fill is found soon; after one, and where there is none soon, the best one is looked for
+        isQuick = isNew && !isQuick;
+        const told = await engine.call('best', { least: isNew ? wanted : null, isQuick, limits: `${PLACEMENTS} ${seed}${race.names}`, cells: race.cells });
+        least = wanted;
+        if (!race.isOver) await this.#take(race, told, wanted);
+      }
+    } catch (fault) {
+      // a worker that fails leaves the race to the others; without the first there is none
+      if (!fault.status) throw fault;
+      if (isFirst) race.end();
+    }
+  }
+
+  // Takes what a slice tells that looked for a fill at a grade.
+  async #take(race, told, wanted) {
+    if (!ANSWERS.has(told.answer)) return race.end();
+    race.bound = Math.min(race.bound, told.answer === 'nofill' ? wanted : told.bound ?? MOST + 1);
+    if (told.answer === 'filled' && told.grade > race.grade) {
+      race.grade = told.grade;
+      await this.#enter(race, told.letters);
+    }
+    return race.bound <= race.grade + 1 ? race.end() : undefined;
+  }
+
+  // Puts a better fill into the grid, in the step of the history that the first one made.
+  async #enter(race, letters) {
+    const editor = this.#editor;
+    const isOther = (line) => {
+      const [, row, column, letter] = line.split(' ');
+      return editor.cellAt(`${row} ${column}`)?.letter !== letter;
+    };
+    race.isEntering = true;
+    const refused = await editor.edit(letters.filter(isOther), { only: race.record });
+    race.isEntering = false;
+    if (refused) {
+      race.isChanged = true;
+      return race.end();
+    }
+    race.record = editor.record;
+    return this.raised();
+  }
+}

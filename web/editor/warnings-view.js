@@ -1,0 +1,43 @@
+// What breaks the usual rules, while the grid changes: the first warning beside the tabs, and their number on the tab that lists them.
+import { onceIdle } from './idle.js';
+import { warningsOf } from './rules.js';
+import { termed } from './terms.js';
+
+export class WarningsView {
+  #editor;
+  #faults;
+  #elements;
+
+  // `elements` are the button of the first warning, the number on the tab, and the tab. `open` shows the list.
+  constructor(editor, faults, elements, open) {
+    this.#editor = editor;
+    this.#faults = faults;
+    this.#elements = elements;
+    // an edit is shown before its warnings are looked for
+    const soon = onceIdle(() => this.#show());
+    for (const name of ['step', 'whole']) editor.addEventListener(name, soon);
+    faults.addEventListener('told', soon);
+    elements.button.addEventListener('click', open);
+  }
+
+  get #texts() {
+    const { board } = this.#editor;
+    const spelled = (name) => board.spell(board.byName.get(name));
+    const known = [...this.#faults.repeated.keys()].filter((name) => board.byName.has(name));
+    return [
+      ...warningsOf(board).map(({ text }) => termed(text)), ...known.map((name) => `${spelled(name)} stands twice`),
+      ...[...this.#faults.unlisted.values()].map(({ why }) => why),
+    ];
+  }
+
+  #show() {
+    const { button, count, tab } = this.#elements;
+    const texts = this.#texts;
+    const told = texts.length ? `${texts.length} ${texts.length === 1 ? 'warning' : 'warnings'}` : '';
+    button.hidden = count.hidden = !texts.length;
+    count.textContent = texts.length || '';
+    button.lastElementChild.textContent = texts.length > 1 ? `${texts[0]}, and ${texts.length - 1} more` : texts[0] ?? '';
+    button.title = texts.join('\n');
+    tab.setAttribute('aria-label', told ? `Puzzle, ${told}` : 'Puzzle');
+  }
+}
