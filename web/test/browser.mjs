@@ -150,8 +150,7 @@ export class Browser {
       try {
         return await this.value(waitFor(expression, end - Date.now()));
       } catch (error) {
-        // the page was left meanwhile
-        if (!/navigated|context was destroyed|Cannot find context/.test(error.message)) throw error;
+        if (!isLeft(error)) throw error;
       }
     }
   }
@@ -175,50 +174,33 @@ export class Browser {
     for (const character of text) await this.press(character);
   }
 
-  #middle(selector) {
-    return this.until(middleOf(selector));
-  }
-
   #mouse(type, point, modifiers = 0, buttons = 1) {
     return this.send('Input.dispatchMouseEvent', { type, ...point, button: 'left', buttons, clickCount: 1, modifiers });
   }
 
   // Clicks an element. A click that meets another one, since the page moved meanwhile, is kept from it and made again.
-  async click(selector, modifiers = 0) {
-    let isMissed = true;
-    while (isMissed) {
-      const point = await this.#middle(selector);
-      await this.value(guardOf(selector, point));
-      await this.#mouse('mouseMoved', point, modifiers, 0);
-      await this.#mouse('mousePressed', point, modifiers);
-      await this.#mouse('mouseReleased', point, modifiers, 0);
-      isMissed = await this.#isMissed();
-    }
-  }
-
-  // Whether the last click met another element. The page may have been left by it, and then it did not.
-  async #isMissed() {
-    try {
-      return await this.value('window.endGuard?.() ?? false');
-    } catch (error) {
-      if (/navigated|context was destroyed|Cannot find context/.test(error.message)) return false;
-      throw error;
-    }
+  click(selector, modifiers = 0) {
+    return pressOn(this, selector, ({ x, y }) => Promise.all([
+      this.#mouse('mouseMoved', { x, y }, modifiers, 0), this.#mouse('mousePressed', { x, y }, modifiers), this.#mouse('mouseReleased', { x, y }, modifiers, 0),
+    ]));
   }
 
   async drag(from, to) {
-    const [begin, end] = [await this.#middle(from), await this.#middle(to)];
-    await this.#mouse('mousePressed', begin);
-    await this.#mouse('mouseMoved', { x: (begin.x + end.x) / 2, y: (begin.y + end.y) / 2 });
-    await this.#mouse('mouseMoved', end);
-    await this.#mouse('mouseReleased', end, 0, 0);
+    const end = await this.until(middleOf(to));
+    return pressOn(this, from, async (begin) => {
+      await this.#mouse('mousePressed', begin);
+      await this.#mouse('mouseMoved', { x: (begin.x + end.x) / 2, y: (begin.y + end.y) / 2 });
+      await this.#mouse('mouseMoved', end);
+      await this.#mouse('mouseReleased', end, 0, 0);
+    });
   }
 
   // Taps with a finger.
-  async tap(selector) {
-    const point = await this.#middle(selector);
-    await this.send('Input.dispatchTouchEvent', { type: 'touchStart', touchPoints: [point] });
-    await this.send('Input.dispatchTouchEvent', { type: 'touchEnd', touchPoints: [] });
+  tap(selector) {
+    return pressOn(this, selector, async (point) => {
+      await this.send('Input.dispatchTouchEvent', { type: 'touchStart', touchPoints: [point] });
+      await this.send('Input.dispatchTouchEvent', { type: 'touchEnd', touchPoints: [] });
+    });
   }
 
   // Types a text as a keyboard on a screen does, which tells no keys.
@@ -307,11 +289,12 @@ export const middleOf = (selector) => `(async () => {
   return one && other && one.x === other.x && one.y === other.y ? other : null;
 })()`;
 
-// The expression that keeps the next click from any element outside of those that a selector names. Where another element covers
-// these, as a label does, it lets all pass.
+// The expression that keeps the next press from any element outside of those that a selector names, and whether it could: not if another element
+// is at the point by now. The label of a field counts as the field.
 const guardOf = (selector, { x, y }) => `(() => {
-  const isWanted = (target) => target instanceof Element && target.closest(${JSON.stringify(selector)}) !== null;
-  if (!isWanted(document.elementFromPoint(${x}, ${y}))) return;
+  const isNamed = (element) => Boolean(element) && element.closest(${JSON.stringify(selector)}) !== null;
+  const isWanted = (target) => target instanceof Element && (isNamed(target) || isNamed(target.closest('label')?.control));
+  if (!isWanted(document.elementFromPoint(${x}, ${y}))) return false;
   const kinds = ['pointerdown', 'mousedown', 'pointerup', 'mouseup', 'click'];
   let isMissed = false;
   const listener = (event) => {
@@ -326,7 +309,34 @@ const guardOf = (selector, { x, y }) => `(() => {
     delete window.endGuard;
     return isMissed;
   };
+  return true;
 })()`;
+
+// Presses in the middle of an element, which `press` does at a point, until the press meets it.
+export async function pressOn(browser, selector, press) {
+  const end = Date.now() + HANGS;
+  for (;;) {
+    const point = await browser.until(middleOf(selector));
+    if (await browser.value(guardOf(selector, point))) {
+      await press(point);
+      if (!(await isMissed(browser))) return;
+    }
+    if (Date.now() > end) throw new Error(`${selector} is covered by another element`);
+  }
+}
+
+// Whether the last press met another element. The page may have been left by it, and then it did not.
+async function isMissed(browser) {
+  try {
+    return await browser.value('window.endGuard?.() ?? false');
+  } catch (error) {
+    if (isLeft(error)) return false;
+    throw error;
+  }
+}
+
+// Whether a call failed since the page was left meanwhile.
+export const isLeft = ({ message }) => /navigated|context was destroyed|Cannot find context|no such frame|AbortError|unload|aborted|discarded|destroyed|MessageHandler/i.test(message);
 
 // The expression of a promise that is kept once another expression is true.
 export const waitFor = (expression, most) => `new Promise((resolve, reject) => {

@@ -3,7 +3,7 @@ import { spawn } from 'node:child_process';
 import { existsSync, mkdtempSync, readFileSync, rmSync, writeFileSync } from 'node:fs';
 import { tmpdir } from 'node:os';
 import { basename, join } from 'node:path';
-import { HANGS, middleOf, waitFor } from './browser.mjs';
+import { HANGS, isLeft, middleOf, pressOn, waitFor } from './browser.mjs';
 
 const KEYS = {
   Enter: '\uE006', Tab: '\uE004', Backspace: '\uE003', Delete: '\uE017', Escape: '\uE00C', Home: '\uE011', End: '\uE010', ArrowLeft: '\uE012', ArrowUp: '\uE013',
@@ -140,8 +140,7 @@ export class FirefoxBrowser {
       try {
         return await this.value(waitFor(expression, end - Date.now()));
       } catch (error) {
-        // the page was left meanwhile
-        if (!/no such frame|AbortError|unload|aborted|discarded|destroyed|MessageHandler/i.test(error.message)) throw error;
+        if (!isLeft(error)) throw error;
       }
     }
   }
@@ -164,22 +163,20 @@ export class FirefoxBrowser {
     return this.type(text);
   }
 
-  async #point(selector) {
-    const { x, y } = await this.until(middleOf(selector));
-    return { x: Math.round(x), y: Math.round(y) };
+  // Presses the button of the mouse at a point, and releases it at the last of others.
+  #mouse(point, ...others) {
+    const [begin, ...moves] = [point, ...others].map(({ x, y }) => ({ type: 'pointerMove', x: Math.round(x), y: Math.round(y) }));
+    const actions = [begin, { type: 'pointerDown', button: 0 }, ...moves, { type: 'pointerUp', button: 0 }];
+    return this.#actions({ type: 'pointer', id: 'mouse', parameters: { pointerType: 'mouse' }, actions });
   }
 
-  async click(selector) {
-    const point = await this.#point(selector);
-    const actions = [{ type: 'pointerMove', ...point }, { type: 'pointerDown', button: 0 }, { type: 'pointerUp', button: 0 }];
-    await this.#actions({ type: 'pointer', id: 'mouse', parameters: { pointerType: 'mouse' }, actions });
+  click(selector) {
+    return pressOn(this, selector, (point) => this.#mouse(point));
   }
 
   async drag(from, to) {
-    const [begin, end] = [await this.#point(from), await this.#point(to)];
-    const between = { x: Math.round((begin.x + end.x) / 2), y: Math.round((begin.y + end.y) / 2) };
-    const moves = [begin, between, end].map((point) => ({ type: 'pointerMove', ...point }));
-    await this.#actions({ type: 'pointer', id: 'mouse', parameters: { pointerType: 'mouse' }, actions: [moves[0], { type: 'pointerDown', button: 0 }, moves[1], moves[2], { type: 'pointerUp', button: 0 }] });
+    const end = await this.until(middleOf(to));
+    return pressOn(this, from, (begin) => this.#mouse(begin, { x: (begin.x + end.x) / 2, y: (begin.y + end.y) / 2 }, end));
   }
 
   // Gives files to an input of the page.
