@@ -2,8 +2,8 @@
 use Rattle.std.specs.Prelude.{◌≡◌, ℕ, suc, ◌<◌, ◌≤◌, Bool, List, Option}
 use Rattle.xw_words.specs.Dictionary.{best_grade, with_least}
 use Rattle.xw_feas.specs.State.{State}
-use Rattle.xw_fill.specs.Position.{position_of, filled_in}
-use Rattle.xw_fill.specs.NamedFill.{IsFillOf}
+use Rattle.xw_fill.specs.Position.{filled_in}
+use Rattle.xw_fill.specs.OfState.{IsFillOf}
 use Rattle.xw_fill.specs.declared.best.Best.{Best}
 use Rattle.xw_fill.specs.declared.best.Best.TheVariants.{Filled, NoFill, Limit}
 
@@ -13,7 +13,7 @@ at_least state grade = record state { words = with_least grade state.words }
 
 -- the entries are a fill of the named lights with the words of this grade and better
 abbrev pub IsFillAt : (ℕ → Bool) → State → ℕ → List (Option ℕ) → Type 0
-IsFillAt named state grade entries = IsFillOf named (position_of (at_least state grade)) entries
+IsFillAt named state grade entries = IsFillOf named (at_least state grade) entries
 
 -- the named lights have no fill with the words of this grade and better
 abbrev pub HasNoneAt : (ℕ → Bool) → State → ℕ → Type 0
@@ -39,7 +39,7 @@ pub record IsFilledAt (named : ℕ → Bool) (before after : State) (least : ℕ
 -- after it and Limit the state is as it was. No fill is known to be at `bound` or above.
 abbrev pub IsBest : (ℕ → Bool) → State → State → Best → Type 0
 IsBest named before after (Filled least bound) = IsFilledAt named before after least × IsBound named before bound
-IsBest named before after NoFill = ((entries : List (Option ℕ)) → IsFillOf named (position_of before) entries → ⊥) × (after ≡ before)
+IsBest named before after NoFill = ((entries : List (Option ℕ)) → IsFillOf named before entries → ⊥) × (after ≡ before)
 IsBest named before after (Limit bound) = (before.words.least < bound) × IsBound named before bound × (after ≡ before)
 
 -- ---- laws

@@ -6,3 +6,4 @@ pub mod Stack
 pub mod Stepping
 pub mod Progress
 pub mod Climbing
+pub mod OfState

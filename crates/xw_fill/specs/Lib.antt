@@ -12,5 +12,6 @@ pub mod Choices
 pub mod Listing
 pub mod Laws
 pub mod NamedFill
+pub mod OfState
 pub mod Best
 pub mod Inner

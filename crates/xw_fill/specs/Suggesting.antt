@@ -14,9 +14,13 @@ use Rattle.xw_fill.specs.declared.suggesting.Suggestion.TheVariants.{Dead, Done,
 abbrev pub first_blocked : Position → Option ℕ
 first_blocked state = first_below (lacks_words state) (light_count state)
 
+-- every light has a feasible word once the word is placed
+abbrev pub leaves_words : Position → ℕ → List ℕ → Bool
+leaves_words state light word = is_none (first_blocked (placed state light word))
+
 -- the word is feasible, and every light still has a feasible word once it is placed
 abbrev pub can_be_tried : Position → ℕ → List ℕ → Bool
-can_be_tried state light word = is_feasible_word state light word && is_none (first_blocked (placed state light word))
+can_be_tried state light word = is_feasible_word state light word && leaves_words state light word
 
 -- the index of the first word that can be tried
 abbrev pub index_to_try : Position → ℕ → Option ℕ

@@ -4,7 +4,6 @@ mod grades;
 mod probe;
 
 ghost use Rattle.std.specs.Prelude.{◌≡◌, replicate, true, OnErr, IfOk, IfErr};
-ghost use Rattle.xw_fill.specs.Position.{position_of};
 ghost use Rattle.xw_fill.specs.NamedFill.{flags, is_named, AreFlags, IsRefusal};
 ghost use Rattle.xw_fill.specs.Best.{IsBest};
 

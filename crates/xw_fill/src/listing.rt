@@ -2,9 +2,8 @@
 ghost use Rattle.std.specs.Prelude.{◌≡◌, ◌<◌, ◌≤◌, length, IfOk, IfErr, take};
 ghost use Rattle.xw_words.specs.Dictionary.{index_of_word};
 ghost use Rattle.xw_feas.specs.Board.{spelled};
-ghost use Rattle.xw_fill.specs.Position.{position_of};
-ghost use Rattle.xw_fill.specs.Search.{light_count, is_entered, spelling};
-ghost use Rattle.xw_fill.specs.Listing.{duplicates_of, is_listed, is_unlisted, unlisted_of, grade_of};
+ghost use Rattle.xw_fill.specs.OfState.{light_count, spelling, is_listed, is_unlisted, grade_of};
+ghost use Rattle.xw_fill.specs.Listing.{duplicates_of, unlisted_of};
 
 use crate::scan::{board, first_same, is_entered, light_at, light_count, name_at};
 use std::alloc::Global;
@@ -55,8 +54,8 @@ fn spell(board: &Board<'_>, cells: &Cells) -> [Letter; LONGEST]
 
 /// Returns the index of the word that a light spells among the known words of its length.
 pub(crate) fn word_index<E: Feasible>(engine: &E, light: usize) -> Option<usize>
-    requires { light < light_count (position_of (E.state engine.now)) }
-    ensures { result ≡ index_of_word (E.state engine.now).words (spelling (position_of (E.state engine.now)) light) }
+    requires { light < light_count (E.state engine.now) }
+    ensures { result ≡ index_of_word (E.state engine.now).words (spelling (E.state engine.now) light) }
 {
     let board = board(engine);
     let cells = board.light(light);
@@ -66,16 +65,16 @@ pub(crate) fn word_index<E: Feasible>(engine: &E, light: usize) -> Option<usize>
 
 /// Returns the number of cells of a light.
 pub(crate) fn size_of<E: Feasible>(engine: &E, light: usize) -> usize
-    requires { light < light_count (position_of (E.state engine.now)) }
-    ensures { result ≡ length (spelling (position_of (E.state engine.now)) light) }
+    requires { light < light_count (E.state engine.now) }
+    ensures { result ≡ length (spelling (E.state engine.now) light) }
 {
     light_at(engine, light).size as usize
 }
 
 /// Returns whether the word that a light spells is active in the dictionary.
 fn is_listed<E: Feasible>(engine: &E, light: usize) -> bool
-    requires { light < light_count (position_of (E.state engine.now)) }
-    ensures { result ≡ is_listed (position_of (E.state engine.now)) (spelling (position_of (E.state engine.now)) light) }
+    requires { light < light_count (E.state engine.now) }
+    ensures { result ≡ is_listed (E.state engine.now) (spelling (E.state engine.now) light) }
 {
     match word_index(engine, light) {
         None => false,
@@ -85,8 +84,8 @@ fn is_listed<E: Feasible>(engine: &E, light: usize) -> bool
 
 /// Returns whether a light is wholly entered and its word is not active.
 fn is_unlisted<E: Feasible>(engine: &E, light: usize) -> bool
-    requires { light < light_count (position_of (E.state engine.now)) }
-    ensures { result ≡ is_unlisted (position_of (E.state engine.now)) light }
+    requires { light < light_count (E.state engine.now) }
+    ensures { result ≡ is_unlisted (E.state engine.now) light }
 {
     is_entered(engine, light) && !is_listed(engine, light)
 }
@@ -109,8 +108,8 @@ pub fn unlisted<E: Feasible>(alloc: Global, engine: &E) -> Result<Vec<LightName>
 /// Returns the grade of the word of a light, active or not. Returns `None` if the light is not wholly entered, or if
 /// its word is not known.
 pub fn grade<E: Feasible>(engine: &E, light: usize) -> Option<u8>
-    requires { light < light_count (position_of (E.state engine.now)) }
-    ensures { result ≡ grade_of (position_of (E.state engine.now)) light }
+    requires { light < light_count (E.state engine.now) }
+    ensures { result ≡ grade_of (E.state engine.now) light }
 {
     if !is_entered(engine, light) {
         return None;

@@ -6,11 +6,11 @@ pub(crate) mod plan;
 pub(crate) mod run;
 
 ghost use Rattle.std.specs.Prelude.{◌≡◌, ◌≤◌, ℕ, length, replicate, true, false, IfOk, IfErr, OnOk, OnErr, ◌<◌};
-ghost use Rattle.xw_fill.specs.Position.{position_of};
-ghost use Rattle.xw_fill.specs.Search.{light_count};
+ghost use Rattle.xw_fill.specs.OfState.{light_count};
+ghost use Rattle.xw_fill.specs.Inner.OfState.{IsPlan, IsOpen};
 ghost use Rattle.xw_fill.specs.Inner.Stack.{IsReady};
 ghost use Rattle.xw_fill.specs.NamedFill.{flags, is_named, AreFlags, IsAutofilled, IsNoLight, IsRefusal, AreFlagged};
-ghost use Rattle.xw_fill.specs.Inner.Progress.{entries_of, HasEntered, IsPlan, IsOpen};
+ghost use Rattle.xw_fill.specs.Inner.Progress.{entries_of, HasEntered};
 
 use crate::named_lights::checks::first_dead;
 use crate::named_lights::frame::Frame;
@@ -68,8 +68,8 @@ fn run_again<E: Searchable>(
     plan: &Plan,
     effort: &mut Effort,
 ) -> Result<Filling, AllocError>
-    requires plan { IsPlan (position_of (E.state engine.old)) plan.now }
-    requires open { IsOpen (flags plan.now.named.items) (position_of (E.state engine.old)) (entries_of (E.state engine.old)) }
+    requires plan { IsPlan (E.state engine.old) plan.now }
+    requires open { IsOpen (flags plan.now.named.items) (E.state engine.old) (entries_of (E.state engine.old)) }
     requires ready { IsReady E.saved stack.old (E.state engine.old) }
     ensures ok { IfOk result (IsAutofilled (flags plan.now.named.items) (E.state engine.old) (E.state engine.new)) }
     ensures entered { IfOk result (HasEntered (flags plan.now.named.items) (E.state engine.old) (E.state engine.new)) }
@@ -98,7 +98,7 @@ pub(crate) fn fill_planned<E: Searchable>(
     limit: u64,
     effort: &mut Effort,
 ) -> Result<Filling, AllocError>
-    requires plan { IsPlan (position_of (E.state engine.old)) plan.now }
+    requires plan { IsPlan (E.state engine.old) plan.now }
     ensures ok { IfOk result (IsAutofilled (flags plan.now.named.items) (E.state engine.old) (E.state engine.new)) }
     ensures entered { IfOk result (HasEntered (flags plan.now.named.items) (E.state engine.old) (E.state engine.new)) }
     ensures unchanged { OnErr result (E.state engine.new ≡ E.state engine.old) }
@@ -137,7 +137,7 @@ fn flag_lights<E: Feasible>(
     names: &[LightName],
     named: &mut [bool],
 ) -> Result<(), Refusal>
-    requires { length named.old ≡ light_count (position_of (E.state engine.now)) }
+    requires { length named.old ≡ light_count (E.state engine.now) }
     ensures ok { OnOk result (AreFlagged (E.state engine.now) names.now named.old named.new) }
     ensures refused { IfErr result (IsNoLight (E.state engine.now) names.now) }
 {
@@ -168,7 +168,7 @@ pub(crate) fn flags_of<E: Feasible>(
 
 /// A set flag for each light.
 pub(crate) fn all_lights<E: Feasible>(alloc: Global, engine: &E) -> Result<Vec<bool>, AllocError>
-    ensures { IfOk result (λ named. named.items ≡ replicate (light_count (position_of (E.state engine.now))) true) }
+    ensures { IfOk result (λ named. named.items ≡ replicate (light_count (E.state engine.now)) true) }
 {
     vec![in alloc; true; light_count(engine)]
 }

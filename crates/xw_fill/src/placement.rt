@@ -1,9 +1,9 @@
 //! What a search places in one step.
 ghost use Rattle.std.specs.Prelude.{◌≡◌, IfSome, IfNone};
 ghost use Rattle.xw_feas.specs.State.{State};
-ghost use Rattle.xw_fill.specs.Inner.Progress.{IsDead};
 ghost use Rattle.xw_fill.specs.NamedFill.{flags};
-ghost use Rattle.xw_fill.specs.Position.{position_of, DiffersInEntries};
+ghost use Rattle.xw_fill.specs.Position.{DiffersInEntries};
+ghost use Rattle.xw_fill.specs.Inner.OfState.{IsDead};
 
 use xw_feas::feasible::Feasible;
 use xw_feas::searchable::Searchable;
@@ -33,7 +33,7 @@ pub trait Placement: Copy {
         requires marked { E.saved mark.now ≡ E.state engine.old }
         ensures placed { IfNone result (is_placed self.now (E.state engine.old) (E.state engine.new)) }
         ensures same { IfSome result (λ light. E.state engine.new ≡ E.state engine.old) }
-        ensures dead { IfSome result (λ light. (there : State) × is_placed self.now (E.state engine.old) there × IsDead (flags watched.now) (position_of there) light) }
+        ensures dead { IfSome result (λ light. (there : State) × is_placed self.now (E.state engine.old) there × IsDead (flags watched.now) there light) }
     {
         let _ = watched;
         let _ = mark;

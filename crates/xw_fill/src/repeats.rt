@@ -1,9 +1,8 @@
 //! Finds whether the grid repeats a word. Each light is compared only with earlier lights of the same length.
 ghost use Rattle.std.specs.Prelude.{◌≡◌, ◌<◌, ◌≤◌, length, IfOk};
-ghost use Rattle.xw_fill.specs.Position.{position_of};
+ghost use Rattle.xw_fill.specs.OfState.{is_repeat, light_count};
+ghost use Rattle.xw_fill.specs.Inner.OfState.{size_of, last_of_size, AreLinked};
 ghost use Rattle.xw_fill.specs.Below.{any_below};
-ghost use Rattle.xw_fill.specs.Search.{is_repeat, light_count};
-ghost use Rattle.xw_fill.specs.Inner.Linked.{size_of, last_of_size, AreLinked};
 
 use crate::scan::{board, is_entered, light_count, spell_same};
 use std::alloc::{AllocError, Global};
@@ -12,8 +11,8 @@ use xw_words::word::LONGEST;
 
 /// Returns the number of cells of a light.
 fn size<E: Feasible>(engine: &E, light: usize) -> usize
-    requires { light < light_count (position_of (E.state engine.now)) }
-    ensures size { result ≡ size_of (position_of (E.state engine.now)) light }
+    requires { light < light_count (E.state engine.now) }
+    ensures size { result ≡ size_of (E.state engine.now) light }
     ensures short { result ≤ 255 }
 {
     board(engine).light(light).len()
@@ -27,11 +26,11 @@ fn is_repeat<E: Feasible>(
     last: Option<usize>,
     earlier: &[Option<usize>],
 ) -> bool
-    requires light { light < light_count (position_of (E.state engine.now)) }
-    requires last { last ≡ last_of_size (position_of (E.state engine.now)) (size_of (position_of (E.state engine.now)) light) light }
-    requires long { length earlier.now ≡ light_count (position_of (E.state engine.now)) }
-    requires linked { AreLinked (position_of (E.state engine.now)) light earlier.now }
-    ensures { result ≡ is_repeat (position_of (E.state engine.now)) light }
+    requires light { light < light_count (E.state engine.now) }
+    requires last { last ≡ last_of_size (E.state engine.now) (size_of (E.state engine.now) light) light }
+    requires long { length earlier.now ≡ light_count (E.state engine.now) }
+    requires linked { AreLinked (E.state engine.now) light earlier.now }
+    ensures { result ≡ is_repeat (E.state engine.now) light }
 {
     let mut next = last;
     while let Some(other) = next {
@@ -45,7 +44,7 @@ fn is_repeat<E: Feasible>(
 
 /// Returns whether two wholly entered lights spell the same. Fails only if the allocation fails.
 pub fn has_repeat<E: Feasible>(alloc: Global, engine: &E) -> Result<bool, AllocError>
-    ensures { IfOk result (λ repeats. repeats ≡ any_below (is_repeat (position_of (E.state engine.now))) (light_count (position_of (E.state engine.now)))) }
+    ensures { IfOk result (λ repeats. repeats ≡ any_below (is_repeat (E.state engine.now)) (light_count (E.state engine.now))) }
 {
     let mut earlier = vec![in alloc; None; light_count(engine)]?;
     let mut last = [None; LONGEST + 1];

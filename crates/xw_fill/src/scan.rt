@@ -2,13 +2,11 @@
 ghost use Rattle.std.specs.Prelude.{◌≡◌, ◌<◌, length, bytes_eq, unwrap_or, slice_index_or, ℕ, true, false, MatchOption, is_some};
 ghost use Rattle.xw_grid.specs.Light.{lights_of, no_light};
 ghost use Rattle.xw_feas.specs.Board.{board_of, is_wholly_entered, spelled, entry};
-ghost use Rattle.xw_fill.specs.Position.{position_of, name_at};
-ghost use Rattle.xw_fill.specs.FeasibleWords.{feasible_words};
+ghost use Rattle.xw_fill.specs.Position.{name_at};
+ghost use Rattle.xw_fill.specs.OfState.{feasible_words, IsNextWord, HasNoMore, is_entered, spelling, spell_same, first_same, lacks_words, light_count, chosen, unentered_count, scanned};
+ghost use Rattle.xw_fill.specs.Inner.OfState.{AreEntered};
 ghost use Rattle.xw_fill.specs.Below.{first_below};
-ghost use Rattle.xw_fill.specs.Words.{IsNextWord, HasNoMore};
-ghost use Rattle.xw_fill.specs.Search.{is_entered, spelling, spell_same, first_same, lacks_words, light_count, chosen, unentered_count};
-ghost use Rattle.xw_fill.specs.Inner.Noted.{has_note, AreEntered};
-ghost use Rattle.xw_fill.specs.Filling.{scanned};
+ghost use Rattle.xw_fill.specs.Inner.Noted.{has_note};
 
 use xw_feas::board::{Board, Cells, has_all_entries};
 use xw_feas::edit::Found;
@@ -25,7 +23,7 @@ pub fn board<E: Feasible>(engine: &E) -> Board<'_>
 
 #[tactic(auto, using(crate::proofs::StateLemmas::light_steps))]
 pub fn light_count<E: Feasible>(engine: &E) -> usize
-    ensures { result ≡ light_count (position_of (E.state engine.now)) }
+    ensures { result ≡ light_count (E.state engine.now) }
 {
     engine.lights().len()
 }
@@ -33,7 +31,7 @@ pub fn light_count<E: Feasible>(engine: &E) -> usize
 /// Returns the light at an index.
 #[tactic(auto, using(crate::proofs::StateLemmas::light_steps))]
 pub fn light_at<E: Feasible>(engine: &E, light: usize) -> Light
-    requires { light < light_count (position_of (E.state engine.now)) }
+    requires { light < light_count (E.state engine.now) }
     ensures { result ≡ slice_index_or (lights_of (E.state engine.now).grid) light no_light }
 {
     engine.lights().at(light)
@@ -41,7 +39,7 @@ pub fn light_at<E: Feasible>(engine: &E, light: usize) -> Light
 
 /// Returns the name of the light at an index.
 pub fn name_at<E: Feasible>(engine: &E, light: usize) -> LightName
-    requires { light < light_count (position_of (E.state engine.now)) }
+    requires { light < light_count (E.state engine.now) }
     ensures { result ≡ name_at (E.state engine.now) light }
 {
     light_at(engine, light).name
@@ -49,8 +47,8 @@ pub fn name_at<E: Feasible>(engine: &E, light: usize) -> LightName
 
 /// Returns the number of feasible words of a light.
 pub fn word_count<E: Feasible>(engine: &E, light: usize) -> usize
-    requires { light < light_count (position_of (E.state engine.now)) }
-    ensures { result ≡ length (feasible_words (position_of (E.state engine.now)) light) }
+    requires { light < light_count (E.state engine.now) }
+    ensures { result ≡ length (feasible_words (E.state engine.now) light) }
 {
     engine.word_count_at(light)
 }
@@ -72,8 +70,8 @@ fn have_same_letters(board: &Board<'_>, cells: &Cells, others: &Cells) -> bool
 
 /// Returns whether a light is wholly entered.
 pub fn is_entered<E: Feasible>(engine: &E, light: usize) -> bool
-    requires { light < light_count (position_of (E.state engine.now)) }
-    ensures { result ≡ is_entered (position_of (E.state engine.now)) light }
+    requires { light < light_count (E.state engine.now) }
+    ensures { result ≡ is_entered (E.state engine.now) light }
 {
     let board = board(engine);
     has_all_entries(&board, &board.light(light))
@@ -81,7 +79,7 @@ pub fn is_entered<E: Feasible>(engine: &E, light: usize) -> bool
 
 /// Returns the number of lights that are not wholly entered.
 pub(crate) fn unentered_count<E: Feasible>(engine: &E) -> usize
-    ensures { result ≡ unentered_count (position_of (E.state engine.now)) }
+    ensures { result ≡ unentered_count (E.state engine.now) }
 {
     let mut count = 0;
     for light in 0..light_count(engine) {
@@ -94,9 +92,9 @@ pub(crate) fn unentered_count<E: Feasible>(engine: &E) -> usize
 
 /// Returns whether two lights have the same letters, whether or not they are wholly entered.
 pub(crate) fn agree<E: Feasible>(engine: &E, light: usize, other: usize) -> bool
-    requires light { light < light_count (position_of (E.state engine.now)) }
-    requires other { other < light_count (position_of (E.state engine.now)) }
-    ensures { result ≡ bytes_eq (spelling (position_of (E.state engine.now)) light) (spelling (position_of (E.state engine.now)) other) }
+    requires light { light < light_count (E.state engine.now) }
+    requires other { other < light_count (E.state engine.now) }
+    ensures { result ≡ bytes_eq (spelling (E.state engine.now) light) (spelling (E.state engine.now) other) }
 {
     let board = board(engine);
     have_same_letters(&board, &board.light(light), &board.light(other))
@@ -104,17 +102,17 @@ pub(crate) fn agree<E: Feasible>(engine: &E, light: usize, other: usize) -> bool
 
 /// Returns whether two lights are wholly entered and spell the same.
 pub fn spell_same<E: Feasible>(engine: &E, light: usize, other: usize) -> bool
-    requires light { light < light_count (position_of (E.state engine.now)) }
-    requires other { other < light_count (position_of (E.state engine.now)) }
-    ensures { result ≡ spell_same (position_of (E.state engine.now)) light other }
+    requires light { light < light_count (E.state engine.now) }
+    requires other { other < light_count (E.state engine.now) }
+    ensures { result ≡ spell_same (E.state engine.now) light other }
 {
     agree(engine, light, other) && is_entered(engine, light) && is_entered(engine, other)
 }
 
 /// Returns the first earlier light that spells the same. Returns `None` if this light is not wholly entered.
 pub(crate) fn first_same<E: Feasible>(engine: &E, light: usize) -> Option<usize>
-    requires { light < light_count (position_of (E.state engine.now)) }
-    ensures { result ≡ first_same (position_of (E.state engine.now)) light }
+    requires { light < light_count (E.state engine.now) }
+    ensures { result ≡ first_same (E.state engine.now) light }
 {
     if !is_entered(engine, light) {
         return None;
@@ -129,7 +127,7 @@ pub(crate) fn first_same<E: Feasible>(engine: &E, light: usize) -> Option<usize>
 
 /// Returns the first light without a feasible word.
 pub(crate) fn first_without_words<E: Feasible>(engine: &E) -> Option<usize>
-    ensures { result ≡ first_below (lacks_words (position_of (E.state engine.now))) (light_count (position_of (E.state engine.now))) }
+    ensures { result ≡ first_below (lacks_words (E.state engine.now)) (light_count (E.state engine.now)) }
 {
     for light in 0..light_count(engine) {
         if word_count(engine, light) == 0 {
@@ -142,7 +140,7 @@ pub(crate) fn first_without_words<E: Feasible>(engine: &E) -> Option<usize>
 /// Returns the chosen light: of the lights that are not wholly entered, the first with the fewest feasible words.
 /// Returns `None` if all lights are wholly entered.
 pub(crate) fn chosen<E: Feasible>(engine: &E) -> Option<usize>
-    ensures { result ≡ chosen (position_of (E.state engine.now)) }
+    ensures { result ≡ chosen (E.state engine.now) }
 {
     let mut best = None;
     let mut fewest = 0;
@@ -170,9 +168,9 @@ pub(crate) enum Scan {
 /// Scans all lights, with one count of words per light. `since` must have a note for exactly the wholly entered
 /// lights.
 pub(crate) fn scan_lights<E: Feasible>(engine: &E, since: &[Option<usize>]) -> Scan
-    requires long { length since.now ≡ light_count (position_of (E.state engine.now)) }
-    requires entered { AreEntered (position_of (E.state engine.now)) (has_note since.now) }
-    ensures { result ≡ scanned (position_of (E.state engine.now)) }
+    requires long { length since.now ≡ light_count (E.state engine.now) }
+    requires entered { AreEntered (E.state engine.now) (has_note since.now) }
+    ensures { result ≡ scanned (E.state engine.now) }
 {
     let mut best = None;
     let mut least = 0;
@@ -194,9 +192,9 @@ pub(crate) fn scan_lights<E: Feasible>(engine: &E, since: &[Option<usize>]) -> S
 
 /// Returns the index of the first feasible word at `from` or later. The light must not be wholly entered.
 pub fn next_word_index<E: Feasible>(engine: &E, light: usize, from: usize) -> Option<usize>
-    requires light { light < light_count (position_of (E.state engine.now)) }
-    requires not_entered { is_entered (position_of (E.state engine.now)) light ≡ false }
-    ensures { MatchOption result (HasNoMore (position_of (E.state engine.now)) light from) (λ index. IsNextWord (position_of (E.state engine.now)) light from index) }
+    requires light { light < light_count (E.state engine.now) }
+    requires not_entered { is_entered (E.state engine.now) light ≡ false }
+    ensures { MatchOption result (HasNoMore (E.state engine.now) light from) (λ index. IsNextWord (E.state engine.now) light from index) }
 {
     match engine.next_word_at(light, from) {
         None => None,

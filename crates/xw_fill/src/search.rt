@@ -1,14 +1,15 @@
 //! The search for a fill: depth first, with the words of each light in dictionary order.
 ghost use Rattle.std.specs.Prelude.{◌≡◌, ◌<◌, ◌≤◌, false, suc, length, IfOk, IfErr, OnErr, IfSome, IfNone};
 ghost use Rattle.std.specs.Vec.{vec_capacity};
-ghost use Rattle.xw_fill.specs.Position.{position_of, DiffersInEntries};
-ghost use Rattle.xw_fill.specs.Search.{is_dead, light_count, unentered_count};
+ghost use Rattle.xw_fill.specs.Position.{DiffersInEntries};
+ghost use Rattle.xw_fill.specs.OfState.{is_dead, light_count, unentered_count, outlook};
+ghost use Rattle.xw_fill.specs.Inner.OfState.{AreEntered};
 ghost use Rattle.xw_fill.specs.Inner.Stack.{start_of, StandsAt, HasTried};
 ghost use Rattle.xw_fill.specs.NamedFill.{flags};
 ghost use Rattle.xw_fill.specs.Inner.Tries.{CanBeMade, IsMade};
 ghost use Rattle.xw_fill.specs.Inner.Stepping.{HasPlaced, HasDied};
-ghost use Rattle.xw_fill.specs.Inner.Noted.{noted, AreEntered, StayNoted};
-ghost use Rattle.xw_fill.specs.Filling.{IsFilling, HasFill, UnlessFilled, unless_repeated, outlook};
+ghost use Rattle.xw_fill.specs.Inner.Noted.{noted, StayNoted};
+ghost use Rattle.xw_fill.specs.Filling.{IsFilling, HasFill, UnlessFilled, unless_repeated};
 
 use crate::noted::{has_new_repeat, note_entered};
 use crate::repeats::has_repeat;
@@ -68,10 +69,10 @@ fn begin<E: Feasible>(
     engine: &E,
     since: &mut [Option<usize>],
 ) -> Result<Next, AllocError>
-    requires { length since.old ≡ light_count (position_of (E.state engine.now)) }
+    requires { length since.old ≡ light_count (E.state engine.now) }
     ensures long { length since.new ≡ length since.old }
-    ensures entered { AreEntered (position_of (E.state engine.now)) (noted since.new 1) }
-    ensures next { IfOk result (λ next. next ≡ outlook (position_of (E.state engine.now))) }
+    ensures entered { AreEntered (E.state engine.now) (noted since.new 1) }
+    ensures next { IfOk result (λ next. next ≡ outlook (E.state engine.now)) }
 {
     note_entered(engine, since, 0);
     match scan_lights(engine, since) {
@@ -115,11 +116,11 @@ fn try_word<E: Searchable>(
     tried: Try,
 ) -> Option<Next>
     requires may { CanBeMade tried (E.state engine.old) }
-    requires alive { is_dead (position_of (E.state engine.old)) ≡ false }
+    requires alive { is_dead (E.state engine.old) ≡ false }
     requires room { length stack.old.placements.items < vec_capacity stack.old.placements }
     requires stands { StandsAt E.saved IsMade stack.old (E.state engine.old) }
-    requires long { length since.old ≡ light_count (position_of (E.state engine.old)) }
-    requires entered { AreEntered (position_of (E.state engine.old)) (noted since.old (suc (length stack.old.placements.items))) }
+    requires long { length since.old ≡ light_count (E.state engine.old) }
+    requires entered { AreEntered (E.state engine.old) (noted since.old (suc (length stack.old.placements.items))) }
     ensures long { length since.new ≡ length since.old }
     ensures stay { StayNoted (suc (length stack.old.placements.items)) since.old since.new }
     ensures capacity { vec_capacity stack.old.placements ≤ vec_capacity stack.new.placements }
@@ -143,7 +144,7 @@ fn try_word<E: Searchable>(
 /// Returns how many marks a search makes room for. `next` is its first step; a search that ends there needs none.
 fn marks_for<E: Feasible>(engine: &E, next: Next) -> usize
     ensures few { result ≤ MARKS }
-    ensures lights { result ≤ unentered_count (position_of (E.state engine.now)) }
+    ensures lights { result ≤ unentered_count (E.state engine.now) }
 {
     match next {
         Next::Done | Next::Spent => 0,

@@ -1,9 +1,7 @@
 //! Suggests the next word to place.
-ghost use Rattle.std.specs.Prelude.{◌≡◌, ◌<◌, false, is_none, slice_index_or, []};
-ghost use Rattle.xw_fill.specs.Position.{position_of, placed, DiffersInEntries};
-ghost use Rattle.xw_fill.specs.Search.{light_count, is_entered};
-ghost use Rattle.xw_fill.specs.Suggesting.{suggestion, index_to_try, first_blocked, IsTriedAt};
-ghost use Rattle.xw_fill.specs.Words.{spellings_at};
+ghost use Rattle.std.specs.Prelude.{◌≡◌, ◌<◌, false, slice_index_or, []};
+ghost use Rattle.xw_fill.specs.OfState.{light_count, is_entered, leaves_words, index_to_try, IsTriedAt, spellings_at};
+ghost use Rattle.xw_fill.specs.Suggesting.{suggestion};
 
 use crate::placement::Placement;
 use crate::scan::{chosen, first_without_words, name_at, next_word_index};
@@ -27,8 +25,8 @@ pub enum Suggestion {
 /// Returns whether every light still has a feasible word after a word is placed in a light. Leaves the state as it
 /// was.
 fn can_be_placed<E: Feasible>(engine: &mut E, light: usize, index: usize) -> bool
-    requires tried { IsTriedAt (position_of (E.state engine.old)) light index }
-    ensures found { result ≡ is_none (first_blocked (placed (position_of (E.state engine.old)) light (slice_index_or (spellings_at (position_of (E.state engine.old)) light) index []))) }
+    requires tried { IsTriedAt (E.state engine.old) light index }
+    ensures found { result ≡ leaves_words (E.state engine.old) light (slice_index_or (spellings_at (E.state engine.old) light) index []) }
     ensures unchanged { E.state engine.new ≡ E.state engine.old }
 {
     let tried = make_try(engine, light, index);
@@ -40,9 +38,9 @@ fn can_be_placed<E: Feasible>(engine: &mut E, light: usize, index: usize) -> boo
 
 /// Returns the index of the light's first feasible word after whose placement every light has a feasible word.
 fn find_index<E: Feasible>(engine: &mut E, light: usize) -> Option<usize>
-    requires light { light < light_count (position_of (E.state engine.old)) }
-    requires not_entered { is_entered (position_of (E.state engine.old)) light ≡ false }
-    ensures found { result ≡ index_to_try (position_of (E.state engine.old)) light }
+    requires light { light < light_count (E.state engine.old) }
+    requires not_entered { is_entered (E.state engine.old) light ≡ false }
+    ensures found { result ≡ index_to_try (E.state engine.old) light }
     ensures unchanged { E.state engine.new ≡ E.state engine.old }
 {
     let mut from = 0;

@@ -3,12 +3,10 @@ ghost use Rattle.std.specs.Prelude.{◌≡◌, ◌<◌, ◌≤◌, length, take,
 ghost use Rattle.xw_feas.specs.Board.{board_of, light_at};
 ghost use Rattle.xw_feas.specs.State.{State};
 ghost use Rattle.xw_fill.specs.Position.{position_of, placed, DiffersInEntries};
-ghost use Rattle.xw_fill.specs.Search.{light_count};
-ghost use Rattle.xw_fill.specs.Suggesting.{IsTriedAt};
+ghost use Rattle.xw_fill.specs.OfState.{light_count, IsTriedAt, spellings_at};
+ghost use Rattle.xw_fill.specs.Inner.OfState.{IsDead};
 ghost use Rattle.xw_fill.specs.NamedFill.{flags};
-ghost use Rattle.xw_fill.specs.Inner.Progress.{IsDead};
 ghost use Rattle.xw_fill.specs.Inner.Tries.{taken_back, AreBlanks, CanBeMade, IsMade, IsWordPlaced};
-ghost use Rattle.xw_fill.specs.Words.{spellings_at};
 
 use crate::placement::Placement;
 use crate::scan::{board, light_at};
@@ -44,7 +42,7 @@ fn blanks_of(board: &Board<'_>, cells: &Cells) -> [bool; LONGEST]
 
 /// Returns the try of a feasible word, by its index.
 pub fn make_try<E: Feasible>(engine: &E, light: usize, index: usize) -> Try
-    requires { IsTriedAt (position_of (E.state engine.now)) light index }
+    requires { IsTriedAt (E.state engine.now) light index }
     ensures light { result.light ≡ light }
     ensures index { result.index ≡ index }
     ensures can { CanBeMade result (E.state engine.now) }
@@ -60,9 +58,9 @@ pub fn make_try<E: Feasible>(engine: &E, light: usize, index: usize) -> Try
 
 /// Places the known word with this index in a light.
 fn place_word<E: Feasible>(engine: &mut E, light: usize, index: usize)
-    requires light { light < light_count (position_of (E.state engine.old)) }
-    requires index { index < length (spellings_at (position_of (E.state engine.old)) light) }
-    ensures placed { position_of (E.state engine.new) ≡ placed (position_of (E.state engine.old)) light (slice_index_or (spellings_at (position_of (E.state engine.old)) light) index []) }
+    requires light { light < light_count (E.state engine.old) }
+    requires index { index < length (spellings_at (E.state engine.old) light) }
+    ensures placed { position_of (E.state engine.new) ≡ placed (position_of (E.state engine.old)) light (slice_index_or (spellings_at (E.state engine.old) light) index []) }
     ensures entries { DiffersInEntries (E.state engine.old) (E.state engine.new) }
 {
     engine.place_word_at(light, index);
@@ -87,12 +85,12 @@ fn try_word<E: Searchable>(
     watched: &[bool],
     mark: &E::Snapshot,
 ) -> Option<usize>
-    requires light { light < light_count (position_of (E.state engine.old)) }
-    requires index { index < length (spellings_at (position_of (E.state engine.old)) light) }
+    requires light { light < light_count (E.state engine.old) }
+    requires index { index < length (spellings_at (E.state engine.old) light) }
     requires marked { E.saved mark.now ≡ E.state engine.old }
     ensures placed { IfNone result (IsWordPlaced light index (E.state engine.old) (E.state engine.new)) }
     ensures same { IfSome result (λ dead. E.state engine.new ≡ E.state engine.old) }
-    ensures dead { IfSome result (λ dead. (there : State) × IsWordPlaced light index (E.state engine.old) there × IsDead (flags watched.now) (position_of there) dead) }
+    ensures dead { IfSome result (λ dead. (there : State) × IsWordPlaced light index (E.state engine.old) there × IsDead (flags watched.now) there dead) }
 {
     engine.grid().well_formed();
     known_distinct(engine.bank());
@@ -108,7 +106,7 @@ fn try_word<E: Searchable>(
 
 /// Undoes a placement: clears the cells that were empty before it, in one edit.
 fn clear_blanks<E: Feasible>(engine: &mut E, tried: &Try)
-    requires { tried.now.light < light_count (position_of (E.state engine.old)) }
+    requires { tried.now.light < light_count (E.state engine.old) }
     ensures back { position_of (E.state engine.new) ≡ taken_back (position_of (E.state engine.old)) tried.now }
     ensures entries { DiffersInEntries (E.state engine.old) (E.state engine.new) }
 {

@@ -3,8 +3,7 @@ use Rattle.std.specs.Prelude.{◌≡◌, ℕ, Bool, true, List, [], ◌∷◌, �
 use Rattle.xw_feas.specs.State.{State}
 use Rattle.xw_feas.specs.Snapshot.{IsTwin}
 use Rattle.xw_fill.specs.Marks.{held_of, AreTwins, HoldsFree}
-use Rattle.xw_fill.specs.Position.{position_of}
-use Rattle.xw_fill.specs.Inner.Progress.{IsDead}
+use Rattle.xw_fill.specs.Inner.OfState.{IsDead}
 use Rattle.xw_fill.specs.declared.stack.Stack.{Stack}
 
 -- the state where the search began
@@ -42,4 +41,4 @@ pub record StandsAt {E S M : Type 0} (saved : S → State) (is_placed : M → St
 abbrev pub HasTried : {M : Type 0} → (M → State → State → Type 0) → (ℕ → Bool) → M → State → List M → State → List M → Option ℕ → Type 0
 HasTried is_placed watched placement before placements after placements_after None = (placements_after ≡ placements ++ placement ∷ []) × is_placed placement before after
 HasTried is_placed watched placement before placements after placements_after (Some light) =
-    (placements_after ≡ placements) × (after ≡ before) × ((there : State) × is_placed placement before there × IsDead watched (position_of there) light)
+    (placements_after ≡ placements) × (after ≡ before) × ((there : State) × is_placed placement before there × IsDead watched there light)

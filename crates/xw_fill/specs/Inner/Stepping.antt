@@ -1,10 +1,9 @@
 -- One step of the search for a fill: what trying a word led to.
 use Rattle.std.specs.Prelude.{◌≡◌, ℕ, suc, true, List, [], ◌∷◌, ◌++◌, length, Option}
 use Rattle.xw_feas.specs.State.{State}
-use Rattle.xw_fill.specs.Position.{position_of}
-use Rattle.xw_fill.specs.Search.{is_dead}
-use Rattle.xw_fill.specs.Filling.{outlook}
-use Rattle.xw_fill.specs.Inner.Noted.{noted, AreEntered}
+use Rattle.xw_fill.specs.OfState.{is_dead, outlook}
+use Rattle.xw_fill.specs.Inner.OfState.{AreEntered}
+use Rattle.xw_fill.specs.Inner.Noted.{noted}
 use Rattle.xw_fill.specs.Inner.Tries.{IsMade}
 use Rattle.xw_fill.specs.declared.search.Next.{Next}
 use Rattle.xw_fill.specs.declared.tries.Try.{Try}
@@ -13,8 +12,8 @@ use Rattle.xw_fill.specs.declared.tries.Try.{Try}
 pub record HasPlaced (tried : Try) (before : State) (tries : List Try) (after : State) (tries_after : List Try) (since : List (Option ℕ)) (next : Next) : Type 0 where
   pub made : IsMade tried before after
   pub pushed : tries_after ≡ tries ++ tried ∷ []
-  pub entered : AreEntered (position_of after) (noted since (suc (suc (length tries))))
-  pub step : next ≡ outlook (position_of after)
+  pub entered : AreEntered after (noted since (suc (suc (length tries))))
+  pub step : next ≡ outlook after
 
 -- the position is dead where the word leads, and nothing changed
 pub record HasDied (tried : Try) (before : State) (tries : List Try) (after : State) (tries_after : List Try) (since since_after : List (Option ℕ)) : Type 0 where
@@ -23,4 +22,4 @@ pub record HasDied (tried : Try) (before : State) (tries : List Try) (after : St
   pub notes : since_after ≡ since
   pub there : State
   pub made : IsMade tried before there
-  pub dead : is_dead (position_of there) ≡ true
+  pub dead : is_dead there ≡ true

@@ -1,11 +1,10 @@
 //! The search for the best fill: which grades it tries, and what it keeps.
 ghost use Rattle.std.specs.Prelude.{◌≡◌, ◌<◌, ◌≤◌, ◌-◌, IfOk, IfSome};
 ghost use Rattle.xw_words.specs.Dictionary.{best_grade};
-ghost use Rattle.xw_fill.specs.Position.{position_of};
+ghost use Rattle.xw_fill.specs.Inner.OfState.{IsPlan};
 ghost use Rattle.xw_fill.specs.NamedFill.{flags};
 ghost use Rattle.xw_fill.specs.Best.{IsBest, IsFilledAt};
 ghost use Rattle.xw_fill.specs.Inner.Climbing.{IsAtLeast, IsClimbing};
-ghost use Rattle.xw_fill.specs.Inner.Progress.{IsPlan};
 
 use crate::best::Best;
 use crate::best::grades::{NO_BOUND, fresh_lights};
@@ -142,7 +141,7 @@ impl<E: Searchable> Climb<E> {
         plan: Plan,
         limit: u64,
     ) -> Result<Climb<E>, AllocError>
-        requires plan { IsPlan (position_of (E.state engine.old)) plan }
+        requires plan { IsPlan (E.state engine.old) plan }
         ensures climbing { IfOk result (λ climb. IsClimbing E.saved climb (E.state engine.old)) }
         ensures plan { IfOk result (λ climb. climb.plan ≡ plan) }
         ensures unchanged { E.state engine.new ≡ E.state engine.old }

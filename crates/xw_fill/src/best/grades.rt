@@ -1,11 +1,11 @@
 //! Tests which grades a fill of a grid can have.
 ghost use Rattle.std.specs.Prelude.{◌≡◌, ℕ, suc, ◌<◌, ◌≤◌, not, true, false, length, IfOk, IfErr};
 ghost use Rattle.xw_words.specs.Dictionary.{best_grade};
-ghost use Rattle.xw_fill.specs.Position.{position_of};
-ghost use Rattle.xw_fill.specs.Search.{light_count, is_entered, spelling};
+ghost use Rattle.xw_fill.specs.OfState.{light_count, spelling};
+ghost use Rattle.xw_fill.specs.Inner.OfState.{AreFresh};
 ghost use Rattle.xw_fill.specs.NamedFill.{flags};
 ghost use Rattle.xw_fill.specs.Best.{at_least};
-ghost use Rattle.xw_fill.specs.Inner.Climbing.{DiffersInLeast, IsDeadAt, AreAliveAt, IsActiveAt, AreActiveAt, AreFresh};
+ghost use Rattle.xw_fill.specs.Inner.Climbing.{DiffersInLeast, IsDeadAt, AreAliveAt, IsActiveAt, AreActiveAt};
 
 use crate::listing::{size_of, word_index};
 use crate::named_lights::checks::first_dead;
@@ -28,7 +28,7 @@ pub fn choose_least<E: Feasible>(engine: &mut E, grade: u8)
 
 /// Leaves out the words below a grade. Returns whether a watched light then has no feasible word.
 fn is_dead_at<E: Feasible>(engine: &mut E, watched: &[bool], grade: u8) -> bool
-    requires long { length watched.now ≡ light_count (position_of (E.state engine.old)) }
+    requires long { length watched.now ≡ light_count (E.state engine.old) }
     ensures state { E.state engine.new ≡ at_least (E.state engine.old) grade }
     ensures dead { result ≡ true → IsDeadAt (flags watched.now) (E.state engine.old) grade }
     ensures alive { result ≡ false → AreAliveAt (flags watched.now) (E.state engine.old) grade }
@@ -40,7 +40,7 @@ fn is_dead_at<E: Feasible>(engine: &mut E, watched: &[bool], grade: u8) -> bool
 /// Finds, by bisection from `from` to below `to`, a grade at which a watched light has no feasible word although each
 /// has one at the grade below. Returns `to` if there is none. Changes the least grade.
 pub fn first_deadly<E: Feasible>(engine: &mut E, watched: &[bool], from: u8, to: u8) -> u8
-    requires long { length watched.now ≡ light_count (position_of (E.state engine.old)) }
+    requires long { length watched.now ≡ light_count (E.state engine.old) }
     requires ordered { from ≤ to }
     requires graded { to ≤ suc best_grade }
     ensures state { DiffersInLeast (E.state engine.old) (E.state engine.new) }
@@ -64,10 +64,10 @@ pub fn first_deadly<E: Feasible>(engine: &mut E, watched: &[bool], from: u8, to:
 
 /// The grade of the word that a light spells; 0 if it is not known.
 fn grade_of<E: Feasible>(engine: &E, light: usize) -> u8
-    requires { light < light_count (position_of (E.state engine.now)) }
+    requires { light < light_count (E.state engine.now) }
     ensures within { result ≤ best_grade }
-    ensures active { (grade : ℕ) → grade ≤ best_grade → IsActiveAt (E.state engine.now) grade (spelling (position_of (E.state engine.now)) light) → grade ≤ result }
-    ensures reached { (grade other : ℕ) → IsActiveAt (E.state engine.now) other (spelling (position_of (E.state engine.now)) light) → grade ≤ result → IsActiveAt (E.state engine.now) grade (spelling (position_of (E.state engine.now)) light) }
+    ensures active { (grade : ℕ) → grade ≤ best_grade → IsActiveAt (E.state engine.now) grade (spelling (E.state engine.now) light) → grade ≤ result }
+    ensures reached { (grade other : ℕ) → IsActiveAt (E.state engine.now) other (spelling (E.state engine.now) light) → grade ≤ result → IsActiveAt (E.state engine.now) grade (spelling (E.state engine.now) light) }
 {
     match word_index(engine, light) {
         None => 0,
@@ -77,7 +77,7 @@ fn grade_of<E: Feasible>(engine: &E, light: usize) -> u8
 
 /// The least grade of the words that the wholly entered flagged lights spell; `BEST_GRADE` if there are none.
 pub fn worst_grade<E: Feasible>(engine: &E, flagged: &[bool]) -> u8
-    requires long { length flagged.now ≡ light_count (position_of (E.state engine.now)) }
+    requires long { length flagged.now ≡ light_count (E.state engine.now) }
     ensures within { result ≤ best_grade }
     ensures active { (grade : ℕ) → grade ≤ best_grade → AreActiveAt (flags flagged.now) (E.state engine.now) grade → grade ≤ result }
     ensures reached { (grade other : ℕ) → AreActiveAt (flags flagged.now) (E.state engine.now) other → grade ≤ result → AreActiveAt (flags flagged.now) (E.state engine.now) grade }
@@ -93,7 +93,7 @@ pub fn worst_grade<E: Feasible>(engine: &E, flagged: &[bool]) -> u8
 
 /// A flag for each light: whether it is not wholly entered.
 pub fn fresh_lights<E: Feasible>(alloc: Global, engine: &E) -> Result<Vec<bool>, AllocError>
-    ensures { IfOk result (λ fresh. AreFresh (position_of (E.state engine.now)) fresh.items) }
+    ensures { IfOk result (λ fresh. AreFresh (E.state engine.now) fresh.items) }
 {
     let mut fresh = Vec::new(alloc);
     for light in 0..light_count(engine) {

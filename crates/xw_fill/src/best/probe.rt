@@ -1,12 +1,11 @@
 //! A search for a fill with the words of a grade and better.
 ghost use Rattle.std.specs.Prelude.{◌≡◌, ◌⊎◌, ℕ, suc, ◌≤◌, length, IfOk, OnErr};
 ghost use Rattle.xw_words.specs.Dictionary.{best_grade};
-ghost use Rattle.xw_fill.specs.Position.{position_of};
-ghost use Rattle.xw_fill.specs.Search.{light_count};
+ghost use Rattle.xw_fill.specs.OfState.{light_count};
+ghost use Rattle.xw_fill.specs.Inner.OfState.{AreFresh, IsPlan};
 ghost use Rattle.xw_fill.specs.NamedFill.{flags};
 ghost use Rattle.xw_fill.specs.Best.{IsBound};
-ghost use Rattle.xw_fill.specs.Inner.Climbing.{DiffersInLeast, IsDeadAt, AreAliveAt, AreActiveAt, AreFresh, IsProbed};
-ghost use Rattle.xw_fill.specs.Inner.Progress.{IsPlan};
+ghost use Rattle.xw_fill.specs.Inner.Climbing.{DiffersInLeast, IsDeadAt, AreAliveAt, AreActiveAt, IsProbed};
 
 use crate::best::grades::{NO_BOUND, choose_least, first_deadly, worst_grade};
 use crate::named_lights::fill_planned;
@@ -31,7 +30,7 @@ pub enum Probe {
 /// A bound that needs no search: at this grade a watched light has no feasible word. The least grade of active words,
 /// `least`, stays as it was.
 pub fn bound_of<E: Feasible>(engine: &mut E, plan: &Plan, least: u8) -> u8
-    requires plan { IsPlan (position_of (E.state engine.old)) plan.now }
+    requires plan { IsPlan (E.state engine.old) plan.now }
     requires least { least ≡ (E.state engine.old).words.least }
     ensures bound { IsBound (flags plan.now.named.items) (E.state engine.old) result }
     ensures unchanged { E.state engine.new ≡ E.state engine.old }
@@ -44,8 +43,8 @@ pub fn bound_of<E: Feasible>(engine: &mut E, plan: &Plan, least: u8) -> u8
 /// The greatest grade at which the flagged lights spell active words and each watched light has a feasible word, as
 /// they do at `grade`. Changes the least grade.
 fn greatest_grade<E: Feasible>(engine: &mut E, watched: &[bool], fresh: &[bool], grade: u8) -> u8
-    requires watched { length watched.now ≡ light_count (position_of (E.state engine.old)) }
-    requires fresh { length fresh.now ≡ light_count (position_of (E.state engine.old)) }
+    requires watched { length watched.now ≡ light_count (E.state engine.old) }
+    requires fresh { length fresh.now ≡ light_count (E.state engine.old) }
     requires graded { grade ≤ best_grade }
     requires active { AreActiveAt (flags fresh.now) (E.state engine.old) grade }
     requires alive { AreAliveAt (flags watched.now) (E.state engine.old) grade }
@@ -72,8 +71,8 @@ pub fn probe_at<E: Searchable>(
     limit: u64,
     effort: &mut Effort,
 ) -> Result<Probe, AllocError>
-    requires plan { IsPlan (position_of (E.state engine.old)) plan.now }
-    requires fresh { AreFresh (position_of (E.state engine.old)) fresh.now }
+    requires plan { IsPlan (E.state engine.old) plan.now }
+    requires fresh { AreFresh (E.state engine.old) fresh.now }
     requires least { least ≡ (E.state engine.old).words.least }
     requires above { least ≤ grade }
     requires graded { grade ≤ best_grade }

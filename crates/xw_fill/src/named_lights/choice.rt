@@ -3,11 +3,10 @@
 ghost use Rattle.std.specs.Prelude.{◌≡◌, ◌≤◌, ◌<◌, ℕ, All, Contains, length, true, false, is_some, slice_index, IfSome, IfNone, None};
 ghost use Rattle.xw_letters.specs.LetterSet.{has};
 ghost use Rattle.xw_feas.specs.Board.{board_of, is_open};
-ghost use Rattle.xw_fill.specs.FeasibleLetters.{is_feasible_letter};
-ghost use Rattle.xw_fill.specs.Position.{position_of};
-ghost use Rattle.xw_fill.specs.Search.{light_count};
+ghost use Rattle.xw_fill.specs.OfState.{is_feasible_letter, light_count};
+ghost use Rattle.xw_fill.specs.Inner.OfState.{IsNextLetter, HasNoLetter};
 ghost use Rattle.xw_fill.specs.NamedFill.{entry_in};
-ghost use Rattle.xw_fill.specs.Inner.Progress.{entries_of, IsNextLetter, HasNoLetter};
+ghost use Rattle.xw_fill.specs.Inner.Progress.{entries_of};
 
 use crate::scan::{board, light_count};
 use xw_feas::feasible::Feasible;
@@ -18,7 +17,7 @@ use xw_letters::letter_set::LetterSet;
 /// The feasible letters of an open cell.
 pub fn letters_at<E: Feasible>(engine: &E, cell: usize) -> LetterSet
     requires { is_open (board_of (E.state engine.now).grid) cell ≡ true }
-    ensures { (letter : ℕ) → has result letter ≡ is_feasible_letter (position_of (E.state engine.now)) cell letter }
+    ensures { (letter : ℕ) → has result letter ≡ is_feasible_letter (E.state engine.now) cell letter }
 {
     match engine.letters(engine.grid().cell_at(cell)) {
         Ok(letters) => letters,
@@ -115,7 +114,7 @@ fn tally_at<E: Searchable>(
     letter: Letter,
     weighted: bool,
 ) -> u64
-    requires { IfSome light (λ light. light < light_count (position_of (E.state engine.now))) }
+    requires { IfSome light (λ light. light < light_count (E.state engine.now)) }
 {
     let Some(light) = light else {
         return 0;
@@ -151,8 +150,8 @@ pub fn next_letter<E: Searchable>(
     weighted: bool,
 ) -> Option<Letter>
     requires { is_open (board_of (E.state engine.now).grid) cell ≡ true }
-    ensures some { IfSome result (IsNextLetter (position_of (E.state engine.now)) cell tried) }
-    ensures none { IfNone result (HasNoLetter (position_of (E.state engine.now)) cell tried) }
+    ensures some { IfSome result (IsNextLetter (E.state engine.now) cell tried) }
+    ensures none { IfNone result (HasNoLetter (E.state engine.now) cell tried) }
 {
     let letters = letters_at(engine, cell);
     let is_choice = letters.len() > 1;

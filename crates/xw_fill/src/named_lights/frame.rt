@@ -3,8 +3,9 @@ ghost use Rattle.std.specs.Prelude.{◌≡◌, Some, None, IfSome, IfNone, true,
 ghost use Rattle.xw_feas.specs.Board.{board_of, is_open};
 ghost use Rattle.xw_feas.specs.State.{State};
 ghost use Rattle.xw_fill.specs.NamedFill.{flags};
-ghost use Rattle.xw_fill.specs.Position.{position_of, DiffersInEntries};
-ghost use Rattle.xw_fill.specs.Inner.Progress.{entries_of, CanBeEntered, IsLetterEntered, IsLetterSet, IsDead};
+ghost use Rattle.xw_fill.specs.Position.{DiffersInEntries};
+ghost use Rattle.xw_fill.specs.Inner.OfState.{IsDead};
+ghost use Rattle.xw_fill.specs.Inner.Progress.{entries_of, CanBeEntered, IsLetterEntered, IsLetterSet};
 
 use crate::placement::Placement;
 use xw_feas::edit::{Edit, EntryEdit};
@@ -44,7 +45,7 @@ fn try_letter<E: Searchable>(
     requires marked { E.saved mark.now ≡ E.state engine.old }
     ensures entered { IfNone result (IsLetterSet cell letter (E.state engine.old) (E.state engine.new)) }
     ensures same { IfSome result (λ light. E.state engine.new ≡ E.state engine.old) }
-    ensures dead { IfSome result (λ light. (there : State) × IsLetterSet cell letter (E.state engine.old) there × IsDead (flags watched.now) (position_of there) light) }
+    ensures dead { IfSome result (λ light. (there : State) × IsLetterSet cell letter (E.state engine.old) there × IsDead (flags watched.now) there light) }
 {
     let cell = engine.grid().cell_at(cell);
     match engine.try_edit(&EntryEdit::Set(cell, letter), watched, mark) {

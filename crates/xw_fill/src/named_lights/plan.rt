@@ -1,10 +1,10 @@
 //! The cells that a search fills, and the lights that it watches.
 ghost use Rattle.std.specs.Prelude.{◌≡◌, ◌<◌, ℕ, length, Bool, true, false, IfOk, Option, Some, None};
 ghost use Rattle.xw_feas.specs.Board.{board_of, light_at};
-ghost use Rattle.xw_fill.specs.Position.{position_of};
-ghost use Rattle.xw_fill.specs.Search.{light_count};
-ghost use Rattle.xw_fill.specs.NamedFill.{flags, is_in_named};
-ghost use Rattle.xw_fill.specs.Inner.Progress.{is_target, has_target, AreTargets, AreWatched, is_flagged, IsPlan};
+ghost use Rattle.xw_fill.specs.OfState.{light_count, is_in_named};
+ghost use Rattle.xw_fill.specs.Inner.OfState.{is_target, has_target, AreTargets, AreWatched, IsPlan};
+ghost use Rattle.xw_fill.specs.NamedFill.{flags};
+ghost use Rattle.xw_fill.specs.Inner.Progress.{is_flagged};
 
 use crate::scan::{board, light_count};
 use std::alloc::{AllocError, Global};
@@ -31,7 +31,7 @@ fn is_flagged(named: &[bool], light: Option<usize>) -> bool
 /// Whether a cell is in a named light.
 fn is_in_named<E: Feasible>(engine: &E, named: &[bool], cell: usize) -> bool
     requires { cell < length (board_of (E.state engine.now).grid).open_cells }
-    ensures { result ≡ is_in_named (flags named.now) (position_of (E.state engine.now)) cell }
+    ensures { result ≡ is_in_named (flags named.now) (E.state engine.now) cell }
 {
     let (across, down) = board(engine).lights_at(cell);
     is_flagged(named, across) || is_flagged(named, down)
@@ -40,15 +40,15 @@ fn is_in_named<E: Feasible>(engine: &E, named: &[bool], cell: usize) -> bool
 /// Whether a cell is to be filled.
 fn is_target<E: Feasible>(engine: &E, named: &[bool], cell: usize) -> bool
     requires { cell < length (board_of (E.state engine.now).grid).open_cells }
-    ensures { result ≡ is_target (flags named.now) (position_of (E.state engine.now)) cell }
+    ensures { result ≡ is_target (flags named.now) (E.state engine.now) cell }
 {
     board(engine).entry(cell).is_none() && is_in_named(engine, named, cell)
 }
 
 /// Whether a light passes through a cell that is to be filled.
 fn has_target<E: Feasible>(engine: &E, named: &[bool], light: usize) -> bool
-    requires { light < light_count (position_of (E.state engine.now)) }
-    ensures { result ≡ has_target (flags named.now) (position_of (E.state engine.now)) light }
+    requires { light < light_count (E.state engine.now) }
+    ensures { result ≡ has_target (flags named.now) (E.state engine.now) light }
 {
     let cells = board(engine).light(light);
     for pos in 0..cells.len() {
@@ -65,7 +65,7 @@ fn targets_of<E: Feasible>(
     engine: &E,
     named: &[bool],
 ) -> Result<Vec<usize>, AllocError>
-    ensures { IfOk result (λ targets. AreTargets (flags named.now) (position_of (E.state engine.now)) targets.items) }
+    ensures { IfOk result (λ targets. AreTargets (flags named.now) (E.state engine.now) targets.items) }
 {
     let mut targets = Vec::new(alloc);
     for cell in 0..board(engine).cell_count() {
@@ -82,7 +82,7 @@ fn watched_of<E: Feasible>(
     engine: &E,
     named: &[bool],
 ) -> Result<Vec<bool>, AllocError>
-    ensures { IfOk result (λ watched. AreWatched (flags named.now) (position_of (E.state engine.now)) watched.items) }
+    ensures { IfOk result (λ watched. AreWatched (flags named.now) (E.state engine.now) watched.items) }
 {
     let mut watched = Vec::new(alloc);
     for light in 0..light_count(engine) {
@@ -96,7 +96,7 @@ impl Plan {
     /// The plan to fill the named lights of an engine.
     pub fn of<E: Feasible>(alloc: Global, engine: &E, named: Vec<bool>) -> Result<Plan, AllocError>
         ensures named { IfOk result (λ plan. plan.named ≡ named) }
-        ensures ok { IfOk result (λ plan. IsPlan (position_of (E.state engine.now)) plan) }
+        ensures ok { IfOk result (λ plan. IsPlan (E.state engine.now) plan) }
     {
         let targets = targets_of(alloc, engine, &named)?;
         let watched = watched_of(alloc, engine, &named)?;

@@ -2,11 +2,12 @@
 ghost use Rattle.std.specs.Prelude.{◌≡◌, ◌<◌, ◌≤◌, ℕ, length, true, false, ◌||◌, ◌==◌, [], IfOk};
 ghost use Rattle.xw_letters.specs.LetterSet.{has};
 ghost use Rattle.xw_feas.specs.Board.{board_of};
-ghost use Rattle.xw_fill.specs.Position.{position_of, DiffersInEntries};
-ghost use Rattle.xw_fill.specs.Search.{light_count};
+ghost use Rattle.xw_fill.specs.Position.{DiffersInEntries};
+ghost use Rattle.xw_fill.specs.OfState.{light_count, IsFillOf};
+ghost use Rattle.xw_fill.specs.Inner.OfState.{HasNone, IsPlan, IsOpen, IsRefuted, AreAlive, IsApartAt};
 ghost use Rattle.xw_fill.specs.Inner.Stack.{start_of, IsReady, StandsAt};
-ghost use Rattle.xw_fill.specs.NamedFill.{flags, IsFillOf};
-ghost use Rattle.xw_fill.specs.Inner.Progress.{entries_of, HasNone, IsPlan, IsOpen, CanBeEntered, IsLetterEntered, IsTried, IsRefuted, AreAlive, IsApartAt};
+ghost use Rattle.xw_fill.specs.NamedFill.{flags};
+ghost use Rattle.xw_fill.specs.Inner.Progress.{entries_of, CanBeEntered, IsLetterEntered, IsTried};
 
 use crate::named_lights::checks::{first_dead, has_repeat_at};
 use crate::named_lights::choice::{next_cell, next_letter};
@@ -94,11 +95,11 @@ fn is_refuted<E: Searchable>(
     weights: &mut Vec<u64>,
     cell: usize,
 ) -> bool
-    requires long { length watched.now ≡ light_count (position_of (E.state engine.now)) }
+    requires long { length watched.now ≡ light_count (E.state engine.now) }
     requires cell { cell < length (board_of (E.state engine.now).grid).open_cells }
-    ensures refuted { result ≡ true → IsRefuted (flags watched.now) (position_of (E.state engine.now)) }
-    ensures alive { result ≡ false → AreAlive (flags watched.now) (position_of (E.state engine.now)) }
-    ensures apart { result ≡ false → IsApartAt (position_of (E.state engine.now)) cell }
+    ensures refuted { result ≡ true → IsRefuted (flags watched.now) (E.state engine.now) }
+    ensures alive { result ≡ false → AreAlive (flags watched.now) (E.state engine.now) }
+    ensures apart { result ≡ false → IsApartAt (E.state engine.now) cell }
 {
     if let Some(light) = first_dead(engine, watched) {
         blame(weights, engine.emptied().unwrap_or(light));
@@ -116,7 +117,7 @@ fn try_letter<E: Searchable>(
     frame: Frame,
 ) -> Result<bool, AllocError>
     requires can { CanBeEntered frame (E.state engine.old) }
-    requires long { length plan.now.watched.items ≡ light_count (position_of (E.state engine.old)) }
+    requires long { length plan.now.watched.items ≡ light_count (E.state engine.old) }
     requires stands { StandsAt E.saved IsLetterEntered stack.old (E.state engine.old) }
     ensures stands { StandsAt E.saved IsLetterEntered stack.new (E.state engine.new) }
     ensures start { start_of E.saved stack.new ≡ start_of E.saved stack.old }
@@ -154,8 +155,8 @@ fn search<E: Searchable>(
     effort: &mut Effort,
     cut: u64,
 ) -> Ending
-    requires plan { IsPlan (position_of (E.state engine.old)) plan.now }
-    requires open { IsOpen (flags plan.now.named.items) (position_of (E.state engine.old)) (entries_of (E.state engine.old)) }
+    requires plan { IsPlan (E.state engine.old) plan.now }
+    requires open { IsOpen (flags plan.now.named.items) (E.state engine.old) (entries_of (E.state engine.old)) }
     requires stands { StandsAt E.saved IsLetterEntered stack.old (E.state engine.old) }
     requires empty { stack.old.placements.items ≡ [] }
     ensures ready { IsReady E.saved stack.new (E.state engine.new) }
@@ -163,8 +164,8 @@ fn search<E: Searchable>(
     ensures entries { DiffersInEntries (E.state engine.old) (E.state engine.new) }
     ensures left { effort.new.left ≤ effort.old.left }
     ensures cut { result ≡ Ending.Cut → effort.new.left < effort.old.left }
-    ensures filled { result ≡ Ending.Filled → IsFillOf (flags plan.now.named.items) (position_of (E.state engine.old)) (entries_of (E.state engine.new)) }
-    ensures no_fill { result ≡ Ending.NoFill → HasNone (flags plan.now.named.items) (position_of (E.state engine.old)) (entries_of (E.state engine.old)) }
+    ensures filled { result ≡ Ending.Filled → IsFillOf (flags plan.now.named.items) (E.state engine.old) (entries_of (E.state engine.new)) }
+    ensures no_fill { result ≡ Ending.NoFill → HasNone (flags plan.now.named.items) (E.state engine.old) (entries_of (E.state engine.old)) }
 {
     let Some(first) = next_cell(engine, &plan.targets, &effort.weights, effort.seed) else {
         return Ending::Filled;
@@ -218,15 +219,15 @@ pub fn run<E: Searchable>(
     effort: &mut Effort,
     cut: u64,
 ) -> Ending
-    requires plan { IsPlan (position_of (E.state engine.old)) plan.now }
-    requires open { IsOpen (flags plan.now.named.items) (position_of (E.state engine.old)) (entries_of (E.state engine.old)) }
+    requires plan { IsPlan (E.state engine.old) plan.now }
+    requires open { IsOpen (flags plan.now.named.items) (E.state engine.old) (entries_of (E.state engine.old)) }
     requires ready { IsReady E.saved stack.old (E.state engine.old) }
     ensures ready { IsReady E.saved stack.new (E.state engine.new) }
     ensures left { effort.new.left ≤ effort.old.left }
     ensures cut { result ≡ Ending.Cut → effort.new.left < effort.old.left }
-    ensures filled { result ≡ Ending.Filled → IsFillOf (flags plan.now.named.items) (position_of (E.state engine.old)) (entries_of (E.state engine.new)) }
+    ensures filled { result ≡ Ending.Filled → IsFillOf (flags plan.now.named.items) (E.state engine.old) (entries_of (E.state engine.new)) }
     ensures entries { result ≡ Ending.Filled → DiffersInEntries (E.state engine.old) (E.state engine.new) }
-    ensures no_fill { result ≡ Ending.NoFill → HasNone (flags plan.now.named.items) (position_of (E.state engine.old)) (entries_of (E.state engine.old)) }
+    ensures no_fill { result ≡ Ending.NoFill → HasNone (flags plan.now.named.items) (E.state engine.old) (entries_of (E.state engine.old)) }
     ensures same { (result ≡ Ending.Filled → ⊥) → E.state engine.new ≡ E.state engine.old }
 {
     stack.begin(engine);

@@ -1,0 +1,123 @@
+-- The definitions about a position, under the same names, for the position of a state. A contract of code over any
+-- engine speaks of the state of the engine, so it cites these.
+use Rattle.std.specs.Prelude.{ℕ, Bool, List, Option}
+use Rattle.xw_feas.specs.State.{State}
+use Rattle.xw_fill.specs.Position.{Position, position_of}
+use Rattle.xw_fill.specs.FeasibleWords
+use Rattle.xw_fill.specs.FeasibleLetters
+use Rattle.xw_fill.specs.Search
+use Rattle.xw_fill.specs.Filling
+use Rattle.xw_fill.specs.Words
+use Rattle.xw_fill.specs.Suggesting
+use Rattle.xw_fill.specs.Choices
+use Rattle.xw_fill.specs.Listing
+use Rattle.xw_fill.specs.NamedFill
+use Rattle.xw_fill.specs.declared.scan.Scan.{Scan}
+use Rattle.xw_fill.specs.declared.search.Next.{Next}
+
+-- ---- feasible words and letters
+
+abbrev pub feasible_words : State → ℕ → List (List ℕ)
+feasible_words state = FeasibleWords.feasible_words (position_of state)
+
+abbrev pub is_feasible_letter : State → ℕ → ℕ → Bool
+is_feasible_letter state = FeasibleLetters.is_feasible_letter (position_of state)
+
+abbrev pub feasible_letters : State → ℕ → List ℕ
+feasible_letters state = FeasibleLetters.feasible_letters (position_of state)
+
+-- ---- lights
+
+abbrev pub light_count : State → ℕ
+light_count state = Search.light_count (position_of state)
+
+abbrev pub is_entered : State → ℕ → Bool
+is_entered state = Search.is_entered (position_of state)
+
+abbrev pub spelling : State → ℕ → List ℕ
+spelling state = Search.spelling (position_of state)
+
+abbrev pub spell_same : State → ℕ → ℕ → Bool
+spell_same state = Search.spell_same (position_of state)
+
+abbrev pub is_repeat : State → ℕ → Bool
+is_repeat state = Search.is_repeat (position_of state)
+
+abbrev pub first_same : State → ℕ → Option ℕ
+first_same state = Search.first_same (position_of state)
+
+abbrev pub lacks_words : State → ℕ → Bool
+lacks_words state = Search.lacks_words (position_of state)
+
+abbrev pub unentered_count : State → ℕ
+unentered_count state = Search.unentered_count (position_of state)
+
+-- ---- the search for a fill
+
+abbrev pub is_dead : State → Bool
+is_dead state = Search.is_dead (position_of state)
+
+abbrev pub chosen : State → Option ℕ
+chosen state = Search.chosen (position_of state)
+
+abbrev pub found : State → Bool
+found state = Search.found (position_of state)
+
+abbrev pub due : State → ℕ
+due state = Search.due (position_of state)
+
+abbrev pub end : State → Position
+end state = Search.end (position_of state)
+
+abbrev pub scanned : State → Scan
+scanned state = Filling.scanned (position_of state)
+
+abbrev pub outlook : State → Next
+outlook state = Filling.outlook (position_of state)
+
+-- ---- words by their indices
+
+abbrev pub spellings_at : State → ℕ → List (List ℕ)
+spellings_at state = Words.spellings_at (position_of state)
+
+abbrev pub words_left : State → ℕ → ℕ → List (List ℕ)
+words_left state = Words.words_left (position_of state)
+
+abbrev pub IsNextWord : State → ℕ → ℕ → ℕ → Type 0
+IsNextWord state = Words.IsNextWord (position_of state)
+
+abbrev pub HasNoMore : State → ℕ → ℕ → Type 0
+HasNoMore state = Words.HasNoMore (position_of state)
+
+-- ---- suggestions and choices
+
+abbrev pub leaves_words : State → ℕ → List ℕ → Bool
+leaves_words state = Suggesting.leaves_words (position_of state)
+
+abbrev pub index_to_try : State → ℕ → Option ℕ
+index_to_try state = Suggesting.index_to_try (position_of state)
+
+abbrev pub IsTriedAt : State → ℕ → ℕ → Type 0
+IsTriedAt state = Suggesting.IsTriedAt (position_of state)
+
+abbrev pub fewest_words : State → Option ℕ
+fewest_words state = Choices.fewest_words (position_of state)
+
+-- ---- lists of lights
+
+abbrev pub is_listed : State → List ℕ → Bool
+is_listed state = Listing.is_listed (position_of state)
+
+abbrev pub is_unlisted : State → ℕ → Bool
+is_unlisted state = Listing.is_unlisted (position_of state)
+
+abbrev pub grade_of : State → ℕ → Option ℕ
+grade_of state = Listing.grade_of (position_of state)
+
+-- ---- fills of the named lights
+
+abbrev pub is_in_named : (ℕ → Bool) → State → ℕ → Bool
+is_in_named named state = NamedFill.is_in_named named (position_of state)
+
+abbrev pub IsFillOf : (ℕ → Bool) → State → List (Option ℕ) → Type 0
+IsFillOf named state = NamedFill.IsFillOf named (position_of state)
