@@ -1,2 +1,3 @@
 pub mod Reason
 pub mod Sparing
+pub mod OfState

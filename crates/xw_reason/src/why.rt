@@ -1,8 +1,9 @@
 //! Why a light has no feasible word.
 ghost use Rattle.std.specs.Prelude.{◌≡◌, ◌<◌, true, IfOk, IfErr};
-ghost use Rattle.xw_fill.specs.Position.{position_of, DiffersInEntries};
-ghost use Rattle.xw_fill.specs.Search.{light_count, lacks_words};
-ghost use Rattle.xw_reason.specs.Reason.{entries_of, no_entries, IsReason, IsReasonOf, IsRefused};
+ghost use Rattle.xw_fill.specs.Position.{DiffersInEntries};
+ghost use Rattle.xw_fill.specs.OfState.{light_count, lacks_words};
+ghost use Rattle.xw_reason.specs.OfState.{IsReason};
+ghost use Rattle.xw_reason.specs.Reason.{entries_of, no_entries, IsReasonOf, IsRefused};
 ghost use Rattle.xw_reason.specs.Sparing.{IsListOf, IsRoom};
 
 use crate::entries::{emptied, entered_cells, note_entries, room_for_entries, write, write_from};
@@ -40,7 +41,7 @@ pub struct Room {
 impl Room {
     /// Allocates the room for a search.
     fn new<E: Feasible>(alloc: Global, engine: &E, light: usize) -> Result<Room, NoReason>
-        requires { light < light_count (position_of (E.state engine.now)) }
+        requires { light < light_count (E.state engine.now) }
         ensures ok { IfOk result (λ room. IsRoom (E.state engine.now) room) }
         ensures memory { IfErr result (λ refusal. refusal ≡ NoReason.Memory) }
     {
@@ -64,11 +65,11 @@ fn leave_reason<E: Feasible>(
     entered: &[(Cell, Option<Letter>)],
     emptied: &[(Cell, Option<Letter>)],
 )
-    requires light { light < light_count (position_of (E.state engine.old)) }
-    requires dead { lacks_words (position_of (E.state engine.old)) light ≡ true }
+    requires light { light < light_count (E.state engine.old) }
+    requires dead { lacks_words (E.state engine.old) light ≡ true }
     requires entered { IsListOf (E.state engine.old) (entries_of (E.state engine.old)) entered.now }
     requires emptied { IsListOf (E.state engine.old) (no_entries (entries_of (E.state engine.old))) emptied.now }
-    ensures reason { IsReason (position_of (E.state engine.old)) light (entries_of (E.state engine.new)) }
+    ensures reason { IsReason (E.state engine.old) light (entries_of (E.state engine.new)) }
     ensures rest { DiffersInEntries (E.state engine.old) (E.state engine.new) }
 {
     write(engine, emptied);
@@ -88,10 +89,10 @@ fn leave_reason<E: Feasible>(
 
 /// Finds a reason, copies it into the room, and writes all entries back.
 fn find<E: Feasible>(engine: &mut E, light: usize, room: &mut Room)
-    requires light { light < light_count (position_of (E.state engine.old)) }
-    requires dead { lacks_words (position_of (E.state engine.old)) light ≡ true }
+    requires light { light < light_count (E.state engine.old) }
+    requires dead { lacks_words (E.state engine.old) light ≡ true }
     requires room { IsRoom (E.state engine.old) room.old }
-    ensures reason { IsReason (position_of (E.state engine.old)) light room.new.reason.items }
+    ensures reason { IsReason (E.state engine.old) light room.new.reason.items }
     ensures unchanged { E.state engine.new ≡ E.state engine.old }
 {
     leave_reason(engine, light, &room.entered, &room.emptied);
