@@ -4,12 +4,9 @@ use Rattle.xw_letters.specs.Letter.{folded}
 use Rattle.xw_words.specs.declared.fault.WordFault.TheVariants as words
 use Rattle.xw_words.specs.Dictionary.{index_of_word}
 use Rattle.xw_words.specs.Word.{is_bad_letter}
-use Rattle.xw_feas.specs.Board.{light_at}
+use Rattle.xw_feas.specs.Board.{board_of, light_at}
 use Rattle.xw_feas.specs.State.{State as EngineState}
-use Rattle.xw_fill.specs.Position.{position_of}
-use Rattle.xw_fill.specs.FeasibleWords.{feasible_words}
-use Rattle.xw_fill.specs.Search.{is_entered}
-use Rattle.xw_fill.specs.Words.{words_left}
+use Rattle.xw_fill.specs.OfState.{feasible_words, is_entered, words_left}
 use Rattle.xw_fill.specs.Choices.{fewest_after}
 use Rattle.xw_answers.specs.declared.refusal.Refusal.{Refusal}
 use Rattle.xw_answers.specs.declared.refusal.Refusal.TheVariants as refusals
@@ -34,7 +31,7 @@ known_index (Some index) = Ok (Some index)
 abbrev pub spelled_index : EngineState → ℕ → Option ℕ → List ℕ → Result (Option ℕ) Refusal
 spelled_index state light (Some at) bytes = Err (refusals.Word (words.BadLetter (at + 1)))
 spelled_index state light None bytes =
-    if length bytes == length (light_at (position_of state).board light) then known_index (index_of_word state.words (map folded bytes)) else Err refusals.PlaceLength
+    if length bytes == length (light_at (board_of state.grid) light) then known_index (index_of_word state.words (map folded bytes)) else Err refusals.PlaceLength
 
 -- The index of the word to begin with, if one is named. The refusals are tested in this order: a byte that is not a
 -- letter, another length than that of the light, a word that is not known.
@@ -47,8 +44,8 @@ first_index state light (Some bytes) = spelled_index state light (position is_ba
 -- The feasible words of a light, from an index of the dictionary on if one is given. A wholly entered light has all of
 -- its words, which are the entered one or none.
 abbrev pub words_from : EngineState → ℕ → Option ℕ → List (List ℕ)
-words_from state light None = feasible_words (position_of state) light
-words_from state light (Some index) = if is_entered (position_of state) light then feasible_words (position_of state) light else words_left (position_of state) light index
+words_from state light None = feasible_words state light
+words_from state light (Some index) = if is_entered state light then feasible_words state light else words_left state light index
 
 -- the lines of at most this many words, in the order of the dictionary
 abbrev pub choice_lines : EngineState → ℕ → Option ℕ → ℕ → List ℕ

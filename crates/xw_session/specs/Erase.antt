@@ -7,8 +7,7 @@ use Rattle.xw_grid.specs.declared.lights.Light.{Light}
 use Rattle.xw_grid.specs.Grid.{entry}
 use Rattle.xw_grid.specs.Light.{cells_of, lights_of, index_through}
 use Rattle.xw_feas.specs.State.{State as EngineState}
-use Rattle.xw_fill.specs.Position.{position_of}
-use Rattle.xw_fill.specs.Search.{is_entered}
+use Rattle.xw_fill.specs.OfState.{is_entered}
 
 -- the direction of the lights that cross those of a direction
 abbrev pub crossing : Direction → Direction
@@ -18,7 +17,7 @@ crossing Down = Across
 -- there is a light, and it is wholly entered
 abbrev pub is_complete : EngineState → Option ℕ → Bool
 is_complete engine None = false
-is_complete engine (Some light) = is_entered (position_of engine) light
+is_complete engine (Some light) = is_entered engine light
 
 -- the light that crosses those of a direction at the cell is wholly entered
 abbrev pub is_held : EngineState → Direction → Cell → Bool

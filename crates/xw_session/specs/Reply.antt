@@ -17,10 +17,8 @@ use Rattle.xw_grid.specs.Clue.{no_clues, with_clue, is_circled, with_circle}
 use Rattle.xw_feas.specs.declared.edit.Refusal.{Refusal as EditRefusal}
 use Rattle.xw_feas.specs.State.{State as EngineState, Action, after, want_of as want_of_edit, letter_set, cell_cleared, word_placed, list_written, block_toggled, bar_toggled, symmetry_chosen, word_added, word_struck, least_chosen}
 use Rattle.xw_feas.specs.Changes.{cells_that_differ}
-use Rattle.xw_fill.specs.Position.{position_of, filled_in}
-use Rattle.xw_fill.specs.FeasibleWords.{feasible_words}
-use Rattle.xw_fill.specs.FeasibleLetters.{feasible_letters}
-use Rattle.xw_fill.specs.Search.{found, due, end}
+use Rattle.xw_fill.specs.Position.{filled_in}
+use Rattle.xw_fill.specs.OfState.{feasible_words, feasible_letters, found, due, end}
 use Rattle.xw_fill.specs.Suggesting.{suggestion}
 use Rattle.xw_fill.specs.declared.search.Filling.{Filling}
 use Rattle.xw_fill.specs.declared.search.Filling.TheVariants as fillings
@@ -74,8 +72,8 @@ shown state lines = Ok (record { lines = lines; state = state })
 -- the open cells whose feasible letters changed, each with its new letters, in reading order
 abbrev pub changes_between : EngineState → EngineState → List (Cell × List ℕ)
 changes_between before after =
-    map (λ index. (cell_at after.grid index, feasible_letters (position_of after) index))
-    (cells_that_differ after.grid (feasible_letters (position_of before)) (feasible_letters (position_of after)) 0)
+    map (λ index. (cell_at after.grid index, feasible_letters after index))
+    (cells_that_differ after.grid (feasible_letters before) (feasible_letters after) 0)
 
 -- the changed cells if the watch is on
 abbrev pub watch_lines : State → EngineState → List ℕ
@@ -150,7 +148,7 @@ first_words (Some most) found = take most found
 abbrev pub worded : State → Option ℕ → Option ℕ → Result Reply Refusal
 worded state None most = Err refusals.NoLight
 worded state (Some light) most =
-    shown state (counted_lines (length (feasible_words (position_of state.engine) light)) (first_words most (feasible_words (position_of state.engine) light)))
+    shown state (counted_lines (length (feasible_words state.engine light)) (first_words most (feasible_words state.engine light)))
 
 -- the first feasible words of a light, from an index on, with what each leaves
 abbrev pub weighed_from : State → ℕ → ℕ → Result (Option ℕ) Refusal → Result Reply Refusal
@@ -175,7 +173,7 @@ abbrev pub lettered : State → Cell → Result Reply Refusal
 lettered state cell =
     if not (is_inside state.engine.grid cell) then Err (refusals.Grid grids.OutOfGrid)
     else if is_block state.engine.grid cell then Err (refusals.Grid grids.OnBlock)
-    else shown state (letters_line (feasible_letters (position_of state.engine) (index_of state.engine.grid cell)))
+    else shown state (letters_line (feasible_letters state.engine (index_of state.engine.grid cell)))
 
 -- for each feasible letter of an open cell the counts of its lights
 abbrev pub tallied : State → Cell → Result Reply Refusal
@@ -192,8 +190,8 @@ filling_name fillings.Limit = codes "limit"
 -- Limit if more placements are due than allowed, Filled if a fill is found, and otherwise NoFill
 abbrev pub fill_tried : State → ℕ → Result Reply Refusal
 fill_tried state limit =
-    if nat_lt limit (due (position_of state.engine)) then shown state (word_line (filling_name fillings.Limit))
-    else if found (position_of state.engine) then Ok (record { lines = word_line (filling_name fillings.Filled); state = record state { engine = filled_in state.engine (end (position_of state.engine)).board.entries } })
+    if nat_lt limit (due state.engine) then shown state (word_line (filling_name fillings.Limit))
+    else if found state.engine then Ok (record { lines = word_line (filling_name fillings.Filled); state = record state { engine = filled_in state.engine (end state.engine).board.entries } })
     else shown state (word_line (filling_name fillings.NoFill))
 
 -- ---- the reply to each command if no allocation fails

@@ -6,9 +6,7 @@ use Rattle.xw_grid.specs.declared.cell.Direction.TheVariants.{Across, Down}
 use Rattle.xw_grid.specs.Grid.{Grid, index_of}
 use Rattle.xw_grid.specs.Light.{lights_of, no_light, index_through}
 use Rattle.xw_feas.specs.State.{State as EngineState}
-use Rattle.xw_fill.specs.Position.{position_of}
-use Rattle.xw_fill.specs.FeasibleWords.{feasible_words}
-use Rattle.xw_fill.specs.FeasibleLetters.{feasible_letters}
+use Rattle.xw_fill.specs.OfState.{feasible_words, feasible_letters}
 use Rattle.xw_answers.specs.Text.{line_of}
 
 -- the index of a cell in a light, by the first cell of the light
@@ -23,7 +21,7 @@ start_of grid light = (slice_index_or (lights_of grid) light no_light).start
 -- the number of feasible words of a light in a direction that have the letter in a cell
 abbrev pub words_with : EngineState → Direction → Cell → ℕ → ℕ → ℕ
 words_with engine direction cell letter light =
-    count_by (λ word. slice_index word (distance direction (start_of engine.grid light) cell) == letter) (feasible_words (position_of engine) light)
+    count_by (λ word. slice_index word (distance direction (start_of engine.grid light) cell) == letter) (feasible_words engine light)
 
 -- that number for the light in a direction through the cell; None if there is no such light
 abbrev pub tally_at : EngineState → Direction → Cell → ℕ → Option ℕ
@@ -40,4 +38,4 @@ tally_line engine cell letter =
 
 -- a line for each feasible letter of the cell
 abbrev pub tally_lines : EngineState → Cell → List ℕ
-tally_lines engine cell = flat_map (tally_line engine cell) (feasible_letters (position_of engine) (index_of engine.grid cell))
+tally_lines engine cell = flat_map (tally_line engine cell) (feasible_letters engine (index_of engine.grid cell))

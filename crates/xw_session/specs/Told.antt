@@ -5,16 +5,14 @@ use Rattle.xw_grid.specs.declared.cell.Cell.{Cell}
 use Rattle.xw_grid.specs.Grid.{Grid, is_open, index_of, cells}
 use Rattle.xw_grid.specs.Light.{lights_of, no_light}
 use Rattle.xw_feas.specs.State.{State as EngineState}
-use Rattle.xw_fill.specs.Position.{position_of}
-use Rattle.xw_fill.specs.FeasibleWords.{feasible_words}
-use Rattle.xw_fill.specs.FeasibleLetters.{feasible_letters}
+use Rattle.xw_fill.specs.OfState.{feasible_words, feasible_letters}
 use Rattle.xw_session.specs.State.{State}
 use Rattle.xw_answers.specs.Text.{change_line, numbered_line}
 use Rattle.xw_answers.specs.Fields.{field_lines, clue_lines}
 
 -- an open cell with its feasible letters, in the form of the watch; nothing for a block
 abbrev pub letters_told : EngineState → Cell → List ℕ
-letters_told engine cell = if is_open engine.grid cell then change_line (cell, feasible_letters (position_of engine) (index_of engine.grid cell)) else []
+letters_told engine cell = if is_open engine.grid cell then change_line (cell, feasible_letters engine (index_of engine.grid cell)) else []
 
 -- all open cells, in reading order
 abbrev pub cell_lines : EngineState → List ℕ
@@ -22,7 +20,7 @@ cell_lines engine = flat_map (letters_told engine) (cells engine.grid)
 
 -- the light at an index, with the number of its feasible words
 abbrev pub count_line : EngineState → ℕ → List ℕ
-count_line engine index = numbered_line (slice_index_or (lights_of engine.grid) index no_light).name (length (feasible_words (position_of engine) index))
+count_line engine index = numbered_line (slice_index_or (lights_of engine.grid) index no_light).name (length (feasible_words engine index))
 
 -- all lights, in order
 abbrev pub count_lines : EngineState → List ℕ

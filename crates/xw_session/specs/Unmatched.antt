@@ -5,13 +5,13 @@ use Rattle.xw_grid.specs.Light.{lights_of}
 use Rattle.xw_feas.specs.Board.{board_of}
 use Rattle.xw_feas.specs.Feasible.{base_words_at}
 use Rattle.xw_feas.specs.State.{State as EngineState}
-use Rattle.xw_fill.specs.Position.{position_of, name_at}
-use Rattle.xw_fill.specs.Search.{is_entered}
+use Rattle.xw_fill.specs.Position.{name_at}
+use Rattle.xw_fill.specs.OfState.{is_entered}
 use Rattle.xw_answers.specs.Text.{spelled_line}
 
 -- the light is not wholly entered, and has no base word: no active word of its length agrees with its entries
 abbrev pub is_unmatched : EngineState → ℕ → Bool
-is_unmatched engine light = not (is_entered (position_of engine) light) && (length (base_words_at (board_of engine.grid) engine.words light) == 0)
+is_unmatched engine light = not (is_entered engine light) && (length (base_words_at (board_of engine.grid) engine.words light) == 0)
 
 -- the line of an unmatched light, with its letters; nothing for any other light
 abbrev pub unmatched_line : EngineState → ℕ → List ℕ

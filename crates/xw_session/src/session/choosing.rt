@@ -1,10 +1,7 @@
 //! Answers `choices`.
 ghost use Rattle.std.specs.Prelude.{◌≡◌, ◌<◌, true, false, length, slice_index_or, [], ◌∷◌, Some, None};
 ghost use Rattle.xw_grid.specs.Light.{lights_of, index_named};
-ghost use Rattle.xw_fill.specs.Position.{position_of};
-ghost use Rattle.xw_fill.specs.Search.{light_count, is_entered as is_entered_light};
-ghost use Rattle.xw_fill.specs.Suggesting.{IsTriedAt};
-ghost use Rattle.xw_fill.specs.Words.{spellings_at};
+ghost use Rattle.xw_fill.specs.OfState.{light_count, is_entered as is_entered_light, IsTriedAt, spellings_at};
 ghost use Rattle.xw_lines.specs.Sends.{Sends};
 ghost use Rattle.xw_answers.specs.Text.{line_of};
 ghost use Rattle.xw_answers.specs.Token.{token_bytes};
@@ -61,9 +58,9 @@ fn write_entered_choice<W: Sink>(
 
 /// Returns the known word at an index among those of a light's length.
 fn known_word<E: Feasible>(engine: &E, light: usize, index: usize) -> &[Letter]
-    requires light { light < light_count (position_of (E.state engine.now)) }
-    requires index { index < length (spellings_at (position_of (E.state engine.now)) light) }
-    ensures { result.now ≡ slice_index_or (spellings_at (position_of (E.state engine.now)) light) index [] }
+    requires light { light < light_count (E.state engine.now) }
+    requires index { index < length (spellings_at (E.state engine.now) light) }
+    ensures { result.now ≡ slice_index_or (spellings_at (E.state engine.now) light) index [] }
 {
     let size = light_at(engine, light).size as usize;
     engine.bank().word(size, index)
@@ -76,8 +73,8 @@ fn write_choice_at<E: Feasible, W: Sink>(
     light: usize,
     index: usize,
 ) -> Result<(), WriteFailed>
-    requires tried { IsTriedAt (position_of (E.state engine.old)) light index }
-    ensures sends { Sends W.transcript W.failures sink.old sink.new result (choice_line (E.state engine.old) light (slice_index_or (spellings_at (position_of (E.state engine.old)) light) index [])) }
+    requires tried { IsTriedAt (E.state engine.old) light index }
+    ensures sends { Sends W.transcript W.failures sink.old sink.new result (choice_line (E.state engine.old) light (slice_index_or (spellings_at (E.state engine.old) light) index [])) }
     ensures unchanged { E.state engine.new ≡ E.state engine.old }
 {
     let fewest = fewest_after(engine, light, index);
@@ -93,8 +90,8 @@ fn write_choices<E: Feasible, W: Sink>(
     first: Option<usize>,
     most: u64,
 ) -> Result<(), WriteFailed>
-    requires light { light < light_count (position_of (E.state engine.old)) }
-    requires not_entered { is_entered_light (position_of (E.state engine.old)) light ≡ false }
+    requires light { light < light_count (E.state engine.old) }
+    requires not_entered { is_entered_light (E.state engine.old) light ≡ false }
     ensures sends { Sends W.transcript W.failures sink.old sink.new result (choice_lines (E.state engine.old) light first most) }
     ensures unchanged { E.state engine.new ≡ E.state engine.old }
 {
@@ -118,8 +115,8 @@ fn write_entered<E: Feasible, W: Sink>(
     light: usize,
     most: u64,
 ) -> Result<(), WriteFailed>
-    requires light { light < light_count (position_of (E.state engine.now)) }
-    requires entered { is_entered_light (position_of (E.state engine.now)) light ≡ true }
+    requires light { light < light_count (E.state engine.now) }
+    requires entered { is_entered_light (E.state engine.now) light ≡ true }
     ensures { Sends W.transcript W.failures sink.old sink.new result (choice_lines (E.state engine.now) light None most) }
 {
     if most == 0 || word_count(engine, light) == 0 {
@@ -138,7 +135,7 @@ fn write_weighed<E: Feasible, W: Sink>(
     first: Option<usize>,
     most: u64,
 ) -> Result<(), WriteFailed>
-    requires light { light < light_count (position_of (E.state engine.old)) }
+    requires light { light < light_count (E.state engine.old) }
     ensures sends { Sends W.transcript W.failures sink.old sink.new result (choice_lines (E.state engine.old) light first most) }
     ensures unchanged { E.state engine.new ≡ E.state engine.old }
 {
@@ -156,7 +153,7 @@ fn spelled_index<E: Feasible>(
     light: usize,
     word: &[u8],
 ) -> Result<Option<usize>, Refusal>
-    requires light { light < light_count (position_of (E.state engine.now)) }
+    requires light { light < light_count (E.state engine.now) }
     ensures { result ≡ first_index (E.state engine.now) light (Some word.now) }
 {
     if let Some(position) = bad_letter(word) {
@@ -179,7 +176,7 @@ fn first_index<E: Feasible>(
     light: usize,
     first: &Option<Text<'_>>,
 ) -> Result<Option<usize>, Refusal>
-    requires light { light < light_count (position_of (E.state engine.now)) }
+    requires light { light < light_count (E.state engine.now) }
     ensures { result ≡ first_index (E.state engine.now) light first.now }
 {
     match first {

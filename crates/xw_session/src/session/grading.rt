@@ -2,9 +2,7 @@
 ghost use Rattle.std.specs.Prelude.{◌≡◌, ◌<◌, true, flat_map, is_some};
 ghost use Rattle.std.specs.Option.{option_and_then};
 ghost use Rattle.xw_grid.specs.Light.{lights_of, index_named};
-ghost use Rattle.xw_fill.specs.Position.{position_of};
-ghost use Rattle.xw_fill.specs.Search.{light_count};
-ghost use Rattle.xw_fill.specs.Listing.{grade_of};
+ghost use Rattle.xw_fill.specs.OfState.{light_count, grade_of};
 ghost use Rattle.xw_fill.specs.NamedFill.{AreLights};
 ghost use Rattle.xw_lines.specs.Sends.{Sends};
 ghost use Rattle.xw_session.specs.Reply.{name_of_light};
@@ -31,7 +29,7 @@ fn write_if_entered<E: Feasible, W: Sink>(
     engine: &E,
     light: usize,
 ) -> Result<(), WriteFailed>
-    requires { light < light_count (position_of (E.state engine.now)) }
+    requires { light < light_count (E.state engine.now) }
     ensures { Sends W.transcript W.failures sink.old sink.new result (entered_line (E.state engine.now) light) }
 {
     if is_entered(engine, light) {
@@ -53,7 +51,7 @@ fn write_entered<E: Feasible, W: Sink>(sink: &mut W, engine: &E) -> Result<(), W
 
 /// Returns the grade of the word of the light with this name.
 fn grade_named<E: Feasible>(engine: &E, name: LightName) -> Option<u8>
-    ensures { result ≡ option_and_then (grade_of (position_of (E.state engine.now))) (index_named (lights_of (E.state engine.now).grid) name) }
+    ensures { result ≡ option_and_then (grade_of (E.state engine.now)) (index_named (lights_of (E.state engine.now).grid) name) }
 {
     let light = engine.lights().index(name)?;
     grade(engine, light)

@@ -2,8 +2,7 @@
 ghost use Rattle.std.specs.Prelude.{◌≡◌, ◌<◌, true, false, length};
 ghost use Rattle.xw_feas.specs.Board.{board_of};
 ghost use Rattle.xw_feas.specs.Feasible.{base_words_at};
-ghost use Rattle.xw_fill.specs.Position.{position_of};
-ghost use Rattle.xw_fill.specs.Search.{light_count, is_entered as is_entered_light};
+ghost use Rattle.xw_fill.specs.OfState.{light_count, is_entered as is_entered_light};
 ghost use Rattle.xw_lines.specs.Sends.{Sends};
 ghost use Rattle.xw_session.specs.Unmatched.{is_unmatched as is_unmatched_light, unmatched_line, unmatched_lines};
 ghost use Rattle.xw_session.specs.Answer.{AnswersTo};
@@ -17,8 +16,8 @@ use xw_lines::outcome::Step;
 
 /// Returns whether an active word agrees with the letters of a light that is not wholly entered.
 fn has_base_word<E: Feasible>(engine: &E, light: usize) -> bool
-    requires light { light < light_count (position_of (E.state engine.now)) }
-    requires not_entered { is_entered_light (position_of (E.state engine.now)) light ≡ false }
+    requires light { light < light_count (E.state engine.now) }
+    requires not_entered { is_entered_light (E.state engine.now) light ≡ false }
     ensures yes { result ≡ true → 0 < length (base_words_at (board_of (E.state engine.now).grid) (E.state engine.now).words light) }
     ensures no { result ≡ false → length (base_words_at (board_of (E.state engine.now).grid) (E.state engine.now).words light) ≡ 0 }
 {
@@ -31,7 +30,7 @@ fn has_base_word<E: Feasible>(engine: &E, light: usize) -> bool
 
 /// Returns whether a light is not wholly entered and no active word agrees with its letters.
 fn is_unmatched<E: Feasible>(engine: &E, light: usize) -> bool
-    requires { light < light_count (position_of (E.state engine.now)) }
+    requires { light < light_count (E.state engine.now) }
     ensures { result ≡ is_unmatched_light (E.state engine.now) light }
 {
     !is_entered(engine, light) && !has_base_word(engine, light)
@@ -43,7 +42,7 @@ fn write_if_unmatched<E: Feasible, W: Sink>(
     engine: &E,
     light: usize,
 ) -> Result<(), WriteFailed>
-    requires { light < light_count (position_of (E.state engine.now)) }
+    requires { light < light_count (E.state engine.now) }
     ensures { Sends W.transcript W.failures sink.old sink.new result (unmatched_line (E.state engine.now) light) }
 {
     if is_unmatched(engine, light) {

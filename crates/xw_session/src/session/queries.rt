@@ -3,9 +3,7 @@ ghost use Rattle.std.specs.Prelude.{◌≡◌, ℕ, flat_map, Err, ◌∷◌, []
 ghost use Rattle.xw_letters.specs.LetterSet.{letters_in};
 ghost use Rattle.xw_grid.specs.Grid.{index_of};
 ghost use Rattle.xw_grid.specs.Light.{lights_of, index_named};
-ghost use Rattle.xw_fill.specs.Position.{position_of};
-ghost use Rattle.xw_fill.specs.FeasibleWords.{feasible_words};
-ghost use Rattle.xw_fill.specs.FeasibleLetters.{feasible_letters};
+ghost use Rattle.xw_fill.specs.OfState.{feasible_words};
 ghost use Rattle.xw_lines.specs.Sends.{Sends};
 ghost use Rattle.xw_commands.specs.Names.{direction_name};
 ghost use Rattle.xw_answers.specs.Text.{word_line, line_of, counted_lines, letters_line};
@@ -214,8 +212,8 @@ impl<E: Feasible> Session<E> {
     /// Returns the feasible words of a light and their count.
     fn counted_by(&self, name: LightName) -> Option<(usize, WordIter<'_, E>)>
         ensures some { IfSome result (λ found. (light : ℕ) × (index_named (lights_of self.now.engine.grid) name ≡ Some light)
-            × (found.0 ≡ length (feasible_words (position_of self.now.engine) light))
-            × (found.1 ≡ feasible_words (position_of self.now.engine) light)) }
+            × (found.0 ≡ length (feasible_words self.now.engine light))
+            × (found.1 ≡ feasible_words self.now.engine light)) }
         ensures none { IfNone result (index_named (lights_of self.now.engine.grid) name ≡ None) }
     {
         match (self.engine.word_count(name), words(&self.engine, name)) {
@@ -227,8 +225,8 @@ impl<E: Feasible> Session<E> {
     /// Returns the feasible words, and their count, of the light named in a command.
     fn counted_words(&self, named: LightArg) -> Option<(usize, WordIter<'_, E>)>
         ensures some { IfSome result (λ found. (light : ℕ) × (index_named (lights_of self.now.engine.grid) (name_of_light named) ≡ Some light)
-            × (found.0 ≡ length (feasible_words (position_of self.now.engine) light))
-            × (found.1 ≡ feasible_words (position_of self.now.engine) light)) }
+            × (found.0 ≡ length (feasible_words self.now.engine light))
+            × (found.1 ≡ feasible_words self.now.engine light)) }
         ensures none { IfNone result (index_named (lights_of self.now.engine.grid) (name_of_light named) ≡ None) }
     {
         self.engine.grid().well_formed();
