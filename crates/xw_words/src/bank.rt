@@ -8,10 +8,12 @@ ghost use Rattle.xw_bits.specs.Bits.{has_bit};
 ghost use Rattle.xw_words.specs.Columns.{has_letter, has_one_of, is_active as word_is_active, IsColumn, AreColumns};
 
 use crate::fault::WordFault;
+use crate::loader::Loader;
 use crate::matching::Matching;
-use crate::row::{BEST_GRADE, MOST_WORDS, Row};
+use crate::row::Row;
+use crate::table::{BEST_GRADE, MOST_WORDS};
 use crate::word::{judge_length, judge_pattern, judge_word};
-use std::alloc::{AllocError, Global};
+use std::alloc::Global;
 use std::marker::Model;
 use xw_bits::bit_row::BitRow;
 use xw_letters::letter::{Letter, are_letters};
@@ -27,18 +29,6 @@ pub enum Added {
 
 /// The number of rows: one for each length from 0 to 255.
 pub(crate) const LENGTHS: usize = 256;
-
-/// Pushes an empty row for each length.
-fn make_rows(alloc: Global, rows: &mut Vec<Row>) -> Result<(), AllocError>
-    requires { vec_len rows.old ≡ 0 }
-    ensures empty { OnOk result (map (λ row. row.entries) rows.new.items ≡ replicate 256 []) }
-    ensures kept { OnOk result (IsKept rows.new.items 0) }
-{
-    for len in 0..LENGTHS {
-        rows.push(Row::new(alloc, len))?;
-    }
-    Ok(())
-}
 
 /// Leaves out the words below a grade in each row.
 fn limit_rows(rows: &mut [Row], least: u8)
@@ -76,11 +66,17 @@ impl Bank {
         ensures empty { IfOk result (λ bank. bank.words ≡ no_words) }
         ensures memory { IsOkUnless result WordFault.Memory }
     {
-        let mut rows = Vec::new(alloc);
-        make_rows(alloc, &mut rows)?;
+        Bank::of(alloc, Loader::new(alloc)?)
+    }
+
+    /// The dictionary of loaded words. Returns `Memory` if an allocation fails.
+    pub(crate) fn of(alloc: Global, loader: Loader) -> Result<Bank, WordFault>
+        ensures words { IfOk result (λ bank. bank.words ≡ loader) }
+        ensures memory { IsOkUnless result WordFault.Memory }
+    {
         Ok(Bank {
             alloc,
-            rows,
+            rows: loader.into_rows(alloc)?,
             least: 0,
         })
     }
@@ -119,7 +115,7 @@ impl Bank {
         ensures { result ≡ (entry_at (words_of self.now.words len) index).struck }
     {
         match self.rows.get(len) {
-            Some(row) => row.is_struck(index),
+            Some(row) => row.table().is_struck(index),
             None => false,
         }
     }
@@ -129,7 +125,7 @@ impl Bank {
         ensures { result ≡ (entry_at (words_of self.now.words len) index).regraded }
     {
         match self.rows.get(len) {
-            Some(row) => row.is_regraded(index),
+            Some(row) => row.table().is_regraded(index),
             None => false,
         }
     }
@@ -139,7 +135,7 @@ impl Bank {
         ensures { result ≡ (entry_at (words_of self.now.words len) index).active }
     {
         match self.rows.get(len) {
-            Some(row) => row.is_active(index),
+            Some(row) => row.table().is_active(index),
             None => false,
         }
     }
@@ -150,7 +146,7 @@ impl Bank {
         ensures range { result ≤ best_grade }
     {
         match self.rows.get(len) {
-            Some(row) => row.grade(index),
+            Some(row) => row.table().grade(index),
             None => 0,
         }
     }
@@ -159,7 +155,7 @@ impl Bank {
     /// and 1 each if all grades are equal. It is a hint; the contract promises nothing.
     pub(crate) fn weight(&self, len: usize, chunk: usize, words: u64) -> u64 {
         match self.rows.get(len) {
-            Some(row) => row.weight(chunk, words),
+            Some(row) => row.table().weight(chunk, words),
             None => 0,
         }
     }
@@ -169,7 +165,7 @@ impl Bank {
         let mut least = u8::MAX;
         let mut greatest = 0;
         for row in &self.rows {
-            let range = row.grade_range();
+            let range = row.table().grade_range();
             least = least.min(range.0);
             greatest = greatest.max(range.1);
         }
@@ -182,14 +178,14 @@ impl Bank {
         ensures word { result.now ≡ (entry_at (words_of self.now.words len) index).word }
         ensures long { length result.now ≡ len }
     {
-        self.rows[len].word(index)
+        self.rows[len].table().word(index)
     }
 
     /// The index of a word among the known words of its length, including struck ones.
     pub fn find(&self, word: &[Letter]) -> Option<usize>
         ensures { result ≡ index_of_word self.now.words word.now }
     {
-        self.rows.get(word.len())?.find(word)
+        self.rows.get(word.len())?.table().find(word)
     }
 
     /// The column of a letter at a position, for the words of length `len`. Returns `None` only
@@ -234,7 +230,7 @@ impl Bank {
         ensures { (k : ℕ) → k < 64 → has_bit result k ≡ word_is_active (words_of self.now.words len) (64 * chunk + k) }
     {
         match self.rows.get(len) {
-            Some(row) => row.active_chunk(chunk),
+            Some(row) => row.table().active_chunk(chunk),
             None => 0,
         }
     }
@@ -247,7 +243,7 @@ impl Bank {
         ensures none { IfNone result ((i : ℕ) → word_is_active (words_of self.now.words len) i ≡ false) }
     {
         match self.rows.get(len) {
-            Some(row) => Some(row.active_row()),
+            Some(row) => Some(row.table().active_row()),
             None => None,
         }
     }
@@ -257,7 +253,7 @@ impl Bank {
         ensures { result ≡ add_answer self.now.words bytes.now }
     {
         judge_word(bytes)?;
-        self.rows[bytes.len()].judge_add(bytes)
+        self.rows[bytes.len()].table().judge_add(bytes)
     }
 
     /// Adds a word: appends a new one, or makes one active again that was struck or left out. A grade that is given, at
@@ -280,22 +276,6 @@ impl Bank {
         judge_word(bytes)?;
         let row = &mut self.rows[bytes.len()];
         row.add(self.alloc, bytes, grade, self.least)
-    }
-
-    /// Like `add`, for a word that is spelled already.
-    pub(crate) fn add_word(
-        &mut self,
-        word: &[Letter],
-        grade: Option<u8>,
-    ) -> Result<Added, WordFault>
-        requires { All IsLetter word.now }
-        ensures answer { result ≢ Err WordFault.Memory → result ≡ answer_on add_to self.old.words (judged None (length word.now) word.now) }
-        ensures ok { IfOk result (λ added. self.new.words ≡ after_add self.old.words word.now grade added) }
-        ensures err { OnErr result (self.new.words ≡ self.old.words) }
-    {
-        judge_length(word.len())?;
-        let row = &mut self.rows[word.len()];
-        row.add_word(self.alloc, word, grade, self.least)
     }
 
     /// Strikes a word and returns its index. The word stays known. Returns `BadLetter` or `Length`

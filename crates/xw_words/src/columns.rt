@@ -1,7 +1,7 @@
 //! The columns of the words of one length. There is one row of bits for each position and letter;
 //! bit `i` says whether word `i` has that letter at that position.
-ghost use Rattle.std.specs.Prelude.{◌≡◌, ℕ, ◌+◌, ◌*◌, ◌/◌, ◌%◌, ◌<◌, ◌≤◌, false, [], length, slice_index_or, vec_len, OnOk};
-ghost use Rattle.xw_words.specs.Columns.{column_at, bits_put, bit_pushed};
+ghost use Rattle.std.specs.Prelude.{◌≡◌, ℕ, ◌+◌, ◌*◌, ◌/◌, ◌%◌, ◌<◌, ◌≤◌, false, [], length, slice_index_or, vec_len, OnOk, IfOk};
+ghost use Rattle.xw_words.specs.Columns.{column_at, bits_put, bit_pushed, AreFilled};
 ghost use Rattle.xw_words.specs.Dictionary.{most_words};
 
 use std::alloc::{AllocError, Global};
@@ -106,4 +106,43 @@ pub(crate) fn push_word(columns: &mut [BitRow], word: &[Letter], index: usize)
         lengthen(columns);
     }
     put_word(columns, word, index);
+}
+
+/// Writes the words whose letters stand one after another to empty columns.
+fn fill_columns(columns: &mut [BitRow], letters: &[Letter], word_len: usize, words: usize)
+    requires many { length columns.old ≡ 26 * word_len }
+    requires letters { length letters.now ≡ words * word_len }
+    requires short { word_len ≤ 255 }
+    requires few { words ≤ most_words }
+    requires clear { (i : ℕ) → (column_at columns.old i).bits ≡ [] }
+    requires room { (i : ℕ) → i < length columns.old → words ≤ (column_at columns.old i).room }
+    ensures { AreFilled word_len words words letters.now columns.new }
+{
+    for index in 0..words {
+        let word = &letters[index * word_len..index * word_len + word_len];
+        push_word(columns, word, index);
+    }
+}
+
+/// The columns of words whose letters stand one after another. There are none without words.
+pub(crate) fn columns_of(
+    alloc: Global,
+    letters: &[Letter],
+    word_len: usize,
+    words: usize,
+) -> Result<Vec<BitRow>, AllocError>
+    requires letters { length letters.now ≡ words * word_len }
+    requires short { word_len ≤ 255 }
+    requires few { words ≤ most_words }
+    ensures few { IfOk result (λ columns. length columns.items ≤ 26 * word_len) }
+    ensures all { IfOk result (λ columns. 0 < words → length columns.items ≡ 26 * word_len) }
+    ensures filled { IfOk result (λ columns. AreFilled word_len words words letters.now columns.items) }
+{
+    let mut columns = Vec::new(alloc);
+    if words == 0 {
+        return Ok(columns);
+    }
+    grow_columns(alloc, &mut columns, LETTERS * word_len, words)?;
+    fill_columns(&mut columns, letters, word_len, words);
+    Ok(columns)
 }

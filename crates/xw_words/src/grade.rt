@@ -3,7 +3,7 @@ ghost use Rattle.std.specs.Prelude.{◌≡◌, position, reverse};
 ghost use Rattle.xw_words.specs.Dictionary.{capped};
 ghost use Rattle.xw_words.specs.WordList.{is_semicolon as is_semicolon_byte, is_blank as is_blank_byte, is_ink as is_ink_byte, is_negative as is_negative_text, after_semicolon as text_after_semicolon, before_semicolon as text_before_semicolon, trimmed_start as text_trimmed_at_start, trimmed_end as text_trimmed_at_end, score_field as score_field_of, score_in as score_in_field, score_of};
 
-use crate::row::BEST_GRADE;
+use crate::table::BEST_GRADE;
 use xw_text::digits::{is_number, value};
 
 /// The maximum number of digits of a score.

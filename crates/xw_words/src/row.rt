@@ -1,4 +1,4 @@
-//! The known words of one length.
+//! The known words of one length, with their columns.
 ghost use Rattle.xw_bits.specs.Bits.{has_bit};
 ghost use Rattle.xw_words.specs.Columns.{has_letter, has_one_of, is_active, AreFits, IsColumn, AreColumns};
 ghost use Rattle.xw_words.specs.Matching.{HasFits};
@@ -9,140 +9,20 @@ ghost use Rattle.xw_letters.specs.Letter.{folded};
 ghost use Rattle.xw_words.specs.Word.{is_bad_letter, is_bad_in_pattern};
 
 use crate::bank::Added;
-use crate::columns::{LETTERS, grow_columns, push_word};
+use crate::columns::{LETTERS, columns_of, grow_columns, push_word};
 use crate::fault::WordFault;
-use crate::index::Index;
-use crate::marks::Marks;
-use crate::weights::Weights;
+use crate::table::{MOST_WORDS, Table, grown};
 use crate::word::{LONGEST, spell};
 use std::alloc::{AllocError, Global};
 use std::marker::Model;
 use xw_bits::bit_row::BitRow;
 use xw_letters::letter::Letter;
 
-/// The largest number of known words of one length.
-pub const MOST_WORDS: usize = 1048576;
-
-/// The greatest grade of a word.
-pub const BEST_GRADE: u8 = 100;
-
-/// The least number of words by which a row grows.
-const LEAST_GROWTH: usize = 64;
-
-/// The capacity to grow to when `known` words are known: an eighth more, but at least
-/// `LEAST_GROWTH` more, or `expected` if that is greater; at most `MOST_WORDS`. So little room stays
-/// unused, and each word moves only a few times.
-fn grown(known: usize, expected: usize) -> usize
-    requires { known < most_words }
-    ensures more { known < result }
-    ensures few { result ≤ most_words }
-{
-    let more = known + (known / 8).max(LEAST_GROWTH);
-    more.max(expected).min(MOST_WORDS)
-}
-
-/// Reserves room for `words` words in total.
-fn reserve_words(
-    active: &mut BitRow,
-    marks: &mut Vec<Marks>,
-    letters: &mut Vec<Letter>,
-    word_len: usize,
-    words: usize,
-) -> Result<(), AllocError>
-    requires more { length active.old.bits ≤ words }
-    requires few { words ≤ most_words }
-    requires short { word_len ≤ 255 }
-    requires letters { length letters.old.items ≡ length active.old.bits * word_len }
-    requires marks { length marks.old.items ≡ length active.old.bits }
-    ensures bits { active.new.bits ≡ active.old.bits }
-    ensures room_stays { active.old.room ≤ active.new.room }
-    ensures marks_stay { marks.new.items ≡ marks.old.items }
-    ensures marks_capacity { vec_capacity marks.old ≤ vec_capacity marks.new }
-    ensures items { letters.new.items ≡ letters.old.items }
-    ensures capacity { vec_capacity letters.old ≤ vec_capacity letters.new }
-    ensures room { OnOk result (words ≤ active.new.room) }
-    ensures marks_room { OnOk result (words ≤ vec_capacity marks.new) }
-    ensures letters_room { OnOk result (words * word_len ≤ vec_capacity letters.new) }
-{
-    let more = words - active.len();
-    active.reserve(words)?;
-    marks.reserve_exact(more)?;
-    letters.reserve_exact(more * word_len)?;
-    Ok(())
-}
-
-/// Appends a word's letters within the capacity.
-fn append(letters: &mut Vec<Letter>, word: &[Letter])
-    requires { vec_len letters.old + length word.now ≤ vec_capacity letters.old }
-    ensures items { letters.new.items ≡ letters.old.items ++ word.now }
-    ensures capacity { vec_capacity letters.old ≤ vec_capacity letters.new }
-{
-    let _ = letters.extend_from_slice(word);
-}
-
-/// Appends the marks of a word within the capacity.
-fn append_marks(marks: &mut Vec<Marks>, new: Marks)
-    requires { vec_len marks.old < vec_capacity marks.old }
-    ensures items { marks.new.items ≡ marks.old.items ++ new ∷ [] }
-    ensures capacity { vec_capacity marks.old ≤ vec_capacity marks.new }
-{
-    let _ = marks.push(new);
-}
-
-/// The grade of an added word: the one that is given, at most `BEST_GRADE`, or else `usual`; raised to `least`.
-fn grade_or(least: u8, given: Option<u8>, usual: u8) -> u8
-    ensures { result ≡ grade_left least given usual }
-{
-    match given {
-        Some(grade) => grade.min(BEST_GRADE).max(least),
-        None => usual.max(least),
-    }
-}
-
-/// Whether a word with these marks is not struck and not below a grade.
-fn is_left(marks: Marks, least: u8) -> bool
-    ensures { result ≡ are_left least marks }
-{
-    !marks.struck & (least <= marks.grade)
-}
-
-/// A bit for each of at most 64 words: whether it is not struck and not below a grade. The first word is
-/// the lowest bit. It has no branch on a word, since no processor could predict it.
-fn left_bits(marks: &[Marks], least: u8) -> u64
-    requires { length marks.now ≤ 64 }
-    ensures { (k : ℕ) → k < length marks.now → has_bit result k ≡ are_left least (slice_index_or marks.now k no_marks) }
-{
-    let mut bits = 0;
-    for k in 0..marks.len() {
-        bits |= u64::from(is_left(marks[k], least)) << k;
-    }
-    bits
-}
-
-/// Sets the flag of each word that is not struck and not below a grade, and clears the others.
-fn limit_flags(active: &mut BitRow, marks: &[Marks], least: u8)
-    requires { length active.old.bits ≡ length marks.now }
-    ensures bits { active.new.bits ≡ map (are_left least) marks.now }
-    ensures room { active.new.room ≡ active.old.room }
-{
-    for chunk in 0..marks.len().div_ceil(64) {
-        let first = 64 * chunk;
-        let end = marks.len().min(first + 64);
-        active.set_chunk(chunk, left_bits(&marks[first..end], least));
-    }
-}
-
-/// The known words of one length, in the order they were first added.
+/// The known words of one length with their columns, in the order they were first added.
 #[derive(Drop)]
 pub struct Row {
-    word_len: usize,
-    letters: Vec<Letter>,
-    index: Index,
-    active: BitRow,
-    marks: Vec<Marks>,
-    weights: Weights,
+    table: Table,
     columns: Vec<BitRow>,
-    reserved: usize,
 }
 
 impl Model for Row {
@@ -159,23 +39,24 @@ impl Model for Row {
 
 #[tactic(auto, using(crate::proofs::RowLemmas::row_steps))]
 impl Row {
-    /// An empty row for the words of length `word_len`.
-    pub fn new(alloc: Global, word_len: usize) -> Row
-        requires { word_len ≤ 255 }
-        ensures word_len { result.word_len ≡ word_len }
-        ensures entries { result.entries ≡ [] }
-        ensures room { result.room ≡ false }
+    /// The row with the words of a table.
+    pub fn of(alloc: Global, table: Table) -> Result<Row, AllocError>
+        ensures word_len { IfOk result (λ row. row.word_len ≡ table.word_len) }
+        ensures entries { IfOk result (λ row. row.entries ≡ table.entries) }
     {
-        Row {
-            word_len,
-            letters: Vec::new(alloc),
-            index: Index::new(alloc),
-            active: BitRow::new(alloc),
-            marks: Vec::new(alloc),
-            weights: Weights::new(),
-            columns: Vec::new(alloc),
-            reserved: 0,
-        }
+        let columns = columns_of(alloc, table.letters(), table.word_len(), table.len())?;
+        Ok(Row {
+            table: table.trimmed(),
+            columns,
+        })
+    }
+
+    /// The words, without columns.
+    pub fn table(&self) -> &Table
+        ensures word_len { result.now.word_len ≡ self.now.word_len }
+        ensures entries { result.now.entries ≡ self.now.entries }
+    {
+        &self.table
     }
 
     /// The number of known words, active or not.
@@ -183,95 +64,7 @@ impl Row {
         ensures value { result ≡ length self.now.entries }
         ensures few { result ≤ most_words }
     {
-        self.active.len()
-    }
-
-    /// Whether word `index` is active; false if there is no such word.
-    pub fn is_active(&self, index: usize) -> bool
-        ensures { result ≡ (entry_at self.now.entries index).active }
-    {
-        index < self.active.len() && self.active.has(index)
-    }
-
-    /// The grade of word `index`; 0 if there is no such word.
-    pub fn grade(&self, index: usize) -> u8
-        ensures { result ≡ (entry_at self.now.entries index).grade }
-    {
-        match self.marks.get(index) {
-            Some(marks) => marks.grade,
-            None => 0,
-        }
-    }
-
-    /// Whether word `index` was struck; false if there is no such word.
-    pub fn is_struck(&self, index: usize) -> bool
-        ensures { result ≡ (entry_at self.now.entries index).struck }
-    {
-        match self.marks.get(index) {
-            Some(marks) => marks.struck,
-            None => false,
-        }
-    }
-
-    /// Whether word `index` came back with a grade that was chosen then; false if there is no such word.
-    pub fn is_regraded(&self, index: usize) -> bool
-        ensures { result ≡ (entry_at self.now.entries index).regraded }
-    {
-        match self.marks.get(index) {
-            Some(marks) => marks.regraded,
-            None => false,
-        }
-    }
-
-    /// How much these words of a chunk of 64 words weigh in a search. The contract promises nothing.
-    pub fn weight(&self, chunk: usize, words: u64) -> u64 {
-        if self.weights.are_equal() {
-            return u64::from(words.count_ones());
-        }
-        let first = chunk.saturating_mul(64);
-        let mut total: u64 = 0;
-        let mut left = words;
-        for _ in 0..words.count_ones() {
-            let index = first.saturating_add(left.trailing_zeros() as usize);
-            if let Some(marks) = self.marks.get(index) {
-                total = total.saturating_add(self.weights.of_grade(marks.grade));
-            }
-            left &= left.wrapping_sub(1);
-        }
-        total
-    }
-
-    /// The least and the greatest grade that a word of the row had. The contract promises nothing.
-    pub fn grade_range(&self) -> (u8, u8) {
-        (self.weights.least(), self.weights.greatest())
-    }
-
-    /// The letters of word `index`.
-    pub fn word(&self, index: usize) -> &[Letter]
-        requires { index < length self.now.entries }
-        ensures { result.now ≡ (entry_at self.now.entries index).word }
-    {
-        &self.letters[index * self.word_len..(index + 1) * self.word_len]
-    }
-
-    /// Makes word `index` active or not, with these marks.
-    fn mark(&mut self, index: usize, active: bool, marks: Marks)
-        requires { index < length self.old.entries }
-        ensures entries { self.new.entries ≡ slice_set self.old.entries index (entry_of (entry_at self.old.entries index).word active marks) }
-        ensures word_len { self.new.word_len ≡ self.old.word_len }
-        ensures room { self.new.room ≡ self.old.room }
-    {
-        self.weights.note(marks.grade);
-        self.active.put(index, active);
-        self.marks[index] = marks;
-    }
-
-    /// The marks of word `index`.
-    fn marks(&self, index: usize) -> Marks
-        requires { index < length self.now.entries }
-        ensures { entry_at self.now.entries index ≡ entry_of (entry_at self.now.entries index).word (entry_at self.now.entries index).active result }
-    {
-        self.marks[index]
+        self.table.len()
     }
 
     /// Makes the words active that are not struck and not below a grade, and no others.
@@ -280,36 +73,7 @@ impl Row {
         ensures word_len { self.new.word_len ≡ self.old.word_len }
         ensures room { self.new.room ≡ self.old.room }
     {
-        limit_flags(&mut self.active, self.marks.as_slice(), least);
-    }
-
-    /// The index of a word, active or not.
-    pub fn find(&self, word: &[Letter]) -> Option<usize>
-        ensures { result ≡ index_in self.now.entries word.now }
-    {
-        if word.len() != self.word_len {
-            return None;
-        }
-        self.index.find(&self.letters, word)
-    }
-
-    /// A bit for each word: whether it is active.
-    pub fn active_row(&self) -> &BitRow
-        ensures len { length result.now.bits ≡ length self.now.entries }
-        ensures bits { (i : ℕ) → slice_index_or result.now.bits i false ≡ is_active self.now.entries i }
-    {
-        &self.active
-    }
-
-    /// A bit for each of the 64 words of a chunk: whether it is active. The first word is the
-    /// lowest bit.
-    pub fn active_chunk(&self, chunk: usize) -> u64
-        ensures { (k : ℕ) → k < 64 → has_bit result k ≡ is_active self.now.entries (64 * chunk + k) }
-    {
-        if chunk >= self.active.len().div_ceil(64) {
-            return 0;
-        }
-        self.active.chunk(chunk)
+        self.table.limit(least);
     }
 
     /// The column of a letter at a position. Returns `None` only if `position` is out of range or
@@ -319,7 +83,7 @@ impl Row {
         ensures none { IfNone result ((index : ℕ) → has_letter self.now.entries position letter index ≡ false) }
         ensures within { position < self.now.word_len → IfNone result (length self.now.entries ≡ 0) }
     {
-        if position >= self.word_len {
+        if position >= self.table.word_len() {
             return None;
         }
         self.columns
@@ -331,10 +95,10 @@ impl Row {
         ensures some { IfSome result (λ columns. AreColumns self.now.entries position columns.now) }
         ensures none { IfNone result ((index letters : ℕ) → has_one_of self.now.entries position letters index ≡ false) }
     {
-        if position >= self.word_len {
+        if position >= self.table.word_len() {
             return None;
         }
-        if self.columns.len() < LETTERS * self.word_len {
+        if self.columns.len() < LETTERS * self.table.word_len() {
             return None;
         }
         Some(&self.columns[LETTERS * position..LETTERS * (position + 1)])
@@ -345,10 +109,10 @@ impl Row {
     pub fn column_chunk(&self, position: usize, letter: Letter, chunk: usize) -> u64
         ensures { (k : ℕ) → k < 64 → has_bit result k ≡ has_letter self.now.entries position letter (64 * chunk + k) }
     {
-        if position >= self.word_len {
+        if position >= self.table.word_len() {
             return 0;
         }
-        if chunk >= self.active.len().div_ceil(64) {
+        if chunk >= self.table.len().div_ceil(64) {
             return 0;
         }
         let column = &self.columns[position * LETTERS + (letter.byte() - b'A') as usize];
@@ -374,8 +138,8 @@ impl Row {
         requires good { position is_bad_in_pattern pattern.now ≡ None }
         ensures { AreFits (map folded pattern.now) self.now.entries chunk result }
     {
-        let _ = &self.word_len;
-        let mut fits = self.active_chunk(chunk);
+        let _ = self.table.word_len();
+        let mut fits = self.table.active_chunk(chunk);
         for position in 0..pattern.len() {
             if fits == 0 {
                 return 0;
@@ -395,7 +159,7 @@ impl Row {
         ensures row { HasFits (map folded pattern.now) self.now.entries result.0.now.bits }
         ensures next { result.1 ≤ length pattern.now }
     {
-        let _ = &self.word_len;
+        let _ = self.table.word_len();
         for position in from..pattern.len() {
             if pattern[position] != b'.' {
                 let letter = Letter::capital(pattern[position]);
@@ -404,7 +168,7 @@ impl Row {
                 }
             }
         }
-        (self.active_row(), pattern.len())
+        (self.table.active_row(), pattern.len())
     }
 
     /// Adds the word that the bytes spell: appends a new one, or brings back one that is not active.
@@ -426,7 +190,7 @@ impl Row {
         ensures room_at_err { OnErr result (self.new.room ≡ self.old.room) }
         ensures room_at_return { (index : ℕ) → result ≡ Ok (Added.Returned index) → self.new.room ≡ self.old.room }
     {
-        let _ = &self.word_len;
+        let _ = self.table.word_len();
         let mut letters = [Letter::first(); LONGEST];
         spell(&mut letters, bytes);
         self.add_word(alloc, &letters[..bytes.len()], grade, least)
@@ -450,32 +214,10 @@ impl Row {
         ensures room_at_err { OnErr result (self.new.room ≡ self.old.room) }
         ensures room_at_return { (index : ℕ) → result ≡ Ok (Added.Returned index) → self.new.room ≡ self.old.room }
     {
-        match self.find(word) {
-            Some(index) => self.add_again(index, grade, least),
+        match self.table.find(word) {
+            Some(index) => self.table.add_again(index, grade, least),
             None => self.add_new(alloc, word, grade, least),
         }
-    }
-
-    /// Makes a word active again; refuses an active one.
-    fn add_again(&mut self, index: usize, grade: Option<u8>, least: u8) -> Result<Added, WordFault>
-        requires { index < length self.old.entries }
-        ensures word_len { self.new.word_len ≡ self.old.word_len }
-        ensures answer { result ≡ added_at self.old.entries (Some index) }
-        ensures ok { OnOk result (self.new.entries ≡ slice_set self.old.entries index (returned least grade (entry_at self.old.entries index))) }
-        ensures err { OnErr result (self.new.entries ≡ self.old.entries) }
-        ensures room { self.new.room ≡ self.old.room }
-    {
-        if self.is_active(index) {
-            return Err(WordFault::Known);
-        }
-        let old = self.marks(index);
-        let marks = Marks {
-            grade: grade_or(least, grade, old.grade),
-            struck: false,
-            regraded: old.regraded || grade.is_some() || old.grade < least,
-        };
-        self.mark(index, true, marks);
-        Ok(Added::Returned(index))
     }
 
     /// Appends a word that is not known.
@@ -506,23 +248,6 @@ impl Row {
         Ok(Added::New(index))
     }
 
-    /// What `add` would return if no allocation failed.
-    pub fn judge_add(&self, bytes: &[u8]) -> Result<Added, WordFault>
-        requires letters { position is_bad_letter bytes.now ≡ None }
-        requires length { length bytes.now ≡ self.now.word_len }
-        ensures { result ≡ add_to self.now.entries (map folded bytes.now) }
-    {
-        let _ = &self.word_len;
-        let mut letters = [Letter::first(); LONGEST];
-        spell(&mut letters, bytes);
-        match self.find(&letters[..bytes.len()]) {
-            Some(index) if self.is_active(index) => Err(WordFault::Known),
-            Some(index) => Ok(Added::Returned(index)),
-            None if self.len() >= MOST_WORDS => Err(WordFault::Full),
-            None => Ok(Added::New(self.len())),
-        }
-    }
-
     /// Strikes the word that the bytes spell and returns its index.
     pub fn strike(&mut self, bytes: &[u8]) -> Result<usize, WordFault>
         requires letters { position is_bad_letter bytes.now ≡ None }
@@ -533,20 +258,8 @@ impl Row {
         ensures err { OnErr result (self.new.entries ≡ self.old.entries) }
         ensures room { self.new.room ≡ self.old.room }
     {
-        let _ = &self.word_len;
-        let mut letters = [Letter::first(); LONGEST];
-        spell(&mut letters, bytes);
-        match self.find(&letters[..bytes.len()]) {
-            Some(index) if !self.is_struck(index) => {
-                let marks = Marks {
-                    struck: true,
-                    ..self.marks(index)
-                };
-                self.mark(index, false, marks);
-                Ok(index)
-            }
-            _ => Err(WordFault::Unknown),
-        }
+        let _ = self.table.word_len();
+        self.table.strike(bytes)
     }
 
     /// Reserves room for one more word. If the row has to grow, it grows to at least `expected`
@@ -560,22 +273,13 @@ impl Row {
         ensures refused { IfErr result (λ fault. fault ≡ WordFault.Memory) }
         ensures err { OnErr result (self.new.room ≡ self.old.room) }
     {
-        let known = self.active.len();
-        if known < self.reserved {
+        if self.table.has_room() {
             return Ok(());
         }
-        let words = grown(known, expected);
-        self.index
-            .reserve(alloc, &self.letters, self.word_len, words)?;
-        grow_columns(alloc, &mut self.columns, LETTERS * self.word_len, words)?;
-        reserve_words(
-            &mut self.active,
-            &mut self.marks,
-            &mut self.letters,
-            self.word_len,
-            words,
-        )?;
-        self.reserved = words;
+        let words = grown(self.table.len(), expected);
+        let many = LETTERS * self.table.word_len();
+        grow_columns(alloc, &mut self.columns, many, words)?;
+        self.table.reserve(alloc, words)?;
         Ok(())
     }
 
@@ -589,18 +293,8 @@ impl Row {
         ensures few { length self.old.entries < most_words }
         ensures long { 2 ≤ length word.now }
     {
-        let index = self.active.len();
-        self.index.insert(word);
+        let index = self.table.len();
+        self.table.add_reserved(word, grade, least);
         push_word(&mut self.columns, word, index);
-        self.active.push(true);
-        let grade = grade_or(least, grade, BEST_GRADE);
-        self.weights.note(grade);
-        let marks = Marks {
-            grade,
-            struck: false,
-            regraded: false,
-        };
-        append_marks(&mut self.marks, marks);
-        append(&mut self.letters, word);
     }
 }

@@ -7,7 +7,7 @@ use crate::fault::WordFault;
 use xw_letters::letter::Letter;
 
 /// The least length of a word.
-const SHORTEST: usize = 2;
+pub const SHORTEST: usize = 2;
 
 /// The greatest length of a word.
 pub const LONGEST: usize = 255;

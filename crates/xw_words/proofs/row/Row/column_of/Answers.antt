@@ -1,10 +1,7 @@
-use Rattle.xw_words.specs.Row.{entries_of}
+use Rattle.std.proofs.Common.{arith}
 use Rattle.xw_words.proofs.ColumnLemmas.{no_position}
-use Rattle.xw_words.proofs.KeptRowLemmas.{entries_long}
 use Rattle.xw_words.proofs.row.Row.column_of.Goals as goal
 
-pub returns-then-position-self-clause-none : goal.returns-then-position-self-clause-none
-returns-then-position-self-clause-none c = λ index.
-    let r = c.self.inside in
-    let entries = entries_of r.word_len r.letters.items r.active.bits r.marks.items in
-    rw (← c.self.view_is) (no_position r.word_len entries c.args.position c.args.letter index (entries_long r.word_len r.letters.items r.active.bits r.marks.items c.self.invariant.letters) c.if-position-self.true)
+pub returns-then-position-word_len-clause-none : goal.returns-then-position-word_len-clause-none
+returns-then-position-word_len-clause-none c = λ index.
+    rw (← c.self.view_is) (no_position c.self.inside.table.word_len c.self.inside.table.entries c.args.position c.args.letter index c.word_len.ensures.words (omega (arith, c.word_len.ensures.value, c.if-position-word_len.true)))

@@ -1,22 +1,8 @@
-use Rattle.std.proofs.Common.{◌≡◌, List, Bool, map, length, refl, ap, ◌∙◌, arith}
-use Rattle.std.proofs.lemmas.List.{length-map}
-use Rattle.xw_words.specs.Dictionary.{all_limited}
-use Rattle.xw_words.specs.Row.{Row, are_left, entries_of}
-use Rattle.xw_words.proofs.RowLemmas.{entries_of-limited}
-use Rattle.xw_words.proofs.KeptRowLemmas.{IsKeptRow-marked}
+use Rattle.xw_words.proofs.KeptRowLemmas.{columns_stay, same_words-limited}
 use Rattle.xw_words.proofs.row.Row.limit.Goals as goal
 
 pub invariant_of-self : goal.invariant_of-self
 invariant_of-self c =
-    let r = c.self.inside in
-    let kept = c.self.invariant in
-    let limited : c.limit_flags.new.active.bits ≡ map (are_left c.args.least) r.marks.items = c.limit_flags.ensures.bits ∙ ap (map (are_left c.args.least)) c.as_slice.ensures.value in
-    IsKeptRow-marked r c.limit_flags.new.active r.marks r.weights kept (ap length limited ∙ length-map r.marks.items (are_left c.args.least) ∙ kept.marks) refl (omega (arith, c.limit_flags.ensures.room)) (omega arith)
-
-pub returns-clause-entries : goal.returns-clause-entries
-returns-clause-entries c =
-    let r = c.self.inside in
-    let limited : c.limit_flags.new.active.bits ≡ map (are_left c.args.least) r.marks.items = c.limit_flags.ensures.bits ∙ ap (map (are_left c.args.least)) c.as_slice.ensures.value in
-    ap (λ (flags : List Bool). entries_of r.word_len r.letters.items flags r.marks.items) limited
-    ∙ entries_of-limited r.word_len r.letters.items r.active.bits r.marks.items c.args.least c.self.invariant.marks
-    ∙ ap (λ (row : Row). all_limited c.args.least row.entries) c.self.view_is
+    let old = c.self.inside.table in
+    let new = c.limit.new.self in
+    columns_stay old new c.self.inside.columns.items c.limit.ensures.word_len c.limit.ensures.reserved (same_words-limited c.args.least old.entries new.entries c.limit.ensures.entries) c.self.invariant

@@ -1,6 +1,0 @@
-use Rattle.std.proofs.Common.{arith}
-use Rattle.std.proofs.lemmas.Grind.{common_steps}
-use Rattle.xw_words.proofs.bank.make_rows.Goals as goal
-
-pub loop-len-preserved : goal.loop-len-preserved
-loop-len-preserved c = grind (arith, common_steps)

@@ -1,0 +1,11 @@
+use Rattle.std.proofs.Common.{◌≡◌, ℕ, ◌*◌, ◌<◌, false, length, get_or}
+use Rattle.xw_words.specs.Row.{no_marks, are_left}
+use Rattle.xw_words.proofs.table.limit_flags.Given as goal
+
+-- the flags of the chunks so far are right
+abbrev pub invariant-loop-chunk : goal.invariant-loop-chunk
+invariant-loop-chunk l = record {
+  long : length l.active.bits ≡ length l.marks;
+  room : l.active.room ≡ l.initial.active.room;
+  done : (i : ℕ) → i < length l.marks → i < 64 * l.chunk → get_or l.active.bits i false ≡ are_left l.least (get_or l.marks i no_marks);
+}
