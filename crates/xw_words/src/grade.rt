@@ -1,7 +1,7 @@
 //! The grade that a line of a word list gives its word.
-ghost use Rattle.std.specs.Prelude.{◌≡◌, position, reverse};
+ghost use Rattle.std.specs.Prelude.{◌≡◌, length, position, reverse};
 ghost use Rattle.xw_words.specs.Dictionary.{capped};
-ghost use Rattle.xw_words.specs.WordList.{is_semicolon as is_semicolon_byte, is_blank as is_blank_byte, is_ink as is_ink_byte, is_negative as is_negative_text, after_semicolon as text_after_semicolon, before_semicolon as text_before_semicolon, trimmed_start as text_trimmed_at_start, trimmed_end as text_trimmed_at_end, score_field as score_field_of, score_in as score_in_field, score_of};
+ghost use Rattle.xw_words.specs.WordList.{is_semicolon as is_semicolon_byte, is_blank as is_blank_byte, is_ink as is_ink_byte, is_negative as is_negative_text, after_semicolon as text_after_semicolon, before_semicolon as text_before_semicolon, trimmed_start as text_trimmed_at_start, trimmed_end as text_trimmed_at_end, score_field as score_field_of, score_in as score_in_field, score_of, left_of};
 
 use crate::table::BEST_GRADE;
 use xw_text::digits::{is_number, value};
@@ -115,4 +115,16 @@ pub fn grade_of(line: &[u8]) -> u8
     ensures { result ≡ capped (score_of line.now) }
 {
     score_in(score_field(line)).min(u64::from(BEST_GRADE)) as u8
+}
+
+/// The same, where the line leaves so many letters. A line of letters alone gives no grade.
+pub fn grade_beside(line: &[u8], letters: usize) -> u8
+    requires { letters ≡ length (left_of line.now) }
+    ensures { result ≡ capped (score_of line.now) }
+{
+    if letters == line.len() {
+        USUAL_SCORE as u8
+    } else {
+        grade_of(line)
+    }
 }
