@@ -7,6 +7,7 @@ mod placing;
 pub mod searching;
 mod settling;
 mod shape_edit;
+mod turned;
 mod written;
 
 pub use live::Live;

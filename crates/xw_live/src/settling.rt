@@ -5,10 +5,9 @@ ghost use Rattle.xw_words.specs.Dictionary.{Dictionary, add_answer, IsNew};
 ghost use Rattle.xw_grid.specs.Light.{lights_of};
 ghost use Rattle.xw_feas.specs.Board.{board_of};
 ghost use Rattle.xw_feas.specs.Rows.{grows};
-ghost use Rattle.xw_feas.specs.State.{State, Action, entry_action, least_chosen};
+ghost use Rattle.xw_feas.specs.State.{State, Action, entry_action};
 ghost use Rattle.xw_feas.specs.WellFormed.{IsWellFormed};
 ghost use Rattle.xw_net.specs.Change.{before_of, cells_of, fields_of, IsChange, IsWordEdit};
-ghost use Rattle.xw_net.specs.Copy.{IsReusable};
 ghost use Rattle.xw_net.specs.Cost.{RoseWithinCost};
 ghost use Rattle.xw_net.specs.Filled.{IsStoppedAt};
 ghost use Rattle.xw_live.specs.Engine.{IsKept};
@@ -130,22 +129,6 @@ pub fn settle_word(
         index: word.1,
     };
     settle(net, spent, &change, grid, lights, bank)
-}
-
-/// Computes a net anew after the least grade was chosen. Returns the ticks so far.
-pub fn refill(net: &mut Net, spent: u64, grid: &Grid, lights: &Lights, bank: &Bank) -> u64
-    requires lights { lights.now ≡ lights_of grid.now }
-    requires reusable { IsReusable lights.now (known_counts bank.now.words) (length grid.now.squares) net.old }
-    requires none_waits { is_some net.old.spare ≡ false }
-    ensures risen { spent ≤ result }
-    ensures kept { IsKept (record { grid = grid.now; words = bank.now.words }) net.new }
-    ensures cost { (before : State) (grade : ℕ) → RoseWithinCost before (record { grid = grid.now; words = bank.now.words }) (least_chosen grade) spent result }
-{
-    grid.well_formed();
-    known_distinct(bank);
-    let mut counted = Counted::new(bank, spent);
-    net.refill(&mut counted, grid, lights);
-    counted.spent()
 }
 
 /// Copies the net's letters to `before`.

@@ -7,4 +7,3 @@ pub mod CostsByLight
 pub mod LeastRegion
 pub mod BaseRowCosts
 pub mod CostBounds
-pub mod WholeGrid

@@ -13,4 +13,3 @@ pub mod MovedNets
 pub mod SizesAtRest
 pub mod CopiedNets
 pub mod TalliedLetters
-pub mod RefilledNets

@@ -1,9 +1,9 @@
 -- What a net is told of an edit.
-use Rattle.std.specs.Prelude.{◌≡◌, ℕ, ◌<◌, Bool, true, false, not, List, [], map, length, Option, Some, None, Result, Ok, Err, slice_get, Contains}
+use Rattle.std.specs.Prelude.{◌≡◌, ℕ, ◌<◌, Bool, true, false, not, nat_lt, List, [], map, length, Option, Some, None, Result, Ok, Err, slice_get, slice_index_or, Contains}
 use Rattle.xw_words.specs.declared.fault.WordFault.{WordFault}
 use Rattle.xw_words.specs.declared.bank.Added.{Added}
 use Rattle.xw_words.specs.declared.bank.Added.TheVariants.{New, Returned}
-use Rattle.xw_words.specs.Dictionary.{Entry, Dictionary, row, entry_at, add_answer, strike_answer}
+use Rattle.xw_words.specs.Dictionary.{Entry, Dictionary, row, entry_at, add_answer, strike_answer, capped}
 use Rattle.xw_grid.specs.declared.cell.Cell.{Cell}
 use Rattle.xw_grid.specs.Grid.{Grid, entry, index_of}
 use Rattle.xw_grid.specs.declared.lights.Light.{Light}
@@ -11,37 +11,57 @@ use Rattle.xw_grid.specs.Light.{lights_of}
 use Rattle.xw_feas.specs.State.{State, Action, after, word_added, word_struck, least_chosen}
 use Rattle.xw_feas.specs.WellFormed.{IsWellFormed}
 use Rattle.xw_net.specs.declared.change.Change.{Change}
-use Rattle.xw_net.specs.declared.change.Change.TheVariants.{Letters, Shape, Word}
-use Rattle.xw_net.specs.Region.{same_entry, cells_written}
+use Rattle.xw_net.specs.declared.change.Change.TheVariants.{Letters, Shape, Word, Words}
+use Rattle.xw_net.specs.Region.{same_entry, cells_written, turns_words}
 
 -- the fields of a change, as a view: the cells that were written, each with its entry before; the
--- lights before; the length and index of the word that was added or struck
+-- lights before; the length and index of the word that was added or struck; for each length whether the least grade made a
+-- word active or left one out; and whether it may have made some active
 pub record Fields : Type 0 where
   pub cells : List (Cell × Option ℕ)
   pub before : List Light
   pub word : Option (ℕ × ℕ)
+  pub turned : ℕ → Bool
+  pub back : Bool
 
 -- the cells of a change
 abbrev pub cells_of : Change → List (Cell × Option ℕ)
 cells_of (Letters cells) = cells.now
 cells_of (Shape before cells) = cells.now
 cells_of (Word len index) = []
+cells_of (Words turned back) = []
 
--- the lights before a change; after a change of letters or of a word they are the lights of now
+-- the lights before a change; after a change of letters or of words they are the lights of now
 abbrev pub before_of : List Light → Change → List Light
 before_of lights (Letters cells) = lights
 before_of lights (Shape before cells) = before.now
 before_of lights (Word len index) = lights
+before_of lights (Words turned back) = lights
 
 -- the word of a change
 abbrev pub word_of : Change → Option (ℕ × ℕ)
 word_of (Letters cells) = None
 word_of (Shape before cells) = None
 word_of (Word len index) = Some (len, index)
+word_of (Words turned back) = None
+
+-- whether a change has words of a length that the least grade made active or left out
+abbrev pub turned_of : Change → ℕ → Bool
+turned_of (Letters cells) len = false
+turned_of (Shape before cells) len = false
+turned_of (Word len index) other = false
+turned_of (Words turned back) len = slice_index_or turned.now len false
+
+-- whether a change may have words that the least grade made active
+abbrev pub back_of : Change → Bool
+back_of (Letters cells) = false
+back_of (Shape before cells) = false
+back_of (Word len index) = false
+back_of (Words turned back) = back
 
 -- the fields of a change, given the lights after it
 abbrev pub fields_of : List Light → Change → Fields
-fields_of lights change = record { cells = cells_of change; before = before_of lights change; word = word_of change }
+fields_of lights change = record { cells = cells_of change; before = before_of lights change; word = word_of change; turned = turned_of change; back = back_of change }
 
 -- a cell with its entry
 abbrev pub with_entry_of : Grid → Cell → Cell × Option ℕ
@@ -72,10 +92,10 @@ word_changed words (word_added word grade) = index_added (length word) (add_answ
 word_changed words (word_struck word) = index_struck (length word) (strike_answer words word)
 word_changed words other = None
 
--- whether an edit chooses the least grade: then a net is computed anew, and is told of no change
-abbrev pub is_limit : Action → Bool
-is_limit (least_chosen grade) = true
-is_limit other = false
+-- whether an edit chooses a lower least grade than before, which may bring words back
+abbrev pub brings_back : Dictionary → Action → Bool
+brings_back words (least_chosen grade) = nat_lt (capped grade) words.least
+brings_back words other = false
 
 -- the indices of the listed cells
 abbrev pub indices_listed : Grid → List (Cell × Option ℕ) → List ℕ
@@ -98,12 +118,17 @@ pub record IsChange (before now : State) (action : Action) (change : Fields) : T
   pub lights : change.before ≡ lights_of before.grid
   -- it has the length and index of the word that was added or struck
   pub word : change.word ≡ word_changed before.words action
+  -- it has the lengths in which the least grade made words active or left them out
+  pub turned : (len : ℕ) → change.turned len ≡ turns_words before.words action len
   -- the grid has the same size and, outside the listed cells, the same squares
   pub width : now.grid.width ≡ before.grid.width
   pub height : now.grid.height ≡ before.grid.height
   pub squares : (index : ℕ) → ¬ Contains (indices_listed before.grid change.cells) index → slice_get now.grid.squares index ≡ slice_get before.grid.squares index
-  -- the known words are the same, except perhaps whether the changed word is known and active
-  pub entries : (len index : ℕ) → ¬ IsIndexOf change.word len index → slice_get (row now.words len) index ≡ slice_get (row before.words len) index
+  -- in any other length the known words are the same, except perhaps whether the changed word is known and active
+  pub entries : (len index : ℕ) → change.turned len ≡ false → ¬ IsIndexOf change.word len index → slice_get (row now.words len) index ≡ slice_get (row before.words len) index
+  -- in such a length the same words are known, and if no word may have come back, none did
+  pub counts : (len : ℕ) → change.turned len ≡ true → length (row now.words len) ≡ length (row before.words len)
+  pub gone : (len index : ℕ) → change.back ≡ false → change.turned len ≡ true → (entry_at (row now.words len) index).active ≡ true → (entry_at (row before.words len) index).active ≡ true
   pub spelling : (len index : ℕ) → index < length (row before.words len) → (entry_at (row now.words len) index).word ≡ (entry_at (row before.words len) index).word
 
 -- the edit adds or strikes the word with this length and index, and keeps the grid

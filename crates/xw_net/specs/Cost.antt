@@ -4,7 +4,7 @@ use Rattle.std.specs.List.{sum_by}
 use Rattle.xw_words.specs.Dictionary.{Dictionary, row}
 use Rattle.xw_feas.specs.Board.{board_of}
 use Rattle.xw_feas.specs.State.{State, Action}
-use Rattle.xw_net.specs.Region.{chunks_of, light_cost, IsWithinCost}
+use Rattle.xw_net.specs.Region.{chunks_of, IsWithinCost}
 
 -- the cost of reviving a light: for each position one read of the known words of its length, and
 -- one read of which are active
@@ -22,10 +22,6 @@ light_stripping_cost dictionary light = length light * (100 * chunks_of (length 
 -- the cost of stripping the lights of a set
 abbrev pub stripping_cost : State → (List ℕ → Bool) → ℕ
 stripping_cost after member = sum_by (light_stripping_cost after.words) (filter member (board_of after.grid).lights)
-
--- the cost of all lights of the grid
-abbrev pub whole_cost : State → ℕ
-whole_cost state = sum_by (light_cost state.words) (board_of state.grid).lights
 
 -- the ticks have risen by at most the cost of the edit
 abbrev pub RoseWithinCost : State → State → Action → ℕ → ℕ → Type 0

@@ -25,7 +25,6 @@ pub mod Copy
 pub mod Tally
 pub mod Update
 pub mod Cost
-pub mod Refill
 pub mod RegionLaws
 pub mod Settling
 pub mod Inner

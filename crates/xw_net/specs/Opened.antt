@@ -31,12 +31,21 @@ pub record Arrays : Type 0 where
 abbrev pub arrays_of : Net → Arrays
 arrays_of net = record { rows = net.rows.items; base = net.base.items; letters = net.letters.items; queue = net.queue; chain = net.chain }
 
--- the edit may take words or letters from the light: it is new, an edited cell is in it, or it has
--- the length of the changed word
+-- the least grade made words of the light's length active, or left them out
+abbrev pub HasTurnedWords : Board → (ℕ → Bool) → ℕ → Type 0
+HasTurnedWords board turned light = (light < length board.lights) × (turned (length (light_at board light)) ≡ true)
+
+-- and may have made some active
+abbrev pub IsRegained : Board → Fields → ℕ → Type 0
+IsRegained board change light = (change.back ≡ true) × HasTurnedWords board change.turned light
+
+-- the edit may take words or letters from the light: it is new, an edited cell is in it, it has the length of the changed
+-- word, or the least grade changed which words of its length are active
 pub data IsTouched (grid : Grid) (board : Board) (lights : List Light) (change : Fields) (light : ℕ) : Type 0 where
   by_light : IsNewLight change.before lights light → IsTouched grid board lights change light
   by_cell : IsThroughListed grid board change.cells light → IsTouched grid board lights change light
   by_word : HasLength board change.word light → IsTouched grid board lights change light
+  by_grade : HasTurnedWords board change.turned light → IsTouched grid board lights change light
 
 -- the edit may give words or letters to the light: it is touched, was queued, or a letter is missing
 -- at a cell of it that was in a removed light
@@ -45,14 +54,16 @@ pub data MayGain (grid : Grid) (board : Board) (lights : List Light) (change : F
   if_queued : is_marked queue.marks light ≡ true → MayGain grid board lights change letters queue light
   if_freed : IsThroughFreed board (IsFreed grid change.before lights (length change.before)) letters light → MayGain grid board lights change letters queue light
 
--- the new lights and those through edited cells were queued, those that may gain were marked, and
--- the edited and freed cells got their letters
+-- the new lights, those through edited cells and those with other active words were queued, those that may gain were
+-- marked, and the edited and freed cells got their letters
 pub record Touches (grid : Grid) (board : Board) (lights : List Light) (change : Fields) (letters : List ℕ) (queue chain : ListOfLights) (letters' : List ℕ) (queue' chain' : ListOfLights) : Type 0 where
   pub letters_len : length letters' ≡ length letters
   pub queue_grows : Grows queue queue'
   pub chain_grows : Grows chain chain'
   pub new_queued : MarksAll (IsNewLight change.before lights) queue'
   pub new_marked : MarksAll (IsNewLight change.before lights) chain'
+  pub turned_queued : MarksAll (HasTurnedWords board change.turned) queue'
+  pub turned_marked : MarksAll (IsRegained board change) chain'
   pub edited : AreEdited grid board change.cells (set_has letters') (is_marked queue'.marks) (is_marked chain'.marks)
   pub spread : IsSpread board (set_has letters) (set_has letters') (is_marked chain'.marks) (is_waiting chain'.lights) no_positions
   pub freed : (cell : ℕ) → IsFreed grid change.before lights (length change.before) cell → HasAll board (set_has letters') cell
@@ -67,9 +78,12 @@ pub record IsOpening (grid : Grid) (board : Board) (lights : List Light) (entrie
   pub listed : HasSeeds new.queue
   pub chain : Grows old.chain new.chain
   pub seeds : HasSeeds new.chain
-  -- the new lights and those through edited cells are queued, and those that may gain are marked
+  -- the new lights, those through edited cells and those with other active words are queued, and those that may gain are
+  -- marked
   pub new_queued : MarksAll (IsNewLight change.before lights) new.queue
   pub new_marked : MarksAll (IsNewLight change.before lights) new.chain
+  pub turned_queued : MarksAll (HasTurnedWords board change.turned) new.queue
+  pub turned_marked : MarksAll (IsRegained board change) new.chain
   pub edited : AreEdited grid board change.cells (set_has new.letters) (is_marked new.queue.marks) (is_marked new.chain.marks)
   pub spread : IsSpread board (set_has old.letters) (set_has new.letters) (is_marked new.chain.marks) (is_waiting new.chain.lights) no_positions
   pub freed : (cell : ℕ) → IsFreed grid change.before lights (length change.before) cell → HasAll board (set_has new.letters) cell

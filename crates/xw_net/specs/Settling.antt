@@ -10,22 +10,25 @@ use Rattle.xw_feas.specs.State.{State, Action, after}
 use Rattle.xw_feas.specs.WellFormed.{IsWellFormed}
 use Rattle.xw_net.specs.declared.change.Change.{Change}
 use Rattle.xw_net.specs.declared.net.Net.{Net}
-use Rattle.xw_net.specs.Change.{Fields, IsChange, AreReadsOf, before_of, cells_of, word_of, entries_written, fields_of, is_limit, word_changed}
+use Rattle.xw_net.specs.Change.{Fields, IsChange, AreReadsOf, before_of, cells_of, word_of, entries_written, fields_of, word_changed, brings_back}
 use Rattle.xw_net.specs.Filled.{AreLong}
 use Rattle.xw_net.specs.Fit.{HasRoomBetween}
 use Rattle.xw_net.specs.Net.{HasRoomFor, IsSettledFor, StoodFor, known_counts}
+use Rattle.xw_net.specs.Region.{turns_words}
 use Rattle.xw_net.specs.Room.{counts_of}
 use Rattle.xw_net.specs.Update.{AreInside}
 
--- The edit was applied to a well-formed state, it does not choose the least grade, and the change tells what it has to: the
--- cells that the edit wrote, each with its entry before; the lights before it; and the word that it added or struck.
+-- The edit was applied to a well-formed state, and the change tells what it has to: the cells that the edit wrote, each with
+-- its entry before; the lights before it; the word that it added or struck; the lengths in which a new least grade made words
+-- active or left them out; and whether this grade is below the one before.
 pub record IsTold (before now : State) (action : Action) (change : Fields) : Type 0 where
   pub made : after before action ≡ Ok now
-  pub no_limit : is_limit action ≡ false
   pub formed_before : IsWellFormed before
   pub cells : change.cells ≡ entries_written before.grid action
   pub lights : change.before ≡ lights_of before.grid
   pub word : change.word ≡ word_changed before.words action
+  pub turned : (len : ℕ) → change.turned len ≡ turns_words before.words action len
+  pub back : change.back ≡ brings_back before.words action
 
 -- the conditions on a change and a net, except those on the room
 pub record CanSettle (grid : Grid) (lights : List Light) (entries : ℕ → List Entry) (change : Change) (net : Net) : Type 0 where

@@ -1,4 +1,4 @@
-//! Computes all answers for a grid and a dictionary, in a new net or in one that is used again.
+//! Computes all answers for a grid and a dictionary, in a new net.
 ghost use Rattle.std.specs.Prelude.{◌≡◌, ℕ, length};
 ghost use Rattle.xw_feas.specs.Feasible.{may_stand};
 ghost use Rattle.xw_feas.specs.Flags.{set_has};
@@ -7,7 +7,6 @@ ghost use Rattle.xw_net.specs.Marks.{AreByCell};
 
 use crate::base::read_marked;
 use crate::net::Net;
-use crate::room::NO_WORD;
 use crate::seeds::mark_all;
 use std::alloc::Global;
 use xw_feas::board::{Board, allowed};
@@ -34,20 +33,14 @@ fn fill_letters(board: &Board<'_>, letters: &mut [LetterSet])
 }
 
 impl Net {
-    ghost use Rattle.std.specs.Prelude.{◌≡◌, ℕ, ◌+◌, ◌*◌, ◌^◌, ◌≤◌, false, is_some, IfOk, IfErr, length, replicate, vec_len};
+    ghost use Rattle.std.specs.Prelude.{◌≡◌, ℕ, ◌+◌, ◌*◌, ◌^◌, ◌≤◌, false, is_some, IfOk, IfErr};
     ghost use Rattle.xw_words.specs.Dictionary.{Dictionary};
     ghost use Rattle.xw_grid.specs.Light.{lights_of};
-    ghost use Rattle.xw_feas.specs.Board.{board_of};
     ghost use Rattle.xw_feas.specs.WellFormed.{HasLetterEntries};
-    ghost use Rattle.xw_net.specs.Brought.{base_cost};
-    ghost use Rattle.xw_net.specs.Copy.{IsReusable};
-    ghost use Rattle.xw_net.specs.Inner.Forget.{nowhere};
     ghost use Rattle.xw_net.specs.Marks.{IsSetting};
     ghost use Rattle.xw_net.specs.Filled.{AreLong, IsFresh, IsUnstripped, IsFilled};
     ghost use Rattle.xw_net.specs.Nets.{IsShaped, HasBits, IsQueue};
-    ghost use Rattle.xw_net.specs.Refill.{all_lights, FillsWithin, Refills, RefillsWithinCost};
-    ghost use Rattle.xw_net.specs.Room.{counts_of, HasRoom};
-    ghost use Rattle.xw_net.specs.Update.{state_of, KeepsRoom};
+    ghost use Rattle.xw_net.specs.Update.{state_of};
     ghost use Rattle.xw_net.specs.Net.{IsSettledFor, HasRoomFor, known_counts};
 
     /// Gives each cell all letters that it allows and each light all its base words, and queues all
@@ -56,15 +49,12 @@ impl Net {
         requires fresh { IsFresh board.now (R.entries rows.old) self.old }
         requires long { AreLong board.now (R.entries rows.old) }
         ensures entries { R.entries rows.new ≡ R.entries rows.old }
-        ensures risen { R.ticks rows.old ≤ R.ticks rows.new }
         ensures letters { HasLetterEntries board.now }
         ensures shaped { IsShaped board.now self.new }
         ensures bits { HasBits board.now (R.entries rows.old) self.new }
         ensures queue { IsQueue self.new }
         ensures spare { self.new.spare ≡ self.old.spare }
-        ensures room { KeepsRoom self.old self.new }
         ensures unstripped { (dictionary : Dictionary) → IsSetting board.now (R.entries rows.old) dictionary → IsUnstripped board.now dictionary self.new }
-        ensures cost { R.ticks rows.new ≤ R.ticks rows.old + base_cost board.now (R.entries rows.old) all_lights }
     {
         fill_letters(board, &mut self.letters);
         mark_all(board, &mut self.chain);
@@ -73,48 +63,18 @@ impl Net {
         self.unmark();
     }
 
-    /// Computes exactly the feasible words and letters, whatever words and letters the net has.
+    /// Computes exactly the feasible words and letters.
     pub(crate) fn fill<R: Rows>(&mut self, rows: &mut R, board: &Board<'_>)
         requires fresh { IsFresh board.now (R.entries rows.old) self.old }
         requires long { AreLong board.now (R.entries rows.old) }
         ensures entries { R.entries rows.new ≡ R.entries rows.old }
-        ensures risen { R.ticks rows.old ≤ R.ticks rows.new }
         ensures letters { HasLetterEntries board.now }
         ensures spare { self.new.spare ≡ self.old.spare }
-        ensures room { KeepsRoom self.old self.new }
         ensures filled { (dictionary : Dictionary) → IsSetting board.now (R.entries rows.old) dictionary → IsFilled board.now dictionary self.new }
-        ensures cost { FillsWithin board.now (R.entries rows.old) (R.ticks rows.old) (R.ticks rows.new) }
     {
         self.bring_all(rows, board);
         self.strip_queued(rows, board);
         self.keep_counts();
-    }
-
-    /// Forgets all supports.
-    fn forget_supports(&mut self)
-        ensures rest { self.new ≡ record self.old { held = self.new.held } }
-        ensures held { self.new.held.items ≡ replicate (vec_len self.old.held) nowhere }
-    {
-        self.held.as_mut_slice().fill(NO_WORD);
-    }
-
-    /// Computes the feasible words and letters anew, for the same lights, after the active words
-    /// changed. The numbers of known words are unchanged. It allocates nothing.
-    pub fn refill<R: Rows>(&mut self, rows: &mut R, grid: &Grid, lights: &Lights)
-        requires lights { lights.now ≡ lights_of grid.now }
-        requires long { AreLong (board_of grid.now) (R.entries rows.old) }
-        requires reusable { IsReusable lights.now (counts_of (R.entries rows.old)) (length grid.now.squares) self.old }
-        ensures entries { R.entries rows.new ≡ R.entries rows.old }
-        ensures risen { R.ticks rows.old ≤ R.ticks rows.new }
-        ensures spare { self.new.spare ≡ self.old.spare }
-        ensures room { HasRoom lights.now (counts_of (R.entries rows.old)) self.new }
-        ensures settled { Refills grid.now (R.entries rows.old) self.new }
-        ensures cost { RefillsWithinCost grid.now (R.entries rows.old) (R.ticks rows.old) (R.ticks rows.new) }
-    {
-        grid.well_formed();
-        let board = Board::new(grid, lights);
-        self.forget_supports();
-        self.fill(rows, &board);
     }
 
     /// A net with the feasible words and letters of a grid and a dictionary. Returns `Memory` if an

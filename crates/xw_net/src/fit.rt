@@ -62,6 +62,7 @@ impl Net {
             Change::Letters(_) => self.spare = None,
             Change::Shape { before, .. } => self.turn_to(words, before, lights),
             Change::Word { .. } => self.spare = None,
+            Change::Words { .. } => self.spare = None,
         }
     }
     /// Adapts the net to the lights and the known words after an edit.

@@ -93,6 +93,7 @@ fn forgets_none<R: Rows>(rows: &R, change: &Change<'_>) -> bool
         Change::Letters(_) => true,
         Change::Shape { .. } => false,
         Change::Word { len, index } => !is_last(rows, len, index),
+        Change::Words { .. } => true,
     }
 }
 
@@ -105,6 +106,7 @@ fn has_stayed(lights: &Lights, change: &Change<'_>, light: usize) -> bool
         Change::Letters(_) => true,
         Change::Shape { before, .. } => lights.same(light, before).is_some(),
         Change::Word { .. } => true,
+        Change::Words { .. } => true,
     }
 }
 

@@ -13,9 +13,8 @@ pub fn least_region_bounds()
 {}
 
 /// How the caller of a net meets the conditions of `settle` and `revive`. It has to know the edit, the state before it, and
-/// that the change has the cells with their entries, the lights and the word. All else follows, but for the room, which an
-/// edit needs only if it changes lights or adds a new word. After an edit that chooses the least grade the caller computes
-/// the net anew by `refill` instead.
+/// that the change has the cells with their entries, the lights, the word and the lengths. All else follows, but for the
+/// room, which an edit needs only if it changes lights or adds a new word.
 pub fn told_edits_can_be_settled()
     ensures change { ToldIsChange }
     ensures conditions { ToldCanSettle }

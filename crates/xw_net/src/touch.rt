@@ -1,10 +1,10 @@
 //! The first step of an update, by the kind of the change: letters, the queue and the chain.
-ghost use Rattle.std.specs.Prelude.{◌≡◌, length};
+ghost use Rattle.std.specs.Prelude.{◌≡◌, ℕ, ◌<◌, ◌≤◌, true, false, length, slice_index_or};
 ghost use Rattle.xw_net.specs.Change.{cells_of, fields_of};
 ghost use Rattle.xw_net.specs.Marks.{AreByCell};
-ghost use Rattle.xw_net.specs.Opened.{Touches};
+ghost use Rattle.xw_net.specs.Opened.{HasTurnedWords, Touches};
 ghost use Rattle.xw_net.specs.Update.{AreInside};
-ghost use Rattle.xw_net.specs.Worklist.{HasLights, HasSeeds};
+ghost use Rattle.xw_net.specs.Worklist.{Adds, HasLights, HasSeeds};
 
 use crate::begin::edit_cells;
 use crate::change::Change;
@@ -16,8 +16,52 @@ use xw_grid::grid::Grid;
 use xw_grid::lights::Lights;
 use xw_letters::letter_set::LetterSet;
 
-/// Queues the new lights and those through edited cells, and marks those that may get words back.
-/// Only a change of shape has lights come and go, and a change of a word touches none.
+/// The flag of a length; false if there is none.
+fn flag_of(flags: &[bool], len: usize) -> bool
+    ensures { result ≡ slice_index_or flags.now len false }
+{
+    match flags.get(len) {
+        Some(flag) => *flag,
+        None => false,
+    }
+}
+
+/// Puts the lights whose length has its flag set on the list.
+fn mark_turned(board: &Board<'_>, turned: &[bool], list: &mut Worklist)
+    requires { HasLights board.now list.old }
+    ensures { Adds (HasTurnedWords board.now (λ len. slice_index_or turned.now len false)) list.old list.new }
+{
+    for light in 0..board.light_count() {
+        let len = board.light(light).len();
+        if !flag_of(turned, len) {
+            continue;
+        }
+        list.insert(light);
+    }
+}
+
+/// Queues the lights whose length has its flag set. If words may have come back, marks these lights too.
+fn touch_turned(
+    board: &Board<'_>,
+    turned: &[bool],
+    back: bool,
+    queue: &mut Worklist,
+    chain: &mut Worklist,
+)
+    requires queue { HasLights board.now queue.old }
+    requires chain { HasLights board.now chain.old }
+    ensures queue { Adds (HasTurnedWords board.now (λ len. slice_index_or turned.now len false)) queue.old queue.new }
+    ensures chain { Adds (λ light. (back ≡ true) × HasTurnedWords board.now (λ len. slice_index_or turned.now len false) light) chain.old chain.new }
+{
+    mark_turned(board, turned, queue);
+    if back {
+        mark_turned(board, turned, chain);
+    }
+}
+
+/// Queues the new lights, those through edited cells and those of lengths with other active words, and
+/// marks those that may get words back. Only a change of shape has lights come and go, and a change of a
+/// word touches none.
 pub(crate) fn touch(
     grid: &Grid,
     board: &Board<'_>,
@@ -44,5 +88,6 @@ pub(crate) fn touch(
             edit_cells(grid, board, cells, letters, queue, chain);
         }
         Change::Word { .. } => {}
+        Change::Words { turned, back } => touch_turned(board, turned, back, queue, chain),
     }
 }

@@ -134,7 +134,7 @@ module _ (before now : State) (action : Action) (letters letters' : ℕ → ℕ 
   seed light =
       list_any (λ cell. list_any (λ other. eqb cell other) (edited_cells before.grid action)) light
       || (not (among lights_before light && among lights_now light)
-      || changes_words action (length light))
+      || changes_words before.words action (length light))
 
   abbrev link : List ℕ → List ℕ → Bool
   link light other = list_any (λ cell. not (settled cell) && list_any (λ there. eqb cell there) other) light
@@ -180,8 +180,8 @@ module _ (before now : State) (action : Action) (letters letters' : ℕ → ℕ 
   pub region_is_region : IsRegion before now action region
   region_is_region = record {
     edited = λ light cell there through in_edit. seed_in light there (or_left _ _ (any_from (λ c. list_any (λ other. eqb c other) (edited_cells before.grid action)) light cell through (holds_from (edited_cells before.grid action) cell in_edit)));
-    gone = λ light there never. seed_in light (inl there) (or_right (list_any (λ c. list_any (λ other. eqb c other) (edited_cells before.grid action)) light) _ (or_left _ (changes_words action (length light)) (one_time light (λ first second. never second))));
-    come = λ light there never. seed_in light (inr there) (or_right (list_any (λ c. list_any (λ other. eqb c other) (edited_cells before.grid action)) light) _ (or_left _ (changes_words action (length light)) (one_time light (λ first second. never first))));
+    gone = λ light there never. seed_in light (inl there) (or_right (list_any (λ c. list_any (λ other. eqb c other) (edited_cells before.grid action)) light) _ (or_left _ (changes_words before.words action (length light)) (one_time light (λ first second. never second))));
+    come = λ light there never. seed_in light (inr there) (or_right (list_any (λ c. list_any (λ other. eqb c other) (edited_cells before.grid action)) light) _ (or_left _ (changes_words before.words action (length light)) (one_time light (λ first second. never first))));
     long = λ light there is_long. seed_in light there (or_right (list_any (λ c. list_any (λ other. eqb c other) (edited_cells before.grid action)) light) _ (or_right (not (among lights_before light && among lights_now light)) _ is_long));
     spreads = λ light other cell has there there' through through' unsettled. link_in light other there there' has
         (any_from (λ c. not (settled c) && list_any (λ o. eqb c o) other) light cell through (and_from _ _ (by_test cell unsettled) (holds_from other cell through')));
@@ -197,11 +197,11 @@ module _ (before now : State) (action : Action) (letters letters' : ℕ → ℕ 
   unfolding region
   region_is_least member closed light has = least_is_least all_lights seed link member seeds links light has where
     seeds : (l : List ℕ) → Contains all_lights l → seed l ≡ true → member l ≡ true
-    seeds l there h = elim (or_cases (list_any (λ cell. list_any (λ other. eqb cell other) (edited_cells before.grid action)) l) (not (among lights_before l && among lights_now l) || changes_words action (length l)) h) [
+    seeds l there h = elim (or_cases (list_any (λ cell. list_any (λ other. eqb cell other) (edited_cells before.grid action)) l) (not (among lights_before l && among lights_now l) || changes_words before.words action (length l)) h) [
       | inl through ↦
           let found = any_gives (λ cell. list_any (λ other. eqb cell other) (edited_cells before.grid action)) l through in
           closed.edited l found.0 (stands_back l there) found.1 (holds_gives (edited_cells before.grid action) found.0 found.2)
-      | inr rest ↦ elim (or_cases (not (among lights_before l && among lights_now l)) (changes_words action (length l)) rest) [
+      | inr rest ↦ elim (or_cases (not (among lights_before l && among lights_now l)) (changes_words before.words action (length l)) rest) [
         | inr is_long ↦ closed.long l (stands_back l there) is_long
         | inl once ↦ elim (stands_back l there) [
           | inl first ↦ closed.gone l first (λ second. both_ways _ (not-true _ once) (and_from _ _ (among_from lights_before l first) (among_from lights_now l second)))

@@ -7,7 +7,7 @@ use Rattle.std.proofs.lemmas.List.{get_or_default, get_or-map, length-map, ext_g
 use Rattle.std.proofs.lemmas.Option.{slice_get_within, unwrap_or-slice_get, slice_get-get_or}
 use Rattle.std.proofs.Math.ListN.{get_or-map as get_or-map_any}
 use Rattle.xw_bits.specs.Bits.{RowOfBits}
-use Rattle.xw_words.specs.Dictionary.{Entry, Dictionary, row, no_entry, add_answer, strike_answer}
+use Rattle.xw_words.specs.Dictionary.{Entry, Dictionary, row, entry_at, no_entry, add_answer, strike_answer}
 use Rattle.xw_grid.specs.declared.cell.Cell.{Cell}
 use Rattle.xw_grid.specs.Grid.{Grid, index_of, is_inside, letter_in, entry as entry_in}
 use Rattle.xw_feas.specs.Board.{Board, board_of, entry, light_at, is_wholly_entered, allows, agrees, is_open}
@@ -25,7 +25,7 @@ use Rattle.xw_net.specs.Base.{base_bits, is_base_word}
 use Rattle.xw_net.specs.Spread.{bits_in, IsSpread, HasAll, no_positions}
 use Rattle.xw_net.specs.Brought.{IsBase}
 use Rattle.xw_net.specs.Revival.{same_light, StandsOn}
-use Rattle.xw_net.specs.Region.{IsRegion, cells_written, edited_cells, changes_words}
+use Rattle.xw_net.specs.Region.{IsRegion, cells_written, edited_cells, turns_words, changes_words}
 use Rattle.xw_net.specs.Marks.{Marks, IsPositionIn, cell_at, slot_at, known, puts}
 use Rattle.xw_net.specs.Begin.{IsEdited, is_long, is_read, may_have, is_seed, is_fill, IsStarted}
 use Rattle.xw_net.proofs.BaseRows.NarrowedRows.{common_bits}
@@ -112,8 +112,8 @@ module _ (before now : State) (action : Action) (change : Fields) (is : IsChange
       both_ways _ calm ((edited this.listed this.has).queued light in_cells.0 (in_board, in_cells.1) (meets light cell in_cells ∙ sym this.at)))
 
   -- if no word of its length has changed, a light has the same known words as before
-  pub changed_words_same : (light : ℕ) → is_long change.word (length (light_at new_board light)) ≡ false → row now.words (length (light_at new_board light)) ≡ row before.words (length (light_at new_board light))
-  changed_words_same light short = same_elements _ _ (λ k. is.entries (length (light_at new_board light)) k (not_there k change.word refl)) where
+  pub changed_words_same : (light : ℕ) → change.turned (length (light_at new_board light)) ≡ false → is_long change.word (length (light_at new_board light)) ≡ false → row now.words (length (light_at new_board light)) ≡ row before.words (length (light_at new_board light))
+  changed_words_same light still short = same_elements _ _ (λ k. is.entries (length (light_at new_board light)) k still (not_there k change.word refl)) where
     not_there : (k : ℕ) (word : Option (ℕ × ℕ)) → change.word ≡ word → ¬ IsIndexOf change.word (length (light_at new_board light)) k
     not_there k None none found = subst (λ w. IsIndexOf w (length (light_at new_board light)) k) none found
     not_there k (Some word) some found =
@@ -121,7 +121,8 @@ module _ (before now : State) (action : Action) (change : Fields) (is : IsChange
         both_ways _ short (ap (λ w. is_long w (length (light_at new_board light))) some ∙ eq-eqb word.0 (length (light_at new_board light)) there.0)
 
   module _ (calm : (light : ℕ) → light < length new_board.lights → queued light ≡ false → may_have change.word (length (light_at new_board light)) (base_bits new_board (light_at new_board light) (row now.words (length (light_at new_board light)))) ≡ false)
-      (seeds : (light : ℕ) → light < length new_board.lights → queued light ≡ true → is_seed new_board change.word (light_at new_board light) (base_bits new_board (light_at new_board light) (row now.words (length (light_at new_board light)))) ≡ true → seed light ≡ true) where
+      (seeds : (light : ℕ) → light < length new_board.lights → queued light ≡ true → is_seed new_board change.word (light_at new_board light) (base_bits new_board (light_at new_board light) (row now.words (length (light_at new_board light)))) ≡ true → seed light ≡ true)
+      (turned : (light : ℕ) → light < length new_board.lights → change.back ≡ true → change.turned (length (light_at new_board light)) ≡ true → seed light ≡ true) where
     pub changed_entered : (light : ℕ) → light < length new_board.lights → queued light ≡ true → is_wholly_entered new_board (light_at new_board light) ≡ true → seed light ≡ true
     changed_entered light in_board is_queued whole = seeds light in_board is_queued (or_left _ _ whole)
 
@@ -139,15 +140,19 @@ module _ (before now : State) (action : Action) (change : Fields) (is : IsChange
       | inl is_queued ↦ false_from_ne_true _ (λ has. both_ways _ no_seed (seeds light in_board is_queued (or_right (is_wholly_entered new_board (light_at new_board light)) _ has)))
     ]
 
-    row_cases : (light : ℕ) → light < length new_board.lights → seed light ≡ false → (row now.words (length (light_at new_board light)) ≡ row before.words (length (light_at new_board light))) ⊎ IsRowBut (light_at new_board light)
-    row_cases light in_board no_seed = by_word change.word refl where
+    -- no word came back in a length that the least grade turned, if its light is not a seed
+    none_back : (light : ℕ) → light < length new_board.lights → seed light ≡ false → change.turned (length (light_at new_board light)) ≡ true → change.back ≡ false
+    none_back light in_board no_seed on = false_from_ne_true _ (λ back. both_ways _ no_seed (turned light in_board back on))
+
+    row_cases : (light : ℕ) → light < length new_board.lights → seed light ≡ false → change.turned (length (light_at new_board light)) ≡ false → (row now.words (length (light_at new_board light)) ≡ row before.words (length (light_at new_board light))) ⊎ IsRowBut (light_at new_board light)
+    row_cases light in_board no_seed still = by_word change.word refl where
       bits : List Bool
       bits = base_bits new_board (light_at new_board light) (row now.words (length (light_at new_board light)))
 
       by_word : (word : Option (ℕ × ℕ)) → change.word ≡ word → (row now.words (length (light_at new_board light)) ≡ row before.words (length (light_at new_board light))) ⊎ IsRowBut (light_at new_board light)
-      by_word None none = inl (changed_words_same light (ap (λ w. is_long w (length (light_at new_board light))) none))
+      by_word None none = inl (changed_words_same light still (ap (λ w. is_long w (length (light_at new_board light))) none))
       by_word (Some word) some = elim (cases_Bool (eqb word.0 (length (light_at new_board light)))) [
-        | inr apart ↦ inl (changed_words_same light (ap (λ w. is_long w (length (light_at new_board light))) some ∙ apart))
+        | inr apart ↦ inl (changed_words_same light still (ap (λ w. is_long w (length (light_at new_board light))) some ∙ apart))
         | inl e ↦
             let no : may_have (Some word) (length (light_at new_board light)) bits ≡ true → ⊥ = λ h. both_ways _ (changed_has_not light in_board no_seed) (ap (λ w. may_have w (length (light_at new_board light)) bits) some ∙ h) in
             inr (record {
@@ -160,7 +165,7 @@ module _ (before now : State) (action : Action) (change : Fields) (is : IsChange
                 | inl on ↦ absurd (no (and_from _ _ e (or_right (leb (length bits) (word.1 + 1)) _ on)))
                 | inr is_off ↦ is_off
               ];
-              others = λ k apart. is.entries (length (light_at new_board light)) k (λ found. apart (sym (subst (λ w. IsIndexOf w (length (light_at new_board light)) k) some found).1));
+              others = λ k apart. is.entries (length (light_at new_board light)) k still (λ found. apart (sym (subst (λ w. IsIndexOf w (length (light_at new_board light)) k) some found).1));
             })
       ]
 
@@ -173,37 +178,57 @@ module _ (before now : State) (action : Action) (change : Fields) (is : IsChange
           absurd (omega arith)
     ]
 
-    pub changed_spelled : (light : ℕ) → light < length new_board.lights → seed light ≡ false → spellings now.words (length (light_at new_board light)) ≡ spellings before.words (length (light_at new_board light))
-    changed_spelled light in_board no_seed = elim (row_cases light in_board no_seed) [
-      | inl same ↦ ap (map (λ (word : Entry). word.word)) same
-      | inr but ↦
-          let new_row = row now.words (length (light_at new_board light)) in
-          let old_row = row before.words (length (light_at new_board light)) in
-          let within = slice_get_within old_row (but.index + 1) (get_or new_row (but.index + 1) no_entry) (sym (but.others (but.index + 1) (λ e. absurd (omega arith))) ∙ slice_get-get_or new_row (but.index + 1) no_entry but.inner) in
-          let most = at_least new_row old_row but.index (omega arith) but.others in
-          let least = at_least old_row new_row but.index (omega (arith, but.inner)) (λ k apart. sym (but.others k apart)) in
-          let long_new = length-map new_row (λ (word : Entry). word.word) in
-          let long_old = length-map old_row (λ (word : Entry). word.word) in
-          ext_get_or [] (map (λ (word : Entry). word.word) new_row) (map (λ (word : Entry). word.word) old_row) (omega arith)
-          (λ i lt. get_or-map (λ (word : Entry). word.word) new_row i no_entry [] (omega arith)
-          ∙ is.spelling (length (light_at new_board light)) i (omega arith)
-          ∙ sym (get_or-map (λ (word : Entry). word.word) old_row i no_entry [] (omega arith)))
-    ]
+    -- rows of the same length spell the same words
+    spelled_alike : (len : ℕ) → length (row now.words len) ≡ length (row before.words len) → spellings now.words len ≡ spellings before.words len
+    spelled_alike len long =
+        let new_row = row now.words len in
+        let old_row = row before.words len in
+        let long_new = length-map new_row (λ (word : Entry). word.word) in
+        let long_old = length-map old_row (λ (word : Entry). word.word) in
+        ext_get_or [] (map (λ (word : Entry). word.word) new_row) (map (λ (word : Entry). word.word) old_row) (omega arith)
+        (λ i lt. get_or-map (λ (word : Entry). word.word) new_row i no_entry [] (omega arith)
+        ∙ is.spelling len i (omega arith)
+        ∙ sym (get_or-map (λ (word : Entry). word.word) old_row i no_entry [] (omega arith)))
 
-    pub changed_active : (light choice : ℕ) → light < length new_board.lights → seed light ≡ false → is_base_at new_board now.words light choice ≡ true → get_or (actives now.words (length (light_at new_board light))) choice false ≡ true → get_or (actives before.words (length (light_at new_board light))) choice false ≡ true
-    changed_active light choice in_board no_seed base act = elim (row_cases light in_board no_seed) [
-      | inl same ↦ ap (λ (r : List Entry). get_or (map (λ (word : Entry). word.active) r) choice false) (sym same) ∙ act
-      | inr but ↦ elim (cases_eq choice but.index) [
-        | inl e ↦
-            let bits = base_bits new_board (light_at new_board light) (row now.words (length (light_at new_board light))) in
-            let below : choice < length bits = omega (arith, e, but.inner, length-base_bits new_board (light_at new_board light) (row now.words (length (light_at new_board light)))) in
-            let on : get_or bits choice false ≡ true = sym (get_or_append_left bits (is_wholly_entered new_board (light_at new_board light) ∷ []) false choice below) ∙ base in
-            absurd (both_ways _ but.off (ap (λ n. get_or bits n false) (sym e) ∙ on))
-        | inr apart ↦
+    pub changed_spelled : (light : ℕ) → light < length new_board.lights → seed light ≡ false → spellings now.words (length (light_at new_board light)) ≡ spellings before.words (length (light_at new_board light))
+    changed_spelled light in_board no_seed = elim (cases_Bool (change.turned (length (light_at new_board light)))) [
+      | inl on ↦ spelled_alike (length (light_at new_board light)) (is.counts (length (light_at new_board light)) on)
+      | inr still ↦ elim (row_cases light in_board no_seed still) [
+        | inl same ↦ ap (map (λ (word : Entry). word.word)) same
+        | inr but ↦
             let new_row = row now.words (length (light_at new_board light)) in
             let old_row = row before.words (length (light_at new_board light)) in
-            let same : get_or new_row choice no_entry ≡ get_or old_row choice no_entry = sym (unwrap_or-slice_get new_row choice no_entry) ∙ ap (λ o. unwrap_or o no_entry) (but.others choice apart) ∙ unwrap_or-slice_get old_row choice no_entry in
-            get_or-map_any (λ (word : Entry). word.active) old_row choice no_entry ∙ ap (λ (word : Entry). word.active) (sym same) ∙ sym (get_or-map_any (λ (word : Entry). word.active) new_row choice no_entry) ∙ act
+            let within = slice_get_within old_row (but.index + 1) (get_or new_row (but.index + 1) no_entry) (sym (but.others (but.index + 1) (λ e. absurd (omega arith))) ∙ slice_get-get_or new_row (but.index + 1) no_entry but.inner) in
+            let most = at_least new_row old_row but.index (omega arith) but.others in
+            let least = at_least old_row new_row but.index (omega (arith, but.inner)) (λ k apart. sym (but.others k apart)) in
+            spelled_alike (length (light_at new_board light)) (omega (arith, most, least))
+      ]
+    ]
+
+    -- the active flag of a word
+    flag_of : (words : Dictionary) (len choice : ℕ) → get_or (actives words len) choice false ≡ (entry_at (row words len) choice).active
+    flag_of words len choice = get_or-map_any (λ (word : Entry). word.active) (row words len) choice no_entry
+
+    pub changed_active : (light choice : ℕ) → light < length new_board.lights → seed light ≡ false → is_base_at new_board now.words light choice ≡ true → get_or (actives now.words (length (light_at new_board light))) choice false ≡ true → get_or (actives before.words (length (light_at new_board light))) choice false ≡ true
+    changed_active light choice in_board no_seed base act = elim (cases_Bool (change.turned (length (light_at new_board light)))) [
+      | inl on ↦
+          let len = length (light_at new_board light) in
+          flag_of before.words (length (light_at new_board light)) choice
+          ∙ is.gone len choice (none_back light in_board no_seed on) on (sym (flag_of now.words (length (light_at new_board light)) choice) ∙ act)
+      | inr still ↦ elim (row_cases light in_board no_seed still) [
+        | inl same ↦ ap (λ (r : List Entry). get_or (map (λ (word : Entry). word.active) r) choice false) (sym same) ∙ act
+        | inr but ↦ elim (cases_eq choice but.index) [
+          | inl e ↦
+              let bits = base_bits new_board (light_at new_board light) (row now.words (length (light_at new_board light))) in
+              let below : choice < length bits = omega (arith, e, but.inner, length-base_bits new_board (light_at new_board light) (row now.words (length (light_at new_board light)))) in
+              let on : get_or bits choice false ≡ true = sym (get_or_append_left bits (is_wholly_entered new_board (light_at new_board light) ∷ []) false choice below) ∙ base in
+              absurd (both_ways _ but.off (ap (λ n. get_or bits n false) (sym e) ∙ on))
+          | inr apart ↦
+              let new_row = row now.words (length (light_at new_board light)) in
+              let old_row = row before.words (length (light_at new_board light)) in
+              let same : get_or new_row choice no_entry ≡ get_or old_row choice no_entry = sym (unwrap_or-slice_get new_row choice no_entry) ∙ ap (λ o. unwrap_or o no_entry) (but.others choice apart) ∙ unwrap_or-slice_get old_row choice no_entry in
+              flag_of before.words (length (light_at new_board light)) choice ∙ ap (λ (word : Entry). word.active) (sym same) ∙ sym (flag_of now.words (length (light_at new_board light)) choice) ∙ act
+        ]
       ]
     ]
 
@@ -230,12 +255,13 @@ module _ (before now : State) (action : Action) (change : Fields) (is : IsChange
     (new : (light : ℕ) → light < length (board_of now.grid).lights → same_light before.grid now.grid light ≡ None → queued light ≡ true) where
   -- a light that the edit does not touch keeps its base row
   pub changed_base : (base_before base base' : List RowOfBits)
+      → ((light : ℕ) → light < length (board_of now.grid).lights → change.turned (length (light_at (board_of now.grid) light)) ≡ true → queued light ≡ true)
       → IsBase (board_of before.grid) before.words base_before
       → ((light other : ℕ) → light < length (board_of now.grid).lights → same_light before.grid now.grid light ≡ Some other → is_long change.word (length (light_at (board_of now.grid) light)) ≡ false → bits_in base light ≡ bits_in base_before other)
       → ((light : ℕ) → light < length (board_of now.grid).lights → is_read (board_of now.grid) change.word queued light ≡ true → bits_in base' light ≡ base_bits (board_of now.grid) (light_at (board_of now.grid) light) (row now.words (length (light_at (board_of now.grid) light))))
       → ((light : ℕ) → is_read (board_of now.grid) change.word queued light ≡ false → bits_in base' light ≡ bits_in base light)
       → IsBase (board_of now.grid) now.words base'
-  changed_base base_before base base' was moved on off light in_board = elim (cases_Bool (is_read (board_of now.grid) change.word queued light)) [
+  changed_base base_before base base' turned was moved on off light in_board = elim (cases_Bool (is_read (board_of now.grid) change.word queued light)) [
     | inl read ↦ on light in_board read
     | inr not_read ↦ by_match not_read (same_light before.grid now.grid light) refl
   ] where
@@ -244,11 +270,12 @@ module _ (before now : State) (action : Action) (change : Fields) (is : IsChange
     by_match not_read (Some other) at =
         let calm = (or_parts (queued light) (is_long change.word (length (light_at (board_of now.grid) light))) not_read).0 in
         let short = (or_parts (queued light) (is_long change.word (length (light_at (board_of now.grid) light))) not_read).1 in
+        let still : change.turned (length (light_at (board_of now.grid) light)) ≡ false = false_from_ne_true _ (λ on. both_ways _ calm (turned light in_board on)) in
         let matching = same_is_matching before.grid now.grid is.width in
         let cells = matching.cells light other in_board at in
         off light not_read ∙ moved light other in_board at short ∙ was other (matching.lights light other in_board at)
         ∙ ap (λ cs. base_bits (board_of before.grid) cs (row before.words (length cs))) (sym cells)
-        ∙ ap (base_bits (board_of before.grid) (light_at (board_of now.grid) light)) (sym (changed_words_same before now action change is letters queued seed inside edited light short))
+        ∙ ap (base_bits (board_of before.grid) (light_at (board_of now.grid) light)) (sym (changed_words_same before now action change is letters queued seed inside edited light still short))
         ∙ sym (base_bits_same (board_of before.grid) (board_of now.grid) (light_at (board_of now.grid) light) (row now.words (length (light_at (board_of now.grid) light)))
         (λ cell in_cells. changed_entry_calm before now action change is letters queued seed inside edited light cell in_board calm in_cells))
 
@@ -311,7 +338,7 @@ struck_len : (len word_len index : ℕ) (answer : Result ℕ WordFault) → inde
 struck_len len word_len index (Ok at) h = eq-eqb len word_len (first_of len at word_len index h)
 struck_len len word_len index (Err fault) h = cc
 
-changed_len : (words : Dictionary) (action : Action) (word_len index : ℕ) → word_changed words action ≡ Some (word_len, index) → changes_words action word_len ≡ true
+changed_len : (words : Dictionary) (action : Action) (word_len index : ℕ) → word_changed words action ≡ Some (word_len, index) → changes_words words action word_len ≡ true
 changed_len words (word_added word grade) word_len index h = added_len (length word) word_len index (add_answer words word) h
 changed_len words (word_struck word) word_len index h = struck_len (length word) word_len index (strike_answer words word) h
 changed_len words (letter_set cell letter) word_len index h = cc
@@ -323,9 +350,14 @@ changed_len words (bar_toggled cell side) word_len index h = cc
 changed_len words (symmetry_chosen kind) word_len index h = cc
 changed_len words (least_chosen grade) word_len index h = cc
 
+turned_len : (words : Dictionary) (action : Action) (len : ℕ) → turns_words words action len ≡ true → changes_words words action len ≡ true
+turned_len words (word_added word grade) len on = absurd (false≢true on)
+turned_len words (word_struck word) len on = absurd (false≢true on)
+turned_len words other len on = on
+
 module _ (before now : State) (action : Action) (change : Fields) (is : IsChange before now action change) (member : List ℕ → Bool) (region : IsRegion before now action member) where
-  -- the new lights, those through edited cells, and those with the length of the changed word are
-  -- in the region
+  -- the new lights, those through edited cells, those with the length of the changed word, and those with other active words
+  -- are in the region
   pub new_within : (light : ℕ) → light < length (board_of now.grid).lights → same_light before.grid now.grid light ≡ None → member (light_at (board_of now.grid) light) ≡ true
   new_within light in_board at = region.come (light_at (board_of now.grid) light) (light_stands now light in_board) (λ stood.
       let found = matched before now action is.formed_before.grid is.made light in_board stood in
@@ -343,7 +375,12 @@ module _ (before now : State) (action : Action) (change : Fields) (is : IsChange
   pub long_within : (word_len index light : ℕ) → change.word ≡ Some (word_len, index) → light < length (board_of now.grid).lights → length (light_at (board_of now.grid) light) ≡ word_len → member (light_at (board_of now.grid) light) ≡ true
   long_within word_len index light some in_board long =
       region.long (light_at (board_of now.grid) light) (inr (light_stands now light in_board))
-      (ap (changes_words action) long ∙ changed_len before.words action word_len index (sym is.word ∙ some))
+      (ap (changes_words before.words action) long ∙ changed_len before.words action word_len index (sym is.word ∙ some))
+
+  pub turned_within : (light : ℕ) → light < length (board_of now.grid).lights → change.turned (length (light_at (board_of now.grid) light)) ≡ true → member (light_at (board_of now.grid) light) ≡ true
+  turned_within light in_board on =
+      region.long (light_at (board_of now.grid) light) (inr (light_stands now light in_board))
+      (turned_len before.words action (length (light_at (board_of now.grid) light)) (sym (is.turned (length (light_at (board_of now.grid) light))) ∙ on))
 
 -- ---- the state at which a revival starts
 
@@ -355,6 +392,7 @@ module _ (before now : State) (action : Action) (change : Fields) (is : IsChange
     (new_seeds : (light : ℕ) → light < length (board_of now.grid).lights → same_light before.grid now.grid light ≡ None → seed light ≡ true)
     (calm : (light : ℕ) → light < length (board_of now.grid).lights → start.queued light ≡ false → may_have change.word (length (light_at (board_of now.grid) light)) (base_bits (board_of now.grid) (light_at (board_of now.grid) light) (row now.words (length (light_at (board_of now.grid) light)))) ≡ false)
     (seeds : (light : ℕ) → light < length (board_of now.grid).lights → start.queued light ≡ true → is_seed (board_of now.grid) change.word (light_at (board_of now.grid) light) (base_bits (board_of now.grid) (light_at (board_of now.grid) light) (row now.words (length (light_at (board_of now.grid) light)))) ≡ true → seed light ≡ true)
+    (turned : (light : ℕ) → light < length (board_of now.grid).lights → change.back ≡ true → change.turned (length (light_at (board_of now.grid) light)) ≡ true → seed light ≡ true)
     (spread : IsSpread (board_of now.grid) settled.letters start.letters seed waiting no_positions)
     (opened : (listed : Cell × Option ℕ) → Contains change.cells listed → is_fill (board_of now.grid) (index_of now.grid listed.0) listed.1 ≡ true → is_open (board_of before.grid) (index_of now.grid listed.0) ≡ true)
     (lights : (light choice : ℕ) → start.words light choice ≡ true → light < length (board_of now.grid).lights)
@@ -371,9 +409,9 @@ module _ (before now : State) (action : Action) (change : Fields) (is : IsChange
     matched = λ light in_board no_seed. by_match light in_board no_seed (same_light before.grid now.grid light) refl;
     entry_kept = λ light cell entered in_board no_seed in_cells had. changed_entry_kept before now action change is start.letters start.queued seed inside edited light cell entered in_board no_seed in_cells had;
     entry_calm = λ light cell in_board calm no_seed in_cells. changed_entry_calm before now action change is start.letters start.queued seed inside edited light cell in_board calm in_cells;
-    entered = λ light in_board is_queued whole. changed_entered before now action change is start.letters start.queued seed inside edited calm seeds light in_board is_queued whole;
-    spelled = λ light in_board no_seed. changed_spelled before now action change is start.letters start.queued seed inside edited calm seeds light in_board no_seed;
-    active = λ light choice in_board no_seed base act. changed_active before now action change is start.letters start.queued seed inside edited calm seeds light choice in_board no_seed base act;
+    entered = λ light in_board is_queued whole. changed_entered before now action change is start.letters start.queued seed inside edited calm seeds turned light in_board is_queued whole;
+    spelled = λ light in_board no_seed. changed_spelled before now action change is start.letters start.queued seed inside edited calm seeds turned light in_board no_seed;
+    active = λ light choice in_board no_seed base act. changed_active before now action change is start.letters start.queued seed inside edited calm seeds turned light choice in_board no_seed base act;
     words_calm = words_calm;
     lights = lights;
     words_on = words_on;

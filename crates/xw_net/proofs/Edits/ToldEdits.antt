@@ -3,7 +3,7 @@ use Rattle.std.proofs.Common.{◌≡◌, ℕ, ◌+◌, ◌*◌, ◌<◌, ◌≤�
 use Rattle.std.specs.Prelude.{Option, Result, Ok, Err, All, position, is_some, vec_len}
 use Rattle.std.specs.Coded.{Coded-set, coded_ℕ, le_prop}
 use Rattle.std.proofs.Math.Logic.{∥∥₁_elim}
-use Rattle.std.proofs.lemmas.Bool.{cases_lt, and_parts, leb-true, false≢true}
+use Rattle.std.proofs.lemmas.Bool.{cases_lt, cases_Bool, and_parts, leb-true, false≢true}
 use Rattle.std.proofs.lemmas.List.{get_or_past, length-map}
 use Rattle.std.proofs.lemmas.Option.{slice_get-get_or, slice_get_past}
 use mathlib.Core.HLevel.{Π_prop}
@@ -94,7 +94,7 @@ dictionary_after before now (least_chosen grade) made is =
 
 pub told_is_change : ToldIsChange
 told_is_change before now action change told is =
-    change_made before now action change told.made told.no_limit told.formed_before
+    change_made before now action change told.made told.turned told.back told.formed_before
     (state_formed now.grid now.words is (dictionary_after before now action told.made told.formed_before.dictionary))
     told.cells told.lights told.word
 
@@ -103,11 +103,14 @@ told_is_change before now action change told is =
 module _ (before now : State) (action : Action) (change : Fields) (is : IsChange before now action change) where
   -- a word that is new is the changed one
   more_words : (len index : ℕ) → index < length (row now.words len) → length (row before.words len) ≤ index → ¬ IsIndexOf change.word len index → ⊥
-  more_words len index there past apart =
-      let first = slice_get-get_or (row now.words len) index no_entry there in
-      let second = slice_get_past (row before.words len) index past in
-      let same = is.entries len index apart in
-      cc
+  more_words len index there past apart = elim (cases_Bool (change.turned len)) [
+    | inl on ↦ absurd (omega (arith, there, past, is.counts len on))
+    | inr still ↦
+        let first = slice_get-get_or (row now.words len) index no_entry there in
+        let second = slice_get_past (row before.words len) index past in
+        let same = is.entries len index still apart in
+        cc
+  ]
 
   -- no word is lost
   as_many : (len : ℕ) → known_counts before.words len ≤ known_counts now.words len

@@ -32,15 +32,15 @@ use Rattle.xw_net.specs.Begin.{may_have, IsStarted, IsPrepared}
 use Rattle.xw_net.specs.Inner.Forget.{lost_from, Forgets}
 use Rattle.xw_net.specs.Gone.{IsFreed}
 use Rattle.xw_net.specs.Opened.{arrays_of, IsTouched, MayGain, IsOpening, IsMoved, IsOpened}
-use Rattle.xw_net.specs.Opened.IsTouched.{by_light, by_cell, by_word}
+use Rattle.xw_net.specs.Opened.IsTouched.{by_light, by_cell, by_word, by_grade}
 use Rattle.xw_net.specs.Opened.MayGain.{if_touched, if_queued, if_freed}
 use Rattle.xw_net.proofs.Edits.SameLights.{same_is_matching, same_is_whole}
 use Rattle.xw_net.proofs.Revivals.CarriedIsReady.{carried_ready}
 use Rattle.xw_net.proofs.Revivals.StartIsRevival.{started_begun, started_carried}
-use Rattle.xw_net.proofs.Edits.ChangedLights.{changed_started, new_within, edited_within, long_within}
+use Rattle.xw_net.proofs.Edits.ChangedLights.{changed_started, new_within, edited_within, long_within, turned_within}
 use Rattle.xw_net.proofs.Edits.FilledCells.{filled_was_open}
 use Rattle.xw_net.proofs.Revivals.OpenedSupports.{opened_held, opened_pending, opened_hits}
-use Rattle.xw_net.proofs.Revivals.OpenedRows.{listed_inside, opened_prepared, new_queued, new_seeds, opened_base, opened_lights, opened_words_on, opened_words_off, opened_words_calm, opened_has_not, opened_freed}
+use Rattle.xw_net.proofs.Revivals.OpenedRows.{listed_inside, opened_prepared, new_queued, new_seeds, turned_seeds, opened_base, opened_lights, opened_words_on, opened_words_off, opened_words_calm, opened_has_not, opened_freed}
 
 module _ (before now : State) (action : Action) (change : Fields) (is : IsChange before now action change) (settled net opened : Net)
     (filled : IsFilled (board_of before.grid) before.words settled) (holding : IsHolding (board_of before.grid) before.words (marks_of settled)) (moved : IsMoved before now settled net)
@@ -70,6 +70,7 @@ module _ (before now : State) (action : Action) (change : Fields) (is : IsChange
       (new_queued before now action change is settled net opened filled moved opening entered_kept inside)
       (new_seeds before now action change is settled net opened filled moved opening entered_kept inside)
       prepared.calm prepared.seeds
+      (turned_seeds before now action change is settled net opened filled moved opening entered_kept inside)
       (subst (λ ls. Rattle.xw_net.specs.Spread.IsSpread (board_of now.grid) (set_has ls) (set_has opened.letters.items) (is_marked opened.chain.marks) (is_waiting opened.chain.lights) Rattle.xw_net.specs.Spread.no_positions) moved.letters opening.spread)
       (λ listed has fill. filled_was_open before now action change is listed has (inside_before listed has) (inside listed has) fill)
       (opened_lights before now action change is settled net opened filled moved opening entered_kept inside)
@@ -137,6 +138,7 @@ module _ (before now : State) (action : Action) (change : Fields) (is : IsChange
   touched_within member region light (by_light at) = new_within before now action change is member region light (omega (arith, at.0, length-lights now.grid)) (sym (ap (λ ls. same_before ls (lights_of now.grid) light) is.lights) ∙ at.1)
   touched_within member region light (by_cell at) = edited_within before now action change is member region at.0 light at.2.0 at.1 at.2.1 at.2.2
   touched_within member region light (by_word at) = long_within before now action change is member region (length (light_at (board_of now.grid) light)) at.0 light at.1 at.2 refl
+  touched_within member region light (by_grade at) = turned_within before now action change is member region light at.0 at.1
 
   -- so is each light that may gain words or letters
   gain_within : (member : List ℕ → Bool) → IsRegion before now action member → (light : ℕ) → MayGain now.grid (board_of now.grid) (lights_of now.grid) change net.letters.items net.queue light → member (light_at (board_of now.grid) light) ≡ true

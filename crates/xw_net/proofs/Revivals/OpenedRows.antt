@@ -1,7 +1,7 @@
 -- Rows and cells at the start of an update.
 use Rattle.std.proofs.Common.{◌≡◌, ℕ, zero, suc, ◌+◌, ◌-◌, ◌*◌, ◌<◌, Bool, true, false, ◌&&◌, ◌||◌, leb, eqb, [], ◌∷◌, ◌++◌, length, get_or, Some, None, refl, sym, ◌∙◌, ap, subst, arith, inl, inr}
 use Rattle.std.specs.Prelude.{Option, Ok, List, Contains, slice_index, slice_get, unwrap_or}
-use Rattle.std.proofs.lemmas.Bool.{cases_Bool, both_ways, and_from, and_cases, or_parts, eq-eqb, leb-false}
+use Rattle.std.proofs.lemmas.Bool.{cases_Bool, both_ways, and_from, and_cases, or_parts, eq-eqb, leb-false, false_from_ne_true}
 use Rattle.std.proofs.lemmas.List.{get_or_append_left, get_or_default, get_or_push, length-map}
 use Rattle.std.proofs.lemmas.Option.{slice_get-get_or, unwrap_or-slice_get}
 use Rattle.xw_words.specs.Dictionary.{Entry, row, entry_at, no_entry}
@@ -28,6 +28,7 @@ use Rattle.xw_net.specs.Worklist.{is_marked}
 use Rattle.xw_net.specs.Brought.{IsBase}
 use Rattle.xw_net.specs.Begin.{IsNarrowedRow, is_long, may_have, AreBaseBut, IsPrepared}
 use Rattle.xw_net.specs.Opened.{arrays_of, IsOpening, IsMoved}
+use Rattle.xw_net.proofs.Edits.ChangeFacts.{word_turns_none}
 use Rattle.xw_net.proofs.Edits.ExactFamilies.{exact_base}
 use Rattle.xw_net.proofs.Edits.SameLights.{same_is_matching, same_is_whole}
 use Rattle.xw_net.proofs.Edits.KeptBaseWords.{HaveSameEntries, entered_same}
@@ -97,6 +98,12 @@ module _ (before now : State) (action : Action) (change : Fields) (is : IsChange
   pub new_seeds : (light : ℕ) → light < length (board_of now.grid).lights → same_light before.grid now.grid light ≡ None → seed light ≡ true
   new_seeds light in_board at = opening.new_marked light (omega (arith, in_board, length-lights now.grid), is_new light at)
 
+  pub turned_queued : (light : ℕ) → light < length (board_of now.grid).lights → change.turned (length (light_at (board_of now.grid) light)) ≡ true → queued light ≡ true
+  turned_queued light in_board on = opening.turned_queued light (in_board, on)
+
+  pub turned_seeds : (light : ℕ) → light < length (board_of now.grid).lights → change.back ≡ true → change.turned (length (light_at (board_of now.grid) light)) ≡ true → seed light ≡ true
+  turned_seeds light in_board back on = opening.turned_marked light (back, (in_board, on))
+
   -- ---- base rows
 
   -- an edit of a word keeps the grid, and the base words of each light except perhaps that word
@@ -105,7 +112,8 @@ module _ (before now : State) (action : Action) (change : Fields) (is : IsChange
       let grid = word_keeps_grid before now action (length (light_at (board_of now.grid) light), index) is.made (sym is.word ∙ some) in
       let in_before : light < length (board_of before.grid).lights = subst (λ g. light < length (board_of g).lights) grid in_board in
       let at = same_is_whole before.grid now.grid is.width light light in_board in_before (ap (λ g. light_at (board_of g) light) grid) in
-      let kept = is.entries (length (light_at (board_of now.grid) light)) k (λ found. let there = subst (λ w. IsIndexOf w (length (light_at (board_of now.grid) light)) k) some found in apart (sym there.1)) in
+      let still = is.turned (length (light_at (board_of now.grid) light)) ∙ word_turns_none before.words action (length (light_at (board_of now.grid) light), index) (sym is.word ∙ some) (length (light_at (board_of now.grid) light)) in
+      let kept = is.entries (length (light_at (board_of now.grid) light)) k still (λ found. let there = subst (λ w. IsIndexOf w (length (light_at (board_of now.grid) light)) k) some found in apart (sym there.1)) in
       moved.base_at light light k in_board at
       ∙ ap (λ bits. get_or bits k false) (filled.is_base light in_before)
       ∙ sym (base_bit (board_of before.grid) (light_at (board_of before.grid) light) (row before.words (length (light_at (board_of before.grid) light))) k)
@@ -117,12 +125,17 @@ module _ (before now : State) (action : Action) (change : Fields) (is : IsChange
 
   short_known : (light other : ℕ) → light < length (board_of now.grid).lights → same_light before.grid now.grid light ≡ Some other → is_long change.word (length (light_at (board_of now.grid) light)) ≡ false → known (board_of now.grid) now.words light ≡ known (board_of before.grid) before.words other
   short_known light other in_board at short =
-      ap length (changed_words_same before now action change is (set_has opened.letters.items) queued seed listed_inside opening.edited light short)
-      ∙ ap (λ cs. length (row before.words (length cs))) (matching.cells light other in_board at)
+      many
+      ∙ ap (λ cs. length (row before.words (length cs))) (matching.cells light other in_board at) where
+        many : length (row now.words (length (light_at (board_of now.grid) light))) ≡ length (row before.words (length (light_at (board_of now.grid) light)))
+        many = elim (cases_Bool (change.turned (length (light_at (board_of now.grid) light)))) [
+          | inl on ↦ is.counts (length (light_at (board_of now.grid) light)) on
+          | inr still ↦ ap length (changed_words_same before now action change is (set_has opened.letters.items) queued seed listed_inside opening.edited light still short)
+        ]
 
   pub opened_base : IsBase (board_of now.grid) now.words opened.base.items
   opened_base =
-      changed_base before now action change is (set_has opened.letters.items) queued seed listed_inside opening.edited new_queued settled.base.items net.base.items opened.base.items
+      changed_base before now action change is (set_has opened.letters.items) queued seed listed_inside opening.edited new_queued settled.base.items net.base.items opened.base.items turned_queued
       filled.is_base (λ light other in_board at short. moved.base light other in_board at (short_known light other in_board at short)) opened_prepared.base_on opened_prepared.base_off
 
   -- ---- words
@@ -151,7 +164,7 @@ module _ (before now : State) (action : Action) (change : Fields) (is : IsChange
   kept_known : (light other : ℕ) → light < length (board_of now.grid).lights → seed light ≡ false → same_light before.grid now.grid light ≡ Some other → known (board_of now.grid) now.words light ≡ known (board_of before.grid) before.words other
   kept_known light other in_board no_seed at =
       sym (length-map (row now.words (length (light_at (board_of now.grid) light))) (λ (word : Entry). word.word))
-      ∙ ap length (changed_spelled before now action change is (set_has opened.letters.items) queued seed listed_inside opening.edited opened_prepared.calm opened_prepared.seeds light in_board no_seed)
+      ∙ ap length (changed_spelled before now action change is (set_has opened.letters.items) queued seed listed_inside opening.edited opened_prepared.calm opened_prepared.seeds turned_seeds light in_board no_seed)
       ∙ length-map (row before.words (length (light_at (board_of now.grid) light))) (λ (word : Entry). word.word)
       ∙ ap (λ cs. length (row before.words (length cs))) (matching.cells light other in_board at)
 
@@ -163,7 +176,7 @@ module _ (before now : State) (action : Action) (change : Fields) (is : IsChange
 
   -- the changed word is not a base word of a light that is not a seed
   pub opened_has_not : (light : ℕ) → light < length (board_of now.grid).lights → seed light ≡ false → may_have change.word (length (light_at (board_of now.grid) light)) (base_bits (board_of now.grid) (light_at (board_of now.grid) light) (row now.words (length (light_at (board_of now.grid) light)))) ≡ false
-  opened_has_not = changed_has_not before now action change is (set_has opened.letters.items) queued seed listed_inside opening.edited opened_prepared.calm opened_prepared.seeds
+  opened_has_not = changed_has_not before now action change is (set_has opened.letters.items) queued seed listed_inside opening.edited opened_prepared.calm opened_prepared.seeds turned_seeds
 
   -- at a light that is not queued, the changed word was not in the net, and each word that was is
   -- still a base word
@@ -208,7 +221,7 @@ module _ (before now : State) (action : Action) (change : Fields) (is : IsChange
         same_bit : get_or (base_bits (board_of before.grid) (light_at (board_of now.grid) light) (row now.words (length (light_at (board_of now.grid) light)))) choice false ≡ get_or (base_bits (board_of before.grid) (light_at (board_of now.grid) light) (row before.words (length (light_at (board_of now.grid) light)))) choice false
         same_bit =
             sym (base_bit (board_of before.grid) (light_at (board_of now.grid) light) (row now.words (length (light_at (board_of now.grid) light))) choice)
-            ∙ ap (is_base_word (board_of before.grid) (light_at (board_of now.grid) light)) (same_entry (row now.words (length (light_at (board_of now.grid) light))) (row before.words (length (light_at (board_of now.grid) light))) choice (is.entries (length (light_at (board_of now.grid) light)) choice (not_there change.word refl)))
+            ∙ ap (is_base_word (board_of before.grid) (light_at (board_of now.grid) light)) (same_entry (row now.words (length (light_at (board_of now.grid) light))) (row before.words (length (light_at (board_of now.grid) light))) choice (is.entries (length (light_at (board_of now.grid) light)) choice (false_from_ne_true _ (λ on. both_ways _ calm (turned_queued light in_board on))) (not_there change.word refl)))
             ∙ base_bit (board_of before.grid) (light_at (board_of now.grid) light) (row before.words (length (light_at (board_of now.grid) light))) choice
 
   -- the entered word was in the net only if the light is filled

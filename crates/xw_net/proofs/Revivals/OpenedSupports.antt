@@ -125,9 +125,12 @@ module _ (before now : State) (action : Action) (change : Fields) (is : IsChange
       → held < length (row before.words (length (light_at (board_of now.grid) light)))
   was_known light held below apart = by_word change.word refl where
     stood : (k : ℕ) → k < known (board_of now.grid) now.words light → ¬ IsIndexOf change.word (length (light_at (board_of now.grid) light)) k → k < length (row before.words (length (light_at (board_of now.grid) light)))
-    stood k lt off =
-        slice_get_within (row before.words (length (light_at (board_of now.grid) light))) k (get_or (row now.words (length (light_at (board_of now.grid) light))) k no_entry)
-        (sym (is.entries (length (light_at (board_of now.grid) light)) k off) ∙ slice_get-get_or (row now.words (length (light_at (board_of now.grid) light))) k no_entry lt)
+    stood k lt off = elim (cases_Bool (change.turned (length (light_at (board_of now.grid) light)))) [
+      | inl on ↦ omega (arith, lt, is.counts (length (light_at (board_of now.grid) light)) on)
+      | inr still ↦
+          slice_get_within (row before.words (length (light_at (board_of now.grid) light))) k (get_or (row now.words (length (light_at (board_of now.grid) light))) k no_entry)
+          (sym (is.entries (length (light_at (board_of now.grid) light)) k still off) ∙ slice_get-get_or (row now.words (length (light_at (board_of now.grid) light))) k no_entry lt)
+    ]
 
     by_word : (word : Option (ℕ × ℕ)) → change.word ≡ word → held < length (row before.words (length (light_at (board_of now.grid) light)))
     by_word None none = stood held below (λ found. subst (λ w. IsIndexOf w (length (light_at (board_of now.grid) light)) held) none found)

@@ -18,3 +18,9 @@ returns-in-Word g c board lights is light within long =
     subst (λ change. lost_at (fields_of lights change) board lights entries light ≡ nowhere) (sym c.in-Word.is)
     (lost_same lights light (omega (arith, within, long)) (Some (c.in-Word.len, c.in-Word.index)) size (length (entries size))
     ∙ lost_none (λ n. length (entries n)) c.in-Word.len c.in-Word.index size (sym c.is_last.ensures ∙ not_true c.is_last.result is))
+
+pub returns-in-Words : goal.returns-in-Words
+returns-in-Words g c board lights is light within long =
+    let size = length (light_at board light) in
+    subst (λ change. lost_at (fields_of lights change) board lights (g.R.Rows.entries c.args.rows.now) light ≡ nowhere) (sym c.in-Words.is)
+    (lost_same lights light (omega (arith, within, long)) None size (length (g.R.Rows.entries c.args.rows.now size)))

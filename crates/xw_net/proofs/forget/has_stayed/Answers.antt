@@ -12,3 +12,7 @@ returns-in-Letters c =
 pub returns-in-Word : goal.returns-in-Word
 returns-in-Word c =
     subst (λ change. true ≡ is_some (same_before (before_of c.args.lights.now change) c.args.lights.now c.args.light)) (sym c.in-Word.is) (some_old c.args.lights.now c.args.lights.now refl c.args.light c.requires)
+
+pub returns-in-Words : goal.returns-in-Words
+returns-in-Words c =
+    subst (λ change. true ≡ is_some (same_before (before_of c.args.lights.now change) c.args.lights.now c.args.light)) (sym c.in-Words.is) (some_old c.args.lights.now c.args.lights.now refl c.args.light c.requires)

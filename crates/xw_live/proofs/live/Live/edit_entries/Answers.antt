@@ -48,7 +48,7 @@ invariant_of-self-2 c =
     let is = entries_of_grid before c.args.edit.now in
     let made : after before action ≡ Ok now = grid_made before action grid is c.in_ok-edit_entries.ensures.ok in
     let formed : IsWellFormed now = state_formed grid old.bank.words c.well_formed-2.ensures old.kept.formed.dictionary in
-    let kept : IsKept now c.settle-self.new.net = c.settle-self.ensures.kept before action (change_made before now action _ made is.no_limit old.kept.formed formed (c.as_slice.ensures ∙ c.of_entries-written.ensures) old.light_list is.no_word) old.kept.settled in
+    let kept : IsKept now c.settle-self.new.net = c.settle-self.ensures.kept before action (change_made before now action _ made is.none_turned is.none_back old.kept.formed formed (c.as_slice.ensures ∙ c.of_entries-written.ensures) old.light_list is.no_word) old.kept.settled in
     record {
       light_list = old.light_list ∙ sym c.edit_entries.ensures.shape.lights;
       kept = kept;
@@ -73,6 +73,6 @@ returns-clause-done c =
     record {
       made = made;
       letters = c.keep_letters.ensures;
-      cost = c.settle-self.ensures.cost before action (change_made before now action _ made is.no_limit old.kept.formed formed (c.as_slice.ensures ∙ c.of_entries-written.ensures) old.light_list is.no_word) old.kept.settled;
+      cost = c.settle-self.ensures.cost before action (change_made before now action _ made is.none_turned is.none_back old.kept.formed formed (c.as_slice.ensures ∙ c.of_entries-written.ensures) old.light_list is.no_word) old.kept.settled;
       risen = c.settle-self.ensures.risen;
     }

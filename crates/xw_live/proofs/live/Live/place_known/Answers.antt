@@ -51,7 +51,7 @@ invariant_of-self c =
     let is = known_of_grid before c.args.light c.args.index in
     let made : after before action ≡ Ok now = grid_made before action grid is c.place_known.ensures.placed in
     let formed : IsWellFormed now = state_formed grid old.bank.words c.well_formed-2.ensures old.kept.formed.dictionary in
-    let kept : IsKept now c.settle-self.new.net = c.settle-self.ensures.kept before action (change_made before now action _ made is.no_limit old.kept.formed formed (c.as_slice.ensures ∙ c.of_index-written.ensures ∙ light_written before.grid c.args.light word c.requires.light) old.light_list is.no_word) old.kept.settled in
+    let kept : IsKept now c.settle-self.new.net = c.settle-self.ensures.kept before action (change_made before now action _ made is.none_turned is.none_back old.kept.formed formed (c.as_slice.ensures ∙ c.of_index-written.ensures ∙ light_written before.grid c.args.light word c.requires.light) old.light_list is.no_word) old.kept.settled in
     record {
       light_list = old.light_list ∙ sym c.place_known.ensures.shape.lights;
       kept = kept;
@@ -77,6 +77,6 @@ returns c =
     record {
       made = made;
       letters = c.keep_letters.ensures;
-      cost = c.settle-self.ensures.cost before action (change_made before now action _ made is.no_limit old.kept.formed formed (c.as_slice.ensures ∙ c.of_index-written.ensures ∙ light_written before.grid c.args.light word c.requires.light) old.light_list is.no_word) old.kept.settled;
+      cost = c.settle-self.ensures.cost before action (change_made before now action _ made is.none_turned is.none_back old.kept.formed formed (c.as_slice.ensures ∙ c.of_index-written.ensures ∙ light_written before.grid c.args.light word c.requires.light) old.light_list is.no_word) old.kept.settled;
       risen = c.settle-self.ensures.risen;
     }

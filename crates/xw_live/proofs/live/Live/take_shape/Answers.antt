@@ -62,7 +62,7 @@ invariant_of-self-2 c =
     let made : after before action ≡ Ok now = grid_made before action c.args.grid is c.requires in
     let formed : IsWellFormed now = state_formed c.args.grid old.bank.words c.well_formed-2.ensures old.kept.formed.dictionary in
     let ready = settled_alike before old.net c.reserve.new.self c.reserve.ensures.same old.kept.settled in
-    let kept : IsKept now c.settle-self.new.net = c.settle-self.ensures.kept before action (change_made before now action _ made is.no_limit old.kept.formed formed (c.as_slice.ensures ∙ c.of_shape-written.ensures) old.light_list is.no_word) ready in
+    let kept : IsKept now c.settle-self.new.net = c.settle-self.ensures.kept before action (change_made before now action _ made is.none_turned is.none_back old.kept.formed formed (c.as_slice.ensures ∙ c.of_shape-written.ensures) old.light_list is.no_word) ready in
     let size = size_kept before.grid c.args.grid action old.kept.formed.grid c.requires in
     record {
       light_list = c.in_ok-lights.ensures.ok;
@@ -88,6 +88,6 @@ returns-clause-done c =
     record {
       made = made;
       letters = c.keep_letters.ensures ∙ c.reserve.ensures.same.sets;
-      cost = c.settle-self.ensures.cost before action (change_made before now action _ made is.no_limit old.kept.formed formed (c.as_slice.ensures ∙ c.of_shape-written.ensures) old.light_list is.no_word) ready;
+      cost = c.settle-self.ensures.cost before action (change_made before now action _ made is.none_turned is.none_back old.kept.formed formed (c.as_slice.ensures ∙ c.of_shape-written.ensures) old.light_list is.no_word) ready;
       risen = c.settle-self.ensures.risen;
     }

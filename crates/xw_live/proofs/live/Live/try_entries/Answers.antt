@@ -56,7 +56,7 @@ invariant_of-self-in_default c =
     let is = entries_of_grid before c.args.edit.now in
     let made : after before action ≡ Ok now = grid_made before action grid is c.in_ok-edit_entries.ensures.ok in
     let formed : IsWellFormed now = state_formed grid old.bank.words c.well_formed-2.ensures old.kept.formed.dictionary in
-    let kept : IsKept now c.try_settle-dead.new.net = none_gives c.try_settle-dead.result.0 c.in_default.is c.try_settle-dead.ensures.kept before action (change_made before now action _ made is.no_limit old.kept.formed formed (c.as_slice.ensures ∙ c.of_entries-written.ensures) old.light_list is.no_word) old.kept.settled in
+    let kept : IsKept now c.try_settle-dead.new.net = none_gives c.try_settle-dead.result.0 c.in_default.is c.try_settle-dead.ensures.kept before action (change_made before now action _ made is.none_turned is.none_back old.kept.formed formed (c.as_slice.ensures ∙ c.of_entries-written.ensures) old.light_list is.no_word) old.kept.settled in
     record {
       light_list = old.light_list ∙ sym c.edit_entries.ensures.shape.lights;
       kept = kept;
@@ -79,7 +79,7 @@ copy_from-requires-clause-before c =
     let made : after before action ≡ Ok now = grid_made before action grid is c.in_ok-edit_entries.ensures.ok in
     let formed : IsWellFormed now = state_formed grid old.bank.words c.well_formed-2.ensures old.kept.formed.dictionary in
     let stopped : ∥ IsStoppedAt (board_of c.edit_entries.new.grid) c.args.self.now.bank.words c.try_settle-dead.new.net c.in-Some.light ∥₁ =
-    some_gives _ c.try_settle-dead.result.0 c.in-Some.light c.in-Some.is c.try_settle-dead.ensures.stopped before action (change_made before now action _ made is.no_limit old.kept.formed formed (c.as_slice.ensures ∙ c.of_entries-written.ensures) old.light_list is.no_word) old.kept.settled in
+    some_gives _ c.try_settle-dead.result.0 c.in-Some.light c.in-Some.is c.try_settle-dead.ensures.stopped before action (change_made before now action _ made is.none_turned is.none_back old.kept.formed formed (c.as_slice.ensures ∙ c.of_entries-written.ensures) old.light_list is.no_word) old.kept.settled in
     stopped_base c.edit_entries.new.grid c.args.self.now.bank.words c.try_settle-dead.new.net c.in-Some.light stopped
 
 pub copy_from-requires-clause-can : goal.copy_from-requires-clause-can
@@ -93,7 +93,7 @@ copy_from-requires-clause-can c =
     let made : after before action ≡ Ok now = grid_made before action grid is c.in_ok-edit_entries.ensures.ok in
     let formed : IsWellFormed now = state_formed grid old.bank.words c.well_formed-2.ensures old.kept.formed.dictionary in
     let stopped : ∥ IsStoppedAt (board_of c.edit_entries.new.grid) c.args.self.now.bank.words c.try_settle-dead.new.net c.in-Some.light ∥₁ =
-    some_gives _ c.try_settle-dead.result.0 c.in-Some.light c.in-Some.is c.try_settle-dead.ensures.stopped before action (change_made before now action _ made is.no_limit old.kept.formed formed (c.as_slice.ensures ∙ c.of_entries-written.ensures) old.light_list is.no_word) old.kept.settled in
+    some_gives _ c.try_settle-dead.result.0 c.in-Some.light c.in-Some.is c.try_settle-dead.ensures.stopped before action (change_made before now action _ made is.none_turned is.none_back old.kept.formed formed (c.as_slice.ensures ∙ c.of_entries-written.ensures) old.light_list is.no_word) old.kept.settled in
     let mark = c.args.mark.now in
     let marked = c.requires in
     let saved : State = record { grid = c.args.mark.now.grid; words = c.args.mark.now.bank.value.words } in
@@ -138,7 +138,7 @@ returns-clause-tried c =
     let made : after before action ≡ Ok now = grid_made before action grid is c.in_ok-edit_entries.ensures.ok in
     let formed : IsWellFormed now = state_formed grid old.bank.words c.well_formed-2.ensures old.kept.formed.dictionary in
     let stopped : ∥ IsStoppedAt (board_of c.edit_entries.new.grid) c.args.self.now.bank.words c.try_settle-dead.new.net c.in-Some.light ∥₁ =
-    some_gives _ c.try_settle-dead.result.0 c.in-Some.light c.in-Some.is c.try_settle-dead.ensures.stopped before action (change_made before now action _ made is.no_limit old.kept.formed formed (c.as_slice.ensures ∙ c.of_entries-written.ensures) old.light_list is.no_word) old.kept.settled in (
+    some_gives _ c.try_settle-dead.result.0 c.in-Some.light c.in-Some.is c.try_settle-dead.ensures.stopped before action (change_made before now action _ made is.none_turned is.none_back old.kept.formed formed (c.as_slice.ensures ∙ c.of_entries-written.ensures) old.light_list is.no_word) old.kept.settled in (
       ap (λ (grid : Grid). state_with grid c.args.self.now.bank.words) (c.copy_from-2.ensures ∙ ap (λ (s : State). s.grid) c.requires),
       record {
         is_watched = some_gives _ c.try_settle-dead.result.0 c.in-Some.light c.in-Some.is c.try_settle-dead.ensures.watched;

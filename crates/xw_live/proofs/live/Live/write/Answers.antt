@@ -55,7 +55,7 @@ invariant_of-self-2 c =
     let long = c.note.ensures.len ∙ ap length c.as_mut_slice.ensures.value in
     let listed = kept_listed old.grid grid c.args.list.now old.noted c.note.new.noted _ _ _ _ c.in_ok-write.ensures.ok long c.keep_changed-count.ensures.len c.note.ensures.noted c.as_mut_slice-2.ensures.value c.keep_changed-count.ensures.kept c.deref.ensures.value in
     let formed : IsWellFormed now = state_formed grid old.bank.words c.well_formed-2.ensures old.kept.formed.dictionary in
-    let kept : IsKept now c.settle-self.new.net = c.settle-self.ensures.kept before action (change_made before now action _ made refl old.kept.formed formed listed old.light_list refl) old.kept.settled in
+    let kept : IsKept now c.settle-self.new.net = c.settle-self.ensures.kept before action (change_made before now action _ made (λ len. refl) refl old.kept.formed formed listed old.light_list refl) old.kept.settled in
     record {
       light_list = old.light_list ∙ sym c.write.ensures.shape.lights;
       kept = kept;
@@ -77,6 +77,6 @@ returns-clause-done c =
     record {
       made = made;
       letters = c.keep_letters.ensures;
-      cost = c.settle-self.ensures.cost before action (change_made before now action _ made refl old.kept.formed formed listed old.light_list refl) old.kept.settled;
+      cost = c.settle-self.ensures.cost before action (change_made before now action _ made (λ len. refl) refl old.kept.formed formed listed old.light_list refl) old.kept.settled;
       risen = c.settle-self.ensures.risen;
     }

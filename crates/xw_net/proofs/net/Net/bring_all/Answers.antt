@@ -1,7 +1,6 @@
-use Rattle.std.proofs.Common.{◌≡◌, ◌≤◌, ℕ, true, false, List, length, None, Some, refl, sym, ap, subst, ◌∙◌, arith, rules}
+use Rattle.std.proofs.Common.{◌≡◌, ◌≤◌, ℕ, true, false, List, length, None, Some, sym, ap, subst, ◌∙◌, arith, rules}
 use Rattle.std.proofs.lemmas.Bool.{or_left}
 use Rattle.std.proofs.lemmas.List.{with_items_is}
-use Rattle.std.specs.Prelude.{vec_items}
 use Rattle.std.specs.Vec.{with_items}
 use Rattle.xw_bits.specs.Bits.{RowOfBits}
 use Rattle.xw_words.specs.Dictionary.{Entry, row}
@@ -15,7 +14,6 @@ use Rattle.xw_net.specs.Worklist.{is_marked}
 use Rattle.xw_net.specs.Brought.{HasBase, IsBase}
 use Rattle.xw_net.specs.Room.{row_at}
 use Rattle.xw_net.specs.Nets.{IsQueue, marks_of, word_stands, letter_stands, held_in, restart_in, pending_in, queued_in}
-use Rattle.xw_net.specs.Refill.{all_lights}
 use Rattle.xw_net.specs.declared.net.Net.{Net}
 use Rattle.xw_net.proofs.Stripping.LeftByStripping.{base_read}
 use Rattle.xw_net.proofs.Nets.RowRoom.{known_few}
@@ -39,24 +37,6 @@ pub returns-clause-queue : goal.returns-clause-queue
 unfolding queued_in
 returns-clause-queue g c =
     subst (λ (net : Net). IsQueue net) (sym c.unmark.ensures.rest) (c.bring_back.ensures.queue (quiet_queue c.args.self.now c.requires.fresh.quiet))
-
-pub returns-clause-room : goal.returns-clause-room
-returns-clause-room g c =
-    let base_is = with_items_is c.args.self.now.base c.read_marked.new.base (omega (arith, c.read_marked.auto.base, c.deref_mut-2.ensures.len)) in
-    record {
-      rows = λ light. omega (arith, c.bring_back.ensures.row_room light, ap (λ (net : Net). (row_at net.rows.items light).room) c.unmark.ensures.rest);
-      base = λ light. omega (
-        arith,
-        c.read_marked.ensures.row_room light,
-        ap (λ (rows : List RowOfBits). (row_at rows light).room) c.deref_mut-2.ensures.value,
-        ap (λ (rows : List RowOfBits). (row_at rows light).room) base_is,
-        ap (λ v. (row_at (vec_items v) light).room) c.bring_back.ensures.base,
-        ap (λ (net : Net). (row_at net.base.items light).room) c.unmark.ensures.rest,
-      );
-    }
-
-pub returns-clause-cost : goal.returns-clause-cost
-returns-clause-cost g c = c.read_marked.ensures.cost all_lights (λ light lt read. refl)
 
 pub returns-clause-unstripped : goal.returns-clause-unstripped
 unfolding word_stands letter_stands held_in restart_in pending_in queued_in

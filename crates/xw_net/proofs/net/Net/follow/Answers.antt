@@ -21,3 +21,8 @@ pub returns-in-Word : goal.returns-in-Word
 returns-in-Word g c =
     follows_kept (before_of c.args.lights.now c.args.change.now) c.args.lights.now (counts_of (g.R.Rows.entries c.args.words.now)) c.args.self.now
     (subst (λ (change : Change). c.args.lights.now ≡ before_of c.args.lights.now change) (sym c.in-Word.is) refl) c.requires.lights c.requires.rest c.requires.rows c.requires.base c.requires.room
+
+pub returns-in-Words : goal.returns-in-Words
+returns-in-Words g c =
+    follows_kept (before_of c.args.lights.now c.args.change.now) c.args.lights.now (counts_of (g.R.Rows.entries c.args.words.now)) c.args.self.now
+    (subst (λ (change : Change). c.args.lights.now ≡ before_of c.args.lights.now change) (sym c.in-Words.is) refl) c.requires.lights c.requires.rest c.requires.rows c.requires.base c.requires.room

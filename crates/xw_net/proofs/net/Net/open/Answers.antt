@@ -40,6 +40,8 @@ returns-clause-opening g c =
       seeds = seeds_grow self.chain p.new.chain chain c.requires.seeds;
       new_queued = λ light is. p.ensures.queue.more light (t.ensures.new_queued light is);
       new_marked = λ light is. p.ensures.chain.more light (t.ensures.new_marked light is);
+      turned_queued = λ light is. p.ensures.queue.more light (t.ensures.turned_queued light is);
+      turned_marked = λ light is. p.ensures.chain.more light (t.ensures.turned_marked light is);
       edited = λ listed has. let edited = t.ensures.edited listed has in record {
         may = edited.may;
         queued = λ light position here at. p.ensures.queue.more light (edited.queued light position here at);
