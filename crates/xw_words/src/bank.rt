@@ -1,7 +1,8 @@
 //! The dictionary: all known words, grouped by length.
 ghost use Rattle.std.specs.Prelude.{◌≡◌, ◌≢◌, ℕ, ◌+◌, ◌*◌, ◌<◌, ◌≤◌, Bool, true, false, [], map, replicate, length, slice_index_or, Ok, Err, None, All, IsOk, IfErr, IfOk, IfSome, IfNone, OnOk, OnErr, IsOkUnless, position, vec_len};
 ghost use Rattle.xw_letters.specs.Letter.{folded, IsLetter};
-ghost use Rattle.xw_words.specs.Dictionary.{row as words_of, entry_at, index_of_word, add_answer, answer_on, add_to, after_add, strike_answer, after_strike, IsNew, IsDictionary, matching_answer, reserve_answer, most_words, best_grade, no_words, with_least};
+ghost use Rattle.xw_words.specs.Dictionary.{row as words_of, entry_at, index_of_word, add_answer, answer_on, add_to, after_add, strike_answer, after_strike, IsNew, IsDictionary, capped, is_turned, matching_answer, reserve_answer, most_words, best_grade, no_words, with_least};
+ghost use Rattle.std.specs.List.{list_any};
 ghost use Rattle.xw_words.specs.Bank.{has_room, limited_row, IsKept, KeepsRoom, KeepsOtherRoom};
 ghost use Rattle.xw_words.specs.Word.{is_bad_letter, judged};
 ghost use Rattle.xw_bits.specs.Bits.{has_bit};
@@ -108,6 +109,16 @@ impl Bank {
     {
         self.least = least.min(BEST_GRADE);
         limit_rows(&mut self.rows, self.least);
+    }
+
+    /// Whether `set_least` of this grade would make a known word of length `len` active, or leave out one that is.
+    pub fn turns(&self, len: usize, least: u8) -> bool
+        ensures { result ≡ list_any (is_turned (capped least)) (words_of self.now.words len) }
+    {
+        match self.rows.get(len) {
+            Some(row) => row.table().turns(least.min(BEST_GRADE)),
+            None => false,
+        }
     }
 
     /// Whether word `index` of length `len` was struck; false if there is no such word.

@@ -2,7 +2,8 @@
 ghost use Rattle.xw_bits.specs.Bits.{has_bit};
 ghost use Rattle.xw_words.specs.Columns.{is_active};
 ghost use Rattle.std.specs.Prelude.{◌≡◌, ℕ, ◌+◌, ◌*◌, ◌<◌, ◌≤◌, Bool, true, false, None, All, [], ◌∷◌, ◌++◌, length, slice_index_or, slice_set, take, map, position, OnOk, OnErr, IfOk, IfErr, ◌≢◌, nat_lt, vec_len, vec_capacity};
-ghost use Rattle.xw_words.specs.Dictionary.{entry_at, index_in, add_to, added_at, with_added, strike_from, IsNew, most_words, all_limited, grade_left, new_entry, returned, with_struck};
+ghost use Rattle.xw_words.specs.Dictionary.{entry_at, index_in, add_to, added_at, with_added, strike_from, IsNew, most_words, all_limited, grade_left, is_left as is_left_in, is_turned as is_turned_in, new_entry, returned, with_struck};
+ghost use Rattle.std.specs.List.{list_any};
 ghost use Rattle.xw_words.specs.Row.{no_marks, are_left, entry_of};
 ghost use Rattle.xw_words.specs.Index.{word_in};
 ghost use Rattle.xw_letters.specs.Letter.{folded};
@@ -315,6 +316,57 @@ impl Table {
         ensures reserved { self.new.reserved ≡ self.old.reserved }
     {
         limit_flags(&mut self.active, self.marks.as_slice(), least);
+    }
+
+    /// A bit for each word of a chunk of 64 words: whether it is not struck and not below a grade. The
+    /// first word is the lowest bit.
+    fn left_chunk(&self, chunk: usize, least: u8) -> u64
+        requires { 64 * chunk < length self.now.entries }
+        ensures { (k : ℕ) → k < 64 → 64 * chunk + k < length self.now.entries → has_bit result k ≡ is_left_in least (entry_at self.now.entries (64 * chunk + k)) }
+    {
+        let known = self.len();
+        let first = 64 * chunk;
+        left_bits(&self.marks[first..known.min(first + 64)], least)
+    }
+
+    /// Whether word `index` is active but would be left out at this least grade, or the other way round.
+    fn is_turned(&self, index: usize, least: u8) -> bool
+        requires { index < length self.now.entries }
+        ensures { result ≡ is_turned_in least (entry_at self.now.entries index) }
+    {
+        let left = is_left(self.marks(index), least);
+        if self.is_active(index) { !left } else { left }
+    }
+
+    /// Whether one of a chunk of 64 words is active but would be left out at this least grade, or the other way round. It
+    /// looks at single words only if there is one.
+    fn turns_chunk(&self, chunk: usize, least: u8) -> bool
+        requires { 64 * chunk < length self.now.entries }
+        ensures yes { result ≡ true → list_any (is_turned_in least) self.now.entries ≡ true }
+        ensures no { result ≡ false → (k : ℕ) → 64 * chunk ≤ k → k < 64 * chunk + 64 → k < length self.now.entries → is_turned_in least (entry_at self.now.entries k) ≡ false }
+    {
+        if self.left_chunk(chunk, least) == self.active_chunk(chunk) {
+            return false;
+        }
+        let known = self.len();
+        for index in 64 * chunk..known.min(64 * chunk + 64) {
+            if self.is_turned(index, least) {
+                return true;
+            }
+        }
+        false
+    }
+
+    /// Whether a word is active but would be left out at this least grade, or the other way round.
+    pub fn turns(&self, least: u8) -> bool
+        ensures { result ≡ list_any (is_turned_in least) self.now.entries }
+    {
+        for chunk in 0..self.len().div_ceil(64) {
+            if self.turns_chunk(chunk, least) {
+                return true;
+            }
+        }
+        false
     }
 
     /// The index of a word, active or not.

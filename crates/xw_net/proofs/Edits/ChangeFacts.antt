@@ -9,7 +9,7 @@ use Rattle.xw_words.specs.declared.fault.WordFault.{WordFault}
 use Rattle.xw_words.specs.declared.bank.Added.{Added}
 use Rattle.xw_words.specs.declared.bank.Added.TheVariants.{New, Returned}
 use Rattle.xw_letters.specs.Letter.{folded}
-use Rattle.xw_words.specs.Dictionary.{Entry, Dictionary, IsDictionary, row, with_row, entry_at, no_entry, new_entry, returned, struck, add_answer, after_add, strike_answer, after_strike, capped, is_left, limited, all_limited, with_least}
+use Rattle.xw_words.specs.Dictionary.{Entry, Dictionary, IsDictionary, row, with_row, entry_at, no_entry, new_entry, returned, struck, add_answer, after_add, strike_answer, after_strike, capped, is_left, limited, all_limited, with_least, is_turned}
 use Rattle.xw_words.proofs.DictionaryLemmas.{word-set}
 use Rattle.xw_grid.specs.declared.cell.Cell.{Cell}
 use Rattle.xw_grid.specs.Grid.{Grid, IsGrid, index_of}
@@ -18,7 +18,7 @@ use Rattle.xw_feas.specs.State.{State, Action, after, grid_after, letter_set, ce
 use Rattle.xw_feas.specs.WellFormed.{IsWellFormed}
 use Rattle.xw_feas.proofs.AdditionLemmas.{new_word}
 use Rattle.xw_net.specs.Change.{Fields, IsChange, IsIndexOf, with_entry_of, entries_written, indices_listed, index_added, index_struck, word_changed, brings_back}
-use Rattle.xw_net.specs.Region.{cells_written, edited_cells, is_turned, turns_words}
+use Rattle.xw_net.specs.Region.{cells_written, edited_cells, turns_words}
 use Rattle.xw_net.proofs.Edits.KeptByEdits.{IsWrittenAt, grid_of_after, written_after, with_grid-Ok, with_words-Ok}
 
 -- ---- the listed cells
