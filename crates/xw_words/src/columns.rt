@@ -1,7 +1,8 @@
 //! The columns of the words of one length. There is one row of bits for each position and letter;
 //! bit `i` says whether word `i` has that letter at that position.
-ghost use Rattle.std.specs.Prelude.{◌≡◌, ℕ, ◌+◌, ◌*◌, ◌/◌, ◌%◌, ◌<◌, ◌≤◌, false, [], length, slice_index_or, vec_len, OnOk, IfOk};
-ghost use Rattle.xw_words.specs.Columns.{column_at, bits_put, bit_pushed, AreFilled};
+ghost use Rattle.std.specs.Prelude.{◌≡◌, ℕ, ◌+◌, ◌*◌, ◌/◌, ◌%◌, ◌<◌, ◌≤◌, ◌&&◌, false, [], length, nat_lt, slice_index, slice_index_or, vec_len, OnOk, IfOk};
+ghost use Rattle.xw_bits.specs.Bits.{has_bit};
+ghost use Rattle.xw_words.specs.Columns.{column_at, bits_put, bit_pushed, letter_at, AreFilled};
 ghost use Rattle.xw_words.specs.Dictionary.{most_words};
 
 use std::alloc::{AllocError, Global};
@@ -108,6 +109,98 @@ pub(crate) fn push_word(columns: &mut [BitRow], word: &[Letter], index: usize)
     put_word(columns, word, index);
 }
 
+/// For each letter a bit for each of the 64 words from `first` on: whether it has the letter at the
+/// position.
+fn letter_bits(
+    letters: &[Letter],
+    word_len: usize,
+    words: usize,
+    first: usize,
+    position: usize,
+) -> [u64; LETTERS]
+    requires letters { length letters.now ≡ words * word_len }
+    requires short { word_len ≤ 255 }
+    requires few { words ≤ most_words }
+    requires within { first < words }
+    requires position { position < word_len }
+    ensures { (k j : ℕ) → k < 26 → j < 64 → has_bit (slice_index result k) j ≡ (nat_lt (first + j) words && letter_at letters.now ((first + j) * word_len + position) k) }
+{
+    let mut bits = [0u64; LETTERS];
+    for index in first..words.min(first + 64) {
+        let letter = letters[index * word_len + position].byte() - b'A';
+        bits[letter as usize] |= 1 << (index - first);
+    }
+    bits
+}
+
+/// Writes the 64 bits of a chunk that is clear.
+fn put_chunk(column: &mut BitRow, chunk: usize, word: u64)
+    requires within { 64 * chunk + 64 ≤ length column.old.bits }
+    requires clear { (j : ℕ) → j < 64 → slice_index_or column.old.bits (64 * chunk + j) false ≡ false }
+    ensures len { length column.new.bits ≡ length column.old.bits }
+    ensures inside { (j : ℕ) → j < 64 → slice_index_or column.new.bits (64 * chunk + j) false ≡ has_bit word j }
+    ensures others { (i : ℕ) → (i / 64 ≡ chunk → ⊥) → slice_index_or column.new.bits i false ≡ slice_index_or column.old.bits i false }
+    ensures room { column.new.room ≡ column.old.room }
+{
+    if word != 0 {
+        column.set_chunk(chunk, word);
+    }
+}
+/// Writes the 64 words of a chunk to the columns of a position.
+fn put_position(
+    columns: &mut [BitRow],
+    letters: &[Letter],
+    word_len: usize,
+    words: usize,
+    chunk: usize,
+    position: usize,
+)
+    requires many { length columns.old ≡ 26 * word_len }
+    requires letters { length letters.now ≡ words * word_len }
+    requires short { word_len ≤ 255 }
+    requires few { words ≤ most_words }
+    requires within { 64 * chunk < words }
+    requires position { position < word_len }
+    requires long { (k : ℕ) → k < 26 → length (column_at columns.old (26 * position + k)).bits ≡ 64 * chunk + 64 }
+    requires clear { (k j : ℕ) → k < 26 → j < 64 → slice_index_or (column_at columns.old (26 * position + k)).bits (64 * chunk + j) false ≡ false }
+    ensures len { (i : ℕ) → length (column_at columns.new i).bits ≡ length (column_at columns.old i).bits }
+    ensures inside { (k j : ℕ) → k < 26 → j < 64 → slice_index_or (column_at columns.new (26 * position + k)).bits (64 * chunk + j) false ≡ (nat_lt (64 * chunk + j) words && letter_at letters.now ((64 * chunk + j) * word_len + position) k) }
+    ensures others { (i at : ℕ) → (at / 64 ≡ chunk → ⊥) → slice_index_or (column_at columns.new i).bits at false ≡ slice_index_or (column_at columns.old i).bits at false }
+    ensures rest { (i : ℕ) → (i / 26 ≡ position → ⊥) → column_at columns.new i ≡ column_at columns.old i }
+    ensures room { (i : ℕ) → (column_at columns.new i).room ≡ (column_at columns.old i).room }
+{
+    let bits = letter_bits(letters, word_len, words, 64 * chunk, position);
+    for letter in 0..LETTERS {
+        let column = &mut columns[LETTERS * position + letter];
+        put_chunk(column, chunk, bits[letter]);
+    }
+}
+
+/// Writes the 64 words of a chunk, which is clear, to the columns.
+fn put_words(
+    columns: &mut [BitRow],
+    letters: &[Letter],
+    word_len: usize,
+    words: usize,
+    chunk: usize,
+)
+    requires many { length columns.old ≡ 26 * word_len }
+    requires letters { length letters.now ≡ words * word_len }
+    requires short { word_len ≤ 255 }
+    requires few { words ≤ most_words }
+    requires within { 64 * chunk < words }
+    requires long { (i : ℕ) → i < length columns.old → length (column_at columns.old i).bits ≡ 64 * chunk + 64 }
+    requires clear { (i j : ℕ) → i < length columns.old → j < 64 → slice_index_or (column_at columns.old i).bits (64 * chunk + j) false ≡ false }
+    ensures len { (i : ℕ) → length (column_at columns.new i).bits ≡ length (column_at columns.old i).bits }
+    ensures inside { (i j : ℕ) → i < length columns.old → j < 64 → slice_index_or (column_at columns.new i).bits (64 * chunk + j) false ≡ (nat_lt (64 * chunk + j) words && letter_at letters.now ((64 * chunk + j) * word_len + i / 26) (i % 26)) }
+    ensures others { (i at : ℕ) → (at / 64 ≡ chunk → ⊥) → slice_index_or (column_at columns.new i).bits at false ≡ slice_index_or (column_at columns.old i).bits at false }
+    ensures room { (i : ℕ) → (column_at columns.new i).room ≡ (column_at columns.old i).room }
+{
+    for position in 0..word_len {
+        put_position(columns, letters, word_len, words, chunk, position);
+    }
+}
+
 /// Writes the words whose letters stand one after another to empty columns.
 fn fill_columns(columns: &mut [BitRow], letters: &[Letter], word_len: usize, words: usize)
     requires many { length columns.old ≡ 26 * word_len }
@@ -118,9 +211,9 @@ fn fill_columns(columns: &mut [BitRow], letters: &[Letter], word_len: usize, wor
     requires room { (i : ℕ) → i < length columns.old → words ≤ (column_at columns.old i).room }
     ensures { AreFilled word_len words words letters.now columns.new }
 {
-    for index in 0..words {
-        let word = &letters[index * word_len..index * word_len + word_len];
-        push_word(columns, word, index);
+    for chunk in 0..words.div_ceil(64) {
+        lengthen(columns);
+        put_words(columns, letters, word_len, words, chunk);
     }
 }
 

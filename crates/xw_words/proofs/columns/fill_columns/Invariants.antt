@@ -1,6 +1,7 @@
+use Rattle.std.proofs.Common.{◌*◌, min}
 use Rattle.xw_words.specs.Columns.{AreFilled}
 use Rattle.xw_words.proofs.columns.fill_columns.Given as goal
 
--- the columns have the words so far
-abbrev pub invariant-loop-index : goal.invariant-loop-index
-invariant-loop-index l = AreFilled l.word_len l.index l.words l.letters l.columns
+-- the columns have the words of the chunks so far
+abbrev pub invariant-loop-chunk : goal.invariant-loop-chunk
+invariant-loop-chunk l = AreFilled l.word_len (min (64 * l.chunk) l.words) l.words l.letters l.columns
