@@ -193,27 +193,7 @@ impl Row {
         let _ = self.table.word_len();
         let mut letters = [Letter::first(); LONGEST];
         spell(&mut letters, bytes);
-        self.add_word(alloc, &letters[..bytes.len()], grade, least)
-    }
-
-    /// Adds a word: appends a new one, or brings back one that is not active.
-    pub fn add_word(
-        &mut self,
-        alloc: Global,
-        word: &[Letter],
-        grade: Option<u8>,
-        least: u8,
-    ) -> Result<Added, WordFault>
-        requires length { length word.now ≡ self.old.word_len }
-        requires long { 2 ≤ self.old.word_len }
-        ensures word_len { self.new.word_len ≡ self.old.word_len }
-        ensures answer { result ≢ Err WordFault.Memory → result ≡ add_to self.old.entries word.now }
-        ensures memory { result ≡ Err WordFault.Memory → IsNew (add_to self.old.entries word.now) }
-        ensures ok { IfOk result (λ added. self.new.entries ≡ with_added least self.old.entries word.now grade added) }
-        ensures err { OnErr result (self.new.entries ≡ self.old.entries) }
-        ensures room_at_err { OnErr result (self.new.room ≡ self.old.room) }
-        ensures room_at_return { (index : ℕ) → result ≡ Ok (Added.Returned index) → self.new.room ≡ self.old.room }
-    {
+        let word = &letters[..bytes.len()];
         match self.table.find(word) {
             Some(index) => self.table.add_again(index, grade, least),
             None => self.add_new(alloc, word, grade, least),

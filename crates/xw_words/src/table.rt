@@ -1,7 +1,7 @@
 //! The known words of one length, without their columns.
 ghost use Rattle.xw_bits.specs.Bits.{has_bit};
 ghost use Rattle.xw_words.specs.Columns.{is_active};
-ghost use Rattle.std.specs.Prelude.{◌≡◌, ℕ, ◌+◌, ◌*◌, ◌<◌, ◌≤◌, Bool, true, false, None, All, [], ◌∷◌, ◌++◌, length, slice_index_or, slice_set, take, map, position, OnOk, OnErr, IfOk, IfErr, ◌≢◌, nat_lt, vec_len, vec_capacity};
+ghost use Rattle.std.specs.Prelude.{◌≡◌, ℕ, ◌+◌, ◌*◌, ◌<◌, ◌≤◌, Bool, true, false, None, All, [], ◌∷◌, ◌++◌, length, slice_index_or, slice_set, take, map, position, OnOk, OnErr, IfOk, IfErr, ◌≢◌, ◌⊎◌, nat_lt, vec_len, vec_capacity};
 ghost use Rattle.xw_words.specs.Dictionary.{entry_at, index_in, add_to, added_at, with_added, strike_from, IsNew, most_words, all_limited, grade_left, is_left as is_left_in, is_turned as is_turned_in, new_entry, returned, with_struck};
 ghost use Rattle.std.specs.List.{list_any};
 ghost use Rattle.xw_words.specs.Row.{no_marks, are_left, entry_of};
@@ -485,36 +485,32 @@ impl Table {
     {
         match self.find(word) {
             Some(index) => self.add_again(index, grade, least),
-            None => self.add_new(alloc, word, grade, least),
+            None => {
+                self.make_room(alloc)?;
+                let index = self.len();
+                self.add_reserved(word, grade, least);
+                Ok(Added::New(index))
+            }
         }
     }
 
-    /// Appends a word that is not known.
-    fn add_new(
-        &mut self,
-        alloc: Global,
-        word: &[Letter],
-        grade: Option<u8>,
-        least: u8,
-    ) -> Result<Added, WordFault>
-        requires length { length word.now ≡ self.old.word_len }
+    /// Reserves room for one more word, unless there is some.
+    fn make_room(&mut self, alloc: Global) -> Result<(), WordFault>
         requires long { 2 ≤ self.old.word_len }
-        requires unknown { index_in self.old.entries word.now ≡ None }
         ensures word_len { self.new.word_len ≡ self.old.word_len }
-        ensures answer { result ≢ Err WordFault.Memory → result ≡ added_at self.old.entries None }
-        ensures ok { OnOk result (self.new.entries ≡ self.old.entries ++ new_entry least word.now grade ∷ []) }
-        ensures err { OnErr result (self.new.entries ≡ self.old.entries) }
-        ensures added { IfOk result (λ added. IsNew (Ok added)) }
+        ensures entries { self.new.entries ≡ self.old.entries }
+        ensures room { OnOk result (length self.new.entries < self.new.reserved) }
+        ensures full { result ≡ Err WordFault.Full → most_words ≤ length self.old.entries }
+        ensures fault { IfErr result (λ fault. (fault ≡ WordFault.Full) ⊎ (fault ≡ WordFault.Memory)) }
     {
-        let index = self.len();
-        if index >= MOST_WORDS {
+        let known = self.len();
+        if known >= MOST_WORDS {
             return Err(WordFault::Full);
         }
         if !self.has_room() {
-            self.reserve(alloc, grown(index, 0))?;
+            self.reserve(alloc, grown(known, 0))?;
         }
-        self.add_reserved(word, grade, least);
-        Ok(Added::New(index))
+        Ok(())
     }
 
     /// Whether there is reserved room for one more word.
