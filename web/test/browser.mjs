@@ -26,6 +26,8 @@ export class Browser {
   #id = 0;
   #waiting = new Map();
   #events = new Map();
+  // what takes the next file that the page saves
+  #takeDownload = null;
 
   // `switches` are further words for the program.
   static async open(switches = [], program = 'chromium') {
@@ -157,6 +159,7 @@ export class Browser {
 
   // Presses a key, such as `a`, `Enter` or `Control+z`, and holds it for some milliseconds.
   async press(name, held = 0) {
+    await awaitFocus(this, name);
     const parts = name.split(/(?<=.)\+/);
     const key = parts.pop();
     const modifiers = parts.reduce((sum, part) => sum + { Alt: 1, Control: 2, Shift: 8 }[part], 0);
@@ -178,16 +181,16 @@ export class Browser {
     return this.send('Input.dispatchMouseEvent', { type, ...point, button: 'left', buttons, clickCount: 1, modifiers });
   }
 
-  // Clicks an element. A click that meets another one, since the page moved meanwhile, is kept from it and made again.
+  // Clicks an element.
   click(selector, modifiers = 0) {
-    return pressOn(this, selector, ({ x, y }) => Promise.all([
-      this.#mouse('mouseMoved', { x, y }, modifiers, 0), this.#mouse('mousePressed', { x, y }, modifiers), this.#mouse('mouseReleased', { x, y }, modifiers, 0),
+    return pressOn(this, [selector], (point) => Promise.all([
+      this.#mouse('mouseMoved', point, modifiers, 0), this.#mouse('mousePressed', point, modifiers), this.#mouse('mouseReleased', point, modifiers, 0),
     ]));
   }
 
-  async drag(from, to) {
-    const end = await this.until(middleOf(to));
-    return pressOn(this, from, async (begin) => {
+  // Drags from one element to another.
+  drag(from, to) {
+    return pressOn(this, [from, to], async (begin, end) => {
       await this.#mouse('mousePressed', begin);
       await this.#mouse('mouseMoved', { x: (begin.x + end.x) / 2, y: (begin.y + end.y) / 2 });
       await this.#mouse('mouseMoved', end);
@@ -195,16 +198,16 @@ export class Browser {
     });
   }
 
-  // Taps with a finger.
+  // Taps with a finger. Both messages go at once: a finger that rests makes another gesture.
   tap(selector) {
-    return pressOn(this, selector, async (point) => {
-      await this.send('Input.dispatchTouchEvent', { type: 'touchStart', touchPoints: [point] });
-      await this.send('Input.dispatchTouchEvent', { type: 'touchEnd', touchPoints: [] });
-    });
+    return pressOn(this, [selector], (point) => Promise.all([
+      this.send('Input.dispatchTouchEvent', { type: 'touchStart', touchPoints: [point] }), this.send('Input.dispatchTouchEvent', { type: 'touchEnd', touchPoints: [] }),
+    ]));
   }
 
   // Types a text as a keyboard on a screen does, which tells no keys.
   async insert(text) {
+    await awaitFocus(this, text);
     for (const character of text) {
       await this.send('Input.dispatchKeyEvent', { type: 'rawKeyDown', key: 'Unidentified', windowsVirtualKeyCode: 229 });
       await this.send('Input.insertText', { text: character });
@@ -225,31 +228,36 @@ export class Browser {
 
   // Has files saved into a folder.
   saveInto(folder) {
-    this.folder = folder;
+    const names = new Map();
+    this.on('Browser.downloadWillBegin', ({ guid, suggestedFilename }) => names.set(guid, suggestedFilename));
+    this.on('Browser.downloadProgress', ({ guid, state }) => {
+      const name = names.get(guid);
+      if (state !== 'completed' || name === undefined) return;
+      names.delete(guid);
+      this.#takeDownload?.({ name, bytes: readFileSync(join(folder, name)) });
+    });
     return this.send('Browser.setDownloadBehavior', { behavior: 'allow', downloadPath: folder, eventsEnabled: true });
   }
 
   // Promises the name and the bytes of the next file that the page saves.
   download() {
     return new Promise((resolve) => {
-      let name;
-      this.on('Browser.downloadWillBegin', ({ suggestedFilename }) => {
-        name = suggestedFilename;
-      });
-      this.on('Browser.downloadProgress', ({ state }) => state === 'completed' && resolve({ name, bytes: readFileSync(join(this.folder, name)) }));
+      this.#takeDownload = resolve;
     });
   }
 
-  // A window of this size, or with `isTouched` a screen that is touched.
+  // A window of this size, or with `isTouched` a screen that is touched, when the page has it.
   async view(width, height, { scheme = 'light', isTouched = false } = {}) {
     await this.send('Emulation.setDeviceMetricsOverride', { width, height, deviceScaleFactor: isTouched ? 2 : 1, mobile: isTouched });
     await this.send('Emulation.setTouchEmulationEnabled', { enabled: isTouched });
-    await this.send('Emulation.setEmulatedMedia', { features: [{ name: 'prefers-color-scheme', value: scheme }] });
+    await this.scheme(scheme);
+    await this.until(`matchMedia('(pointer: coarse)').matches === ${isTouched} && (innerWidth === ${width} || !document.querySelector('meta[name=viewport]'))`);
   }
 
   // The colours that the page is asked for: `light` or `dark`.
-  scheme(value) {
-    return this.send('Emulation.setEmulatedMedia', { features: [{ name: 'prefers-color-scheme', value }] });
+  async scheme(value) {
+    await this.send('Emulation.setEmulatedMedia', { features: [{ name: 'prefers-color-scheme', value }] });
+    await this.until(`matchMedia('(prefers-color-scheme: ${value})').matches`);
   }
 
   async picture() {
@@ -271,66 +279,86 @@ export class Browser {
   }
 }
 
-// The expression of the middle of an element, when it is there and stays where it is for two frames; else null.
-export const middleOf = (selector) => `(async () => {
-  const middle = () => {
-    const element = document.querySelector(${JSON.stringify(selector)});
-    if (!element) return null;
-    element.scrollIntoView({ block: 'nearest' });
-    const { x, y, width, height } = element.getBoundingClientRect();
-    return width ? { x: x + width / 2, y: y + height / 2 } : null;
+// The keys that the page takes wherever the focus is.
+const ANYWHERE = /^(F\d+|Escape)$|^(Control|Alt)\+/;
+
+// Waits until a key can reach an element: it is lost while none has the focus, or one that was hidden.
+export async function awaitFocus(browser, name) {
+  if (ANYWHERE.test(name)) return;
+  await browser.until('document.activeElement !== document.body && document.activeElement.checkVisibility()');
+}
+
+// The expression of the middles of elements, when they are there, can be pressed and stay where they are for two frames; else null.
+const middlesOf = (selectors) => `(async () => {
+  const middles = () => {
+    const elements = ${JSON.stringify(selectors)}.map((selector) => document.querySelector(selector));
+    if (elements.some((element) => !element || element.matches(':disabled'))) return [null];
+    for (const element of elements) element.scrollIntoView({ block: 'nearest' });
+    return elements.map((element) => element.getBoundingClientRect()).map(({ x, y, width, height }) => (width ? { x: x + width / 2, y: y + height / 2 } : null));
   };
-  const [one] = [middle(), await new Promise((resolve) => {
-    requestAnimationFrame(() => requestAnimationFrame(resolve));
-    // a page behind others has no frames
-    setTimeout(resolve, ${LOOKS_EACH});
-  })];
-  const other = middle();
-  return one && other && one.x === other.x && one.y === other.y ? other : null;
+  const one = middles();
+  await new Promise((resolve) => requestAnimationFrame(() => requestAnimationFrame(resolve)));
+  const other = middles();
+  return other.every(Boolean) && JSON.stringify(one) === JSON.stringify(other) ? other : null;
 })()`;
 
-// The expression that keeps the next press from any element outside of those that a selector names, and whether it could: not if another element
-// is at the point by now. The label of a field counts as the field.
-const guardOf = (selector, { x, y }) => `(() => {
-  const isNamed = (element) => Boolean(element) && element.closest(${JSON.stringify(selector)}) !== null;
-  const isWanted = (target) => target instanceof Element && (isNamed(target) || isNamed(target.closest('label')?.control));
-  if (!isWanted(document.elementFromPoint(${x}, ${y}))) return false;
-  const kinds = ['pointerdown', 'mousedown', 'pointerup', 'mouseup', 'click'];
-  let isMissed = false;
+// The expression that guards the next press, and whether it could: not if another element is at one of the points by now. A press that begins
+// elsewhere is kept from the page, and so is a click that comes of a press on one element and its release on another. `window.endPress` ends the
+// guard, and promises whether the press was made: an element took it when it began, as a cell does, or was clicked. The label of a field counts as
+// the field.
+const guardOf = (selectors, points) => `(() => {
+  const places = ${JSON.stringify(selectors.map((selector, at) => [selector, points[at]]))};
+  const isNamed = (element, selector) => Boolean(element) && element.closest(selector) !== null;
+  const isOf = (target, selector) => target instanceof Element && (isNamed(target, selector) || isNamed(target.closest('label')?.control, selector));
+  const isInPlace = () => places.every(([selector, { x, y }]) => isOf(document.elementFromPoint(x, y), selector));
+  if (!isInPlace()) return false;
+  const kinds = ['pointerdown', 'mousedown', 'touchstart', 'pointermove', 'pointerup', 'mouseup', 'touchend', 'pointercancel', 'contextmenu', 'click'];
+  let [down, isMissed, isClicked] = [null, false, false];
+  let end;
+  const ended = new Promise((resolve) => { end = resolve; });
   const listener = (event) => {
-    if (event.type === 'pointerdown') isMissed = !isWanted(event.target);
-    if (!isMissed) return;
-    event.stopImmediatePropagation();
-    event.preventDefault();
+    const { type, target } = event;
+    const isMeant = isOf(target, places[0][0]);
+    if (type === 'pointerdown') [down, isMissed] = [event, !isMeant || !isInPlace()];
+    if (type === 'click' && !isMeant && !down?.defaultPrevented) isMissed = true;
+    if (isMissed) {
+      event.stopImmediatePropagation();
+      event.preventDefault();
+    }
+    isClicked ||= type === 'click';
+    if (['click', 'pointercancel', 'contextmenu'].includes(type)) end();
   };
-  for (const kind of kinds) window.addEventListener(kind, listener, true);
-  window.endGuard = () => {
-    for (const kind of kinds) window.removeEventListener(kind, listener, true);
-    delete window.endGuard;
-    return isMissed;
+  for (const kind of kinds) window.addEventListener(kind, listener, { capture: true, passive: false });
+  window.endPress = async () => {
+    // the click of a tap comes after the finger has gone
+    if (down?.pointerType === 'touch') await ended;
+    for (const kind of kinds) window.removeEventListener(kind, listener, { capture: true });
+    delete window.endPress;
+    return Boolean(down) && !isMissed && (isClicked || down.defaultPrevented);
   };
   return true;
 })()`;
 
-// Presses in the middle of an element, which `press` does at a point, until the press meets it.
-export async function pressOn(browser, selector, press) {
+// Presses at the middles of elements, which `press` does, until the press is made: it is made again if the page has moved or changed meanwhile. The
+// press begins at the first element, and ends at the last one.
+export async function pressOn(browser, selectors, press) {
   const end = Date.now() + HANGS;
   for (;;) {
-    const point = await browser.until(middleOf(selector));
-    if (await browser.value(guardOf(selector, point))) {
-      await press(point);
-      if (!(await isMissed(browser))) return;
+    const points = await browser.until(middlesOf(selectors));
+    if (await browser.value(guardOf(selectors, points))) {
+      await press(...points);
+      if (await isMade(browser)) return;
     }
-    if (Date.now() > end) throw new Error(`${selector} is covered by another element`);
+    if (Date.now() > end) throw new Error(`${selectors[0]} cannot be pressed: it is covered, or changes`);
   }
 }
 
-// Whether the last press met another element. The page may have been left by it, and then it did not.
-async function isMissed(browser) {
+// Whether the last press was made. The page may have been left by it, and then it was.
+async function isMade(browser) {
   try {
-    return await browser.value('window.endGuard?.() ?? false');
+    return await browser.value('window.endPress?.() ?? true');
   } catch (error) {
-    if (isLeft(error)) return false;
+    if (isLeft(error)) return true;
     throw error;
   }
 }

@@ -97,16 +97,21 @@ const NOTES = `
   window.messages = () => window.said;
   window.drafts = () => Object.keys(localStorage).filter((name) => name.startsWith('xw-editor/')).map((name) => localStorage.getItem(name)).join();`;
 
-// Gives the page the answers of its workers late, in order.
+// Gives the page the answers of its workers late, in order, each to all that listen at once.
 const SLOWLY = `
   const listen = Worker.prototype.addEventListener;
-  const last = new WeakMap();
+  const late = new WeakMap();
   Worker.prototype.addEventListener = function (name, listener, ...more) {
-    const late = (event) => {
+    if (name !== 'message') return listen.call(this, name, listener, ...more);
+    if (!late.has(this)) {
+      const { port1, port2 } = new MessageChannel();
+      let last = Promise.resolve();
       const wait = () => new Promise((resolve) => setTimeout(resolve, Math.random() * ${slow}));
-      last.set(this, (last.get(this) ?? Promise.resolve()).then(wait).then(() => listener(event)));
-    };
-    listen.call(this, name, name === 'message' ? late : listener, ...more);
+      listen.call(this, name, ({ data }) => { last = last.then(wait).then(() => port1.postMessage(data)); });
+      port2.start();
+      late.set(this, port2);
+    }
+    late.get(this).addEventListener(name, listener, ...more);
   };`;
 // how many times slower the processor is then
 const SLOWER = 3;
@@ -381,6 +386,13 @@ async function choosing(verdict) {
 
 const hasWord = (rows, word) => rows.some((row) => row.includes(word)) || [...rows[0]].some((_, at) => rows.map((row) => row[at]).join('').includes(word));
 
+// Prints what the dialog shows. The browser's own dialog would stand in the way.
+async function print() {
+  await browser.value('window.isPrinted = false, window.print = () => { window.isPrinted = true; }, 0');
+  await browser.click('#print-dialog [value=print]');
+  await browser.until('window.isPrinted');
+}
+
 // Fills the grid that is here, writes its clues, prints it and saves it, by the page's own controls.
 async function wholePuzzle(name, title, form) {
   await browser.press('Control+f');
@@ -399,12 +411,10 @@ async function wholePuzzle(name, title, form) {
   await picture(`${name}-checks`);
   const warnings = await browser.value("[...document.querySelectorAll('#checks li:not(.good)')].map(({ textContent }) => textContent)");
   expect(warnings.every((text) => /one root|share/.test(text)), `warned of: ${warnings}`);
-  await browser.value('window.print = () => {}');
   await browser.press('Control+p');
   await browser.until(`document.querySelectorAll('#preview .page:first-child .clues p').length === ${count}`);
   await picture(`${name}-print`);
-  await browser.click('#print-dialog [value=print]');
-  await browser.until("!document.getElementById('print-dialog').open");
+  await print();
   if (pictures) writeFileSync(join(pictures, `${name}.pdf`), await browser.pdf());
   const bytes = await saved(`${name}.${form}`, () => (form === 'puz' ? browser.press('Control+s') : menu('save-ipuz')));
   if (form === 'puz') filledLights(bytes, count);
@@ -781,8 +791,9 @@ const CASES = {
     await browser.press('5');
     await page.statusIs(/“5” does nothing here/);
     await browser.press('Control+z');
+    await browser.until("!document.getElementById('redo').disabled");
     await browser.press('Control+y');
-    await page.factsAre(/^5 × 5/);
+    await browser.until("document.getElementById('redo').disabled");
     await browser.click('#messages');
     await browser.until("!document.getElementById('history').hidden && /“5” does nothing here/.test(document.getElementById('history').textContent) && /a new puzzle/.test(document.getElementById('history').textContent)");
     await picture('messages');
@@ -885,6 +896,7 @@ const CASES = {
     await browser.until("document.querySelector('#fills-list .fill:first-child[aria-pressed=true]')");
     await browser.click('#fills-list .fill:nth-child(3)');
     await page.statusIs(/this fill is in the grid/);
+    await browser.until("document.querySelector('#fills-list .fill:nth-child(3)[aria-pressed=true]')");
     const third = await page.rows();
     expect(third[0].startsWith('#CO') && new Set([first, second, third].map(String)).size === 3, 'the third fill is none of its own');
     await browser.press('Control+z');
@@ -1018,12 +1030,12 @@ const CASES = {
     await browser.click('#cell-3-3');
     await browser.press('*');
     await browser.press('|');
+    await browser.until("document.querySelector('.bar-right')");
     await browser.press('F3');
     await browser.type('A clue');
     await browser.press('Enter');
     await browser.press('F4');
-    // a click may miss the field, which the counts move when they come
-    await browser.value("document.getElementById('word').focus()");
+    await browser.click('#word');
     await browser.type('zzyzx');
     await browser.press('Enter');
     await page.statusIs(/ZZYZX is added/);
@@ -1055,16 +1067,19 @@ const CASES = {
 
   async 'a reload in the middle of a word'() {
     await begin(1);
+    // from the first draft on the page keeps this puzzle
+    await browser.type('j');
+    await isDrafted(/set 1 1 J/);
     const loaded = browser.reloaded();
     // the page goes before the engine has answered
     await browser.value(`(() => {
       const press = (key) => document.getElementById('grid').dispatchEvent(new KeyboardEvent('keydown', { key, bubbles: true, cancelable: true }));
-      for (const key of 'tone') press(key);
+      for (const key of 'oke') press(key);
       location.reload();
     })()`);
     await loaded;
     await ready();
-    expect((await page.row(1)).startsWith('TONE'), `the row is ${await page.row(1)}`);
+    expect((await page.row(1)).startsWith('JOKE'), `the row is ${await page.row(1)}`);
   },
 
   async 'other words for a light that is entered'() {
@@ -1913,6 +1928,8 @@ const CASES = {
     const other = await browser.tab();
     const warned = (tab, pattern) => tab.until(`${pattern}.test(document.getElementById('warnings').textContent)`);
     const isKept = (tab) => tab.until("document.getElementById('kept').dataset.state === 'kept'");
+    // a tab gets what another one writes a moment later
+    const sees = (tab, pattern) => tab.until(`${pattern}.test(Object.values(localStorage).join())`);
     const has = (tab, cell, letter) => tab.until(`document.querySelector('#cell-${cell} .letter')?.textContent === '${letter}'`);
     try {
       await other.view(1400, 900);
@@ -1925,6 +1942,7 @@ const CASES = {
       await browser.click('#cell-2-1');
       await browser.type('a');
       await isDrafted(/set 2 1 A/);
+      await sees(other, /set 2 1 A/);
       // taken over as the first tab has left it
       await other.front();
       await other.click('#warnings button');
@@ -2202,7 +2220,10 @@ const CASES = {
       const post = Worker.prototype.postMessage;
       Worker.prototype.postMessage = function (message, transfer) {
         window.engineWorker ??= this;
-        if (message.call === 'edit') window.told?.push('key');
+        if (message.call === 'edit' && window.told) {
+          window.told.push('key');
+          window.keyId = message.id;
+        }
         post.call(this, message, transfer);
       };
     })()`);
@@ -2211,13 +2232,13 @@ const CASES = {
     await browser.value(`(() => {
       window.told = [];
       window.engineWorker.addEventListener('message', ({ data }) => window.told.push(data.id));
-      for (let query = 0; query < 40; query++) window.engineWorker.postMessage({ id: 'choices', call: 'ask', sent: { line: 'choices 5 across 40' } });
-      // in the same turn, so that no query is answered before the key is there
+      // the first query keeps the worker busy until the key is there
+      for (const count of [400, ...Array(40).fill(40)]) window.engineWorker.postMessage({ id: 'choices', call: 'ask', sent: { line: \`choices 5 across \${count}\` } });
       document.getElementById('grid').dispatchEvent(new KeyboardEvent('keydown', { key: 'p', bubbles: true, cancelable: true }));
     })()`);
-    await browser.until("window.told.filter((id) => id === 'choices').length === 40");
+    await browser.until("window.told.filter((id) => id === 'choices').length === 41");
     const told = await browser.value('window.told');
-    const [sent, answered] = [told.indexOf('key'), told.findIndex((id) => typeof id === 'number')];
+    const [sent, answered] = [told.indexOf('key'), told.indexOf(await browser.value('window.keyId'))];
     const [ahead, behind] = [answered - sent - 1, told.length - answered - 1];
     expect(sent >= 0 && ahead <= 2 && behind > 10, `${ahead} queries were answered ahead of the key, and ${behind} after it`);
     await browser.go(PAGE.href);
@@ -2424,10 +2445,8 @@ const CASES = {
     writeFileSync(join(room, 'enumerations.xw'), body);
     await openFile(join(room, 'enumerations.xw'));
     await page.statusIs(/is open/);
-    await browser.value('window.print = () => {}');
     await browser.press('Control+p');
-    await browser.click('#print-dialog [value=print]');
-    await browser.until("document.querySelector('#sheet .clues')");
+    await print();
     const printed = await browser.value("[...document.querySelectorAll('#sheet .clues p')].map((clue) => clue.textContent.replace(/^\\d+ /, '').trim())");
     const wanted = ['Ice cream (3,5)', 'Plain (3)', 'Hyphened (2-1)', 'Two of them (3 wds.)', 'Year of a revolution (1789) (3)', 'Aside (see 1 Down) (3)'];
     expect(printed.join('|') === wanted.join('|'), `printed: ${printed.join('|')}`);
@@ -2437,14 +2456,11 @@ const CASES = {
     await begin(1);
     await browser.press('Control+f');
     await page.statusIs(/^filled/);
-    // the browser's own dialog would stand in the way
-    await browser.value('window.print = () => {}');
     for (const [paper, width] of [['A4', 595], ['letter', 612]]) {
       await browser.press('Control+p');
       await browser.until("document.querySelectorAll('#preview .page').length === 2");
       await browser.click(`[name=paper][value=${paper}]`);
-      await browser.click('#print-dialog [value=print]');
-      await browser.until("document.querySelector('#sheet .page')");
+      await print();
       const pdf = await browser.pdf();
       if (pictures) writeFileSync(join(pictures, `print-${paper}.pdf`), pdf);
       const text = pdf.toString('latin1');
@@ -2460,8 +2476,8 @@ const CASES = {
     await browser.until("document.querySelector('#preview .address').textContent.includes('1 Grid Road') && document.querySelectorAll('#preview .answers tr').length > 60");
     expect(await browser.value("[...document.querySelectorAll('#preview .page')].every((page) => page.scrollHeight <= page.clientHeight)"), 'a page of the preview is cut off');
     await picture('print');
-    await browser.click('#print-dialog [value=print]');
-    await browser.until("document.querySelector('#sheet .answers')");
+    await print();
+    expect((await page.count('#sheet .answers')) > 0, 'the answers are not printed');
     const pdf = await browser.pdf();
     if (pictures) writeFileSync(join(pictures, 'submission.pdf'), pdf);
     await browser.press('Control+p');

@@ -3,7 +3,7 @@ import { spawn } from 'node:child_process';
 import { existsSync, mkdtempSync, readFileSync, rmSync, writeFileSync } from 'node:fs';
 import { tmpdir } from 'node:os';
 import { basename, join } from 'node:path';
-import { HANGS, isLeft, middleOf, pressOn, waitFor } from './browser.mjs';
+import { HANGS, awaitFocus, isLeft, pressOn, waitFor } from './browser.mjs';
 
 const KEYS = {
   Enter: '\uE006', Tab: '\uE004', Backspace: '\uE003', Delete: '\uE017', Escape: '\uE00C', Home: '\uE011', End: '\uE010', ArrowLeft: '\uE012', ArrowUp: '\uE013',
@@ -150,6 +150,7 @@ export class FirefoxBrowser {
   }
 
   async press(name) {
+    await awaitFocus(this, name);
     const parts = name.split(/(?<=.)\+/).map((part) => KEYS[part] ?? part);
     const actions = [...parts.map((value) => ({ type: 'keyDown', value })), ...[...parts].reverse().map((value) => ({ type: 'keyUp', value }))];
     await this.#actions({ type: 'key', id: 'keys', actions });
@@ -171,12 +172,11 @@ export class FirefoxBrowser {
   }
 
   click(selector) {
-    return pressOn(this, selector, (point) => this.#mouse(point));
+    return pressOn(this, [selector], (point) => this.#mouse(point));
   }
 
-  async drag(from, to) {
-    const end = await this.until(middleOf(to));
-    return pressOn(this, from, (begin) => this.#mouse(begin, { x: (begin.x + end.x) / 2, y: (begin.y + end.y) / 2 }, end));
+  drag(from, to) {
+    return pressOn(this, [from, to], (begin, end) => this.#mouse(begin, { x: (begin.x + end.x) / 2, y: (begin.y + end.y) / 2 }, end));
   }
 
   // Gives files to an input of the page.
