@@ -344,12 +344,45 @@ function opened() {
   grid.focus();
 }
 
-// Uses the word lists that a function makes of those in use, if the engine takes them, and keeps them. `name` and `bytes` are those of a list that
-// is opened. Returns whether they are in use.
-async function changeLists(changed, name = '', bytes = new Uint8Array()) {
+// the last change of the lists, after which the next one begins
+let changing = Promise.resolve(true);
+
+// Changes the lists, each time from what the change before has left, and keeps them. `change` tells whether others are in use then.
+async function changeInOrder(change) {
+  const changed = changing.then(change);
+  changing = changed.catch(() => false);
+  if (!(await changed)) return false;
+  showList();
+  await storeLists();
+  return true;
+}
+
+// Uses the word lists that a function makes of those in use, if the engine takes them. `name` and `bytes` are those of a list that is opened.
+// Returns whether they are in use.
+function changeLists(changed, name = '', bytes = new Uint8Array()) {
+  return changeInOrder(async () => {
+    const before = lists;
+    if (!(await useLists(changed(lists), name, bytes))) return false;
+    formerLists.push(before);
+    if (formerLists.length > MOST_FORMER) formerLists.shift();
+    return true;
+  });
+}
+
+// Takes the last change of the lists back.
+function undoLists() {
+  return changeInOrder(async () => {
+    const before = formerLists.at(-1);
+    if (!before || !(await useLists(before))) return false;
+    formerLists.pop();
+    return true;
+  });
+}
+
+// Has the engine use other word lists, and says what they have, or why it refuses them. Returns whether they are in use.
+async function useLists(other, name = '', bytes = new Uint8Array()) {
   if (!mayEdit()) return false;
   filler.stop();
-  const other = changed(lists);
   const fault = await editor.useList(other.chosen);
   if (fault) {
     const why = fault === 'NoWord' ? leftOutText(readList(bytes).leftOut) : '';
@@ -357,23 +390,10 @@ async function changeLists(changed, name = '', bytes = new Uint8Array()) {
     showList();
     return false;
   }
-  formerLists.push(lists);
-  if (formerLists.length > MOST_FORMER) formerLists.shift();
   lists = other;
   const { scored } = editor.list;
   sayAsIs(`${editor.list.name || 'no list'}: ${[`${wordCount(editor.list.words)}${scored ? ', the best scores first' : ''}`, ...listFacts()].join('; ')}`, 'good');
-  showList();
-  await storeLists();
   return true;
-}
-
-// Takes the last change of the lists back.
-async function undoLists() {
-  const before = formerLists.at(-1);
-  if (!before || !(await changeLists(() => before))) return;
-  // the change that this was is none to take back
-  formerLists.splice(-2);
-  showList();
 }
 
 // how often the lists are being kept now
@@ -762,10 +782,11 @@ async function start() {
   const cell = editor.board.cells[session?.cursor] ? session.cursor : 0;
   editor.moveTo(cell, session?.direction ?? 'across');
   grid.focus();
+  // before another puzzle can come in place of this one
+  shelf.begin();
   const others = await shelf.others();
   greet(session, others);
   globalThis.isRunning = true;
-  shelf.begin();
   // a reason would take the place of what was said of other puzzles
   if (others) reasons.mark();
   else reasons.soon();

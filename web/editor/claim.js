@@ -9,6 +9,11 @@ export class Claim extends EventTarget {
   puzzle = '';
   isHeld = false;
   #release = null;
+  // ends a request that waits for another page to give the lock back
+  /** @type {AbortController | null} */
+  #waiting = null;
+  // is kept when the requests so far are over and their locks given back
+  #over = Promise.resolve();
   // rises with each request, so that the end of an earlier one says nothing
   #turn = 0;
 
@@ -19,8 +24,14 @@ export class Claim extends EventTarget {
     this.puzzle = puzzle;
     const wasHeld = takeMark() === puzzle;
     if (!navigator.locks) return this.#hold();
+    // this page may still have the lock by an earlier request, which is no other tab
+    const turn = this.#turn;
+    await this.#over;
+    if (turn !== this.#turn) return;
     const isHeld = await this.#request({ ifAvailable: true });
-    if (!isHeld && wasHeld && this.puzzle === puzzle) await this.#request({});
+    if (isHeld || !wasHeld || this.puzzle !== puzzle) return;
+    this.#waiting = new AbortController();
+    await this.#request({ signal: this.#waiting.signal });
   }
 
   // Takes the lock from the tab that holds it.
@@ -46,6 +57,8 @@ export class Claim extends EventTarget {
     this.#turn++;
     this.#release?.();
     this.#release = null;
+    this.#waiting?.abort();
+    this.#waiting = null;
   }
 
   // The names of the puzzles that tabs hold.
@@ -71,12 +84,13 @@ export class Claim extends EventTarget {
         return end;
       });
       // another tab has taken the lock, or this page may have none
-      asked.catch(({ name }) => {
+      const over = asked.catch(({ name }) => {
         resolve(name !== 'AbortError');
         if (!isNow()) return;
         if (name === 'AbortError') this.#lose();
         else this.#hold();
       });
+      this.#over = Promise.all([this.#over, over]).then(() => {});
     });
   }
 

@@ -35,11 +35,29 @@ export class CluesView {
   draw() {
     const { board } = this.#editor;
     const names = board.lights.map((light) => light.name).join();
+    const left = names === this.names ? null : this.#fieldInUse;
     if (names !== this.names) this.#make(names);
     for (const light of board.lights) if (!this.#underWay.has(light.name)) this.#showText(light);
+    if (left) this.#goOn(left);
     this.#lengths.disabled = !this.#withoutLengths.length;
     this.#words();
     this.#mark();
+  }
+
+  // The field that has the focus, or null.
+  get #fieldInUse() {
+    const element = /** @type {HTMLInputElement} */ (document.activeElement);
+    return element?.dataset.light && this.#root.contains(element) ? element : null;
+  }
+
+  // Goes on in the clue of the same light after the fields were made anew, with what was typed, or in another clue if the light is gone.
+  #goOn(left) {
+    const light = this.#editor.board.byName.get(left.dataset.light) ?? null;
+    this.open(light);
+    const field = light && this.#fields.get(light.name).field;
+    if (!field || left.value === left.dataset.kept) return;
+    field.value = left.value;
+    this.#showLength(field);
   }
 
   // how many edits of a clue are not answered yet, by the name of its light: until they are, its field shows what was typed

@@ -140,16 +140,17 @@ export class Filler {
   // Raises the letters of cells, if the words have scores.
   async #raise(filled) {
     const editor = this.#editor;
-    const { list, board, record } = editor;
+    const { list, board } = editor;
     if (!list.scored) return;
     const cells = filled.map((cell) => cell.coordinates);
     const indices = new Set(cells.map((coordinates) => board.cells.indexOf(editor.cellAt(coordinates))));
     const lights = board.lights.filter((light) => board.isEntered(light) && light.cells.some((cell) => indices.has(cell)));
-    const [lines] = lights.length ? await editor.ask(`grades ${lights.map(({ name }) => name).join(' ')}`) : [[]];
+    // an earlier raising may have a fill on its way into the grid
+    const [lines] = lights.length ? await editor.inOrder(() => editor.ask(`grades ${lights.map(({ name }) => name).join(' ')}`)) : [[]];
     const grades = (lines ?? []).map((line) => Number(line.split(' ')[2]));
     if (!grades.length || grades.some(Number.isNaN)) return say(`filled; ${NEXT}`, 'good');
     const names = [...editor.chosen];
-    const raising = this.#raiser.run({ base: without(record, filled), names: this.#names, cells, seed: this.#seed, grade: Math.min(...grades) });
+    const raising = this.#raiser.run({ base: without(editor.record, filled), names: this.#names, cells, seed: this.#seed, grade: Math.min(...grades) });
     if (this.#raiser.isRunning) {
       say('filled; its worst word is raised … Esc ends this', 'busy');
       this.show({ isRaising: true });

@@ -16,7 +16,7 @@ const ANSWERS = new Set(['filled', 'nofill', 'limit']);
 /**
  * @typedef {{
  *   record: string, base: string, names: string, cells: string[], seed: number, grade: number, bound: number, isOver: boolean, isStopped: boolean,
- *   isChanged: boolean, isEntering: boolean, pencil: string, end: () => void,
+ *   isChanged: boolean, isEntering: boolean, pencil: string, entered: Promise<void>, end: () => void,
  * }} Race
  */
 
@@ -59,7 +59,10 @@ export class Raiser {
   // `grade` is that of its worst word. Returns the grade that it has then, a grade at which there is no fill, and how it ended.
   async run({ base, names, cells, seed, grade }) {
     const editor = this.#editor;
-    const race = { base, names, cells, seed, grade, bound: MOST + 1, record: editor.record, pencil: String([...editor.pencil]), isOver: false, isStopped: false, isChanged: false, isEntering: false, end: () => {} };
+    const race = {
+      base, names, cells, seed, grade, bound: MOST + 1, record: editor.record, pencil: String([...editor.pencil]), isOver: false, isStopped: false, isChanged: false,
+      isEntering: false, entered: Promise.resolve(), end: () => {},
+    };
     const ended = new Promise((resolve) => {
       race.end = () => {
         race.isOver = true;
@@ -72,7 +75,9 @@ export class Raiser {
     const joining = setTimeout(() => this.#join(race, 1, this.#helpers.most), ALONE);
     await ended;
     clearTimeout(joining);
-    this.#race = null;
+    // a better fill may be on its way into the grid
+    await race.entered;
+    if (this.#race === race) this.#race = null;
     return race;
   }
 
@@ -109,13 +114,16 @@ export class Raiser {
     race.bound = Math.min(race.bound, told.answer === 'nofill' ? wanted : told.bound ?? MOST + 1);
     if (told.answer === 'filled' && told.grade > race.grade) {
       race.grade = told.grade;
-      await this.#enter(race, told.letters);
+      // fills of several workers come into the grid one after another, the better one last
+      race.entered = race.entered.then(() => this.#enter(race, told.letters));
+      await race.entered;
     }
     return race.bound <= race.grade + 1 ? race.end() : undefined;
   }
 
   // Puts a better fill into the grid, in the step of the history that the first one made.
   async #enter(race, letters) {
+    if (race.isStopped || race.isChanged) return;
     const editor = this.#editor;
     const isOther = (line) => {
       const [, row, column, letter] = line.split(' ');
@@ -126,9 +134,10 @@ export class Raiser {
     race.isEntering = false;
     if (refused) {
       race.isChanged = true;
-      return race.end();
+      race.end();
+      return;
     }
     race.record = editor.record;
-    return this.raised();
+    this.raised();
   }
 }
