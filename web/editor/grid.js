@@ -625,7 +625,7 @@ export class GridView {
     event.preventDefault();
     if (event.pointerType !== 'touch') this.#root.focus({ preventScroll: true });
     if (this.tool) {
-      this.#painting = { isOn: !this.#hasTool(index), done: new Set([index]), at: index, last: Promise.resolve() };
+      this.#painting = { tool: this.tool, isOn: !this.#hasTool(index, this.tool), done: new Set([index]), at: index, last: Promise.resolve() };
       this.#painting.last = this.#useTool(index, this.#painting);
       return this.#painting.last;
     }
@@ -646,14 +646,14 @@ export class GridView {
 
   #pressed = null;
 
-  // while a tool is dragged: whether it sets or takes away, and the cells that it was on
+  // while a tool is dragged: which one, whether it sets or takes away, and the cells that it was on
   #painting = null;
 
   // Whether a cell has what the tool makes.
-  #hasTool(index) {
+  #hasTool(index, tool) {
     const { board, pencil } = this.#editor;
     const cell = board.cells[index];
-    return this.tool === 'pencil' ? !pencil.has(cell.coordinates) : cell[this.tool];
+    return tool === 'pencil' ? !pencil.has(cell.coordinates) : cell[tool];
   }
 
   // Paints from the last cell of the drag to this one.
@@ -670,8 +670,8 @@ export class GridView {
 
   // What an image of an earlier cell has made already stays.
   #paintCell(index, painting) {
-    if (this.#hasTool(index) === painting.isOn) return null;
-    return this.tool !== 'pencil' || this.#editor.board.cells[index].letter ? this.#useTool(index, painting) : null;
+    if (this.#hasTool(index, painting.tool) === painting.isOn) return null;
+    return painting.tool !== 'pencil' || this.#editor.board.cells[index].letter ? this.#useTool(index, painting) : null;
   }
 
   // The cells on a line from one cell, which is left out, to another: a fast drag skips some.
@@ -707,7 +707,7 @@ export class GridView {
     this.#pressed = null;
   }
 
-  // What is painted in one stroke is undone as one.
+  // What is painted in one stroke is undone as one, also by a tool that is put away meanwhile.
   #useTool(index, stroke) {
     this.#editor.moveTo(index);
     const tools = {
@@ -717,7 +717,7 @@ export class GridView {
       circle: () => this.toggleCircle(index, stroke),
       pencil: () => this.togglePencil([index], stroke),
     };
-    return tools[this.tool]?.();
+    return tools[stroke.tool]?.();
   }
 }
 

@@ -54,11 +54,16 @@ export class Browser {
     await this.#attach(({ type }) => type === 'page');
   }
 
-  // Connects to the first target that passes a test.
+  // Connects to the first target that passes a test, when it is there.
   async #attach(isWanted) {
-    const targets = await (await fetch(`http://${this.#host}/json/list`)).json();
-    await this.#connect(targets.find(isWanted).webSocketDebuggerUrl);
-    for (const domain of ['Page', 'Runtime', 'Log', 'DOM']) await this.send(`${domain}.enable`);
+    let target;
+    while (!target) {
+      const targets = await (await fetch(`http://${this.#host}/json/list`)).json();
+      target = targets.find(isWanted);
+      if (!target) await new Promise((resolve) => setTimeout(resolve, LOOKS_EACH));
+    }
+    await this.#connect(target.webSocketDebuggerUrl);
+    for (const domain of ['Page', 'Runtime', 'Log', 'DOM', 'Inspector']) await this.send(`${domain}.enable`);
     this.faults = [];
     this.on('Runtime.exceptionThrown', ({ exceptionDetails }) => this.faults.push(exceptionDetails.exception?.description ?? exceptionDetails.text));
     this.on('Log.entryAdded', ({ entry }) => entry.level === 'error' && this.faults.push(entry.text));
@@ -86,6 +91,14 @@ export class Browser {
       this.#socket.onerror = () => reject(new Error('no connection to the browser'));
     });
     this.#socket.onmessage = ({ data }) => this.#take(JSON.parse(data));
+    this.#socket.onclose = () => this.#lose('the browser is gone');
+    this.on('Inspector.targetCrashed', () => this.#lose('the page has crashed'));
+  }
+
+  // Calls that have no answer get none any more.
+  #lose(why) {
+    for (const { reject } of this.#waiting.values()) reject(new Error(why));
+    this.#waiting.clear();
   }
 
   #take({ id, method, params, result, error }) {
@@ -93,8 +106,8 @@ export class Browser {
       for (const listener of this.#events.get(method) ?? []) listener(params);
       return;
     }
-    const { resolve, reject } = this.#waiting.get(id);
-    this.#waiting.delete(id);
+    const { resolve, reject } = this.#waiting.get(id) ?? {};
+    if (!this.#waiting.delete(id)) return;
     if (error) reject(new Error(error.message));
     else resolve(result);
   }
@@ -110,6 +123,7 @@ export class Browser {
 
   send(method, params = {}) {
     const id = ++this.#id;
+    if (this.#socket.readyState !== WebSocket.OPEN) return Promise.reject(new Error('the browser is gone'));
     this.#socket.send(JSON.stringify({ id, method, params }));
     return new Promise((resolve, reject) => this.#waiting.set(id, { resolve, reject }));
   }
@@ -272,12 +286,16 @@ export class Browser {
   }
 
   async close() {
-    const ended = new Promise((resolve) => this.#process.on('exit', resolve));
-    this.send('Browser.close').catch(() => {});
+    const { exitCode, signalCode } = this.#process;
+    const ended = exitCode === null && signalCode === null ? new Promise((resolve) => this.#process.on('exit', resolve)) : null;
+    this.send('Browser.close').catch(() => this.#process.kill());
     await ended;
-    rmSync(this.#folder, { recursive: true, force: true });
+    removeFolder(this.#folder);
   }
 }
+
+// Removes a folder of a browser that has ended. Its helpers may write into it a moment longer.
+export const removeFolder = (folder) => rmSync(folder, { recursive: true, force: true, maxRetries: 50, retryDelay: LOOKS_EACH });
 
 // The keys that the page takes wherever the focus is.
 const ANYWHERE = /^(F\d+|Escape)$|^(Control|Alt)\+/;

@@ -61,13 +61,10 @@ function expect(isSo, what) {
 const page = {
   status: () => browser.value("document.getElementById('status').textContent"),
   facts: () => browser.value("document.getElementById('facts').textContent"),
-  // the letters of a row, with # for a block and . for no entry
-  row: (row) => browser.value(`[...document.querySelectorAll('[id^="cell-${row}-"]')].map((cell) => cell.classList.contains('block') ? '#' :
-    cell.classList.contains('only') ? '.' : cell.querySelector('.letter').textContent || '.').join('')`),
-  rows: async () => {
-    const height = Number(await browser.value("document.getElementById('grid').getAttribute('aria-rowcount')"));
-    return Promise.all(Array.from({ length: height }, (_, at) => page.row(at + 1)));
-  },
+  // the letters of the rows, with # for a block and . for no entry, all as they are at one moment
+  rows: () => browser.value(`[...document.querySelectorAll('#grid .row')].map((row) => [...row.querySelectorAll('.cell')].map((cell) => cell.classList.contains('block') ? '#' :
+    cell.classList.contains('only') ? '.' : cell.querySelector('.letter').textContent || '.').join(''))`),
+  row: async (row) => (await page.rows())[row - 1],
   has: (cell, name) => browser.value(`document.getElementById('cell-${cell}').classList.contains('${name}')`),
   count: (selector) => browser.value(`document.querySelectorAll(${JSON.stringify(selector)}).length`),
   // waits for one of the messages since the last key, click or file, and returns it: others may take its place at once

@@ -3,7 +3,7 @@ import { spawn } from 'node:child_process';
 import { existsSync, mkdtempSync, readFileSync, rmSync, writeFileSync } from 'node:fs';
 import { tmpdir } from 'node:os';
 import { basename, join } from 'node:path';
-import { HANGS, awaitFocus, isLeft, pressOn, waitFor } from './browser.mjs';
+import { HANGS, awaitFocus, isLeft, pressOn, removeFolder, waitFor } from './browser.mjs';
 
 const KEYS = {
   Enter: '\uE006', Tab: '\uE004', Backspace: '\uE003', Delete: '\uE017', Escape: '\uE00C', Home: '\uE011', End: '\uE010', ArrowLeft: '\uE012', ArrowUp: '\uE013',
@@ -32,6 +32,9 @@ class Connection {
       connection.#socket.onopen = resolve;
     });
     connection.#socket.onmessage = ({ data }) => connection.#take(JSON.parse(data));
+    connection.#socket.onclose = () => {
+      for (const { reject } of connection.#waiting.values()) reject(new Error('the browser is gone'));
+    };
     return connection;
   }
 
@@ -226,9 +229,10 @@ export class FirefoxBrowser {
   }
 
   async close() {
-    const ended = new Promise((resolve) => this.process.on('exit', resolve));
+    const { exitCode, signalCode } = this.process;
+    const ended = exitCode === null && signalCode === null ? new Promise((resolve) => this.process.on('exit', resolve)) : null;
     this.process.kill();
     await ended;
-    for (const folder of [this.folder, this.downloads]) rmSync(folder, { recursive: true, force: true });
+    for (const folder of [this.folder, this.downloads]) removeFolder(folder);
   }
 }
