@@ -1499,6 +1499,45 @@ const CASES = {
     await page.factsAre(/built-in list/);
   },
 
+  async 'better fills that come at once'() {
+    writeFileSync(join(room, 'scored.txt'), 'cat;10\ncot;90\ncut;50\near;60\noar;20\ntea;40\ntoe;70\nare;30\ntar;80\nate;55\n');
+    await openFile(join(room, 'scored.txt'));
+    await page.factsAre(/scored.txt, 10 words/);
+    await beginBlank(3, 1);
+    await raiseToTheEnd();
+    // two workers are answered for, and the edit that the first answer leads to is held back
+    await browser.value(`(() => {
+      Object.defineProperty(navigator, 'hardwareConcurrency', { value: 3, configurable: true });
+      window.asked = [];
+      window.isTold = false;
+      const post = Worker.prototype.postMessage;
+      Worker.prototype.postMessage = function (message, transfer) {
+        if (message.call === 'best') window.asked.push((value) => this.dispatchEvent(new MessageEvent('message', { data: { id: message.id, value } })));
+        else if (message.call === 'edit' && window.isTold && !window.heldEdit) window.heldEdit = () => post.call(this, message, transfer);
+        else post.call(this, message, transfer);
+      };
+    })()`);
+    await browser.press('Control+f');
+    await browser.until('window.asked.length === 2');
+    await browser.value(`(() => {
+      window.isTold = true;
+      const [one, other] = window.asked.splice(0);
+      const letters = (word) => [...word].map((letter, at) => 'set 1 ' + (at + 1) + ' ' + letter);
+      one({ answer: 'filled', grade: 91, bound: 101, letters: letters('TAR') });
+      other({ answer: 'filled', grade: 92, bound: 93, letters: letters('TOE') });
+    })()`);
+    await browser.until('window.heldEdit');
+    await browser.value('window.heldEdit()');
+    // the better one is in the grid, and its words are told
+    await page.statusIs(/^filled: worst 70, mean 70; no fill is better than 92$/);
+    expect((await page.row(1)) === 'TOE', `the row is ${await page.row(1)}`);
+    await browser.press('Control+z');
+    await page.factsAre(/· 0 of/);
+    await reload();
+    await menu('built-in');
+    await page.factsAre(/built-in list/);
+  },
+
   async 'the least score, slid'() {
     writeFileSync(join(room, 'scored.txt'), 'cat;10\ncot;90\ncut;50\near;60\noar;20\ntea;40\ntoe;70\nare;30\ntar;80\nate;55\n');
     await openFile(join(room, 'scored.txt'));
@@ -1684,7 +1723,10 @@ const CASES = {
     await browser.click('#tab-puzzle');
     const isOn = (name) => browser.value(`document.querySelector('#lists [data-name="${name}"]').checked`);
     expect((await isOn('two.txt')) && !(await isOn('one.txt')) && !(await isOn('built-in list')), 'other lists are in use');
-    await browser.click('#lists [data-name="one.txt"]');
+    // changes that come at once are all made
+    await browser.value(`['one.txt', 'built-in list'].forEach((name) => document.querySelector('#lists [data-name="' + name + '"]').click())`);
+    await page.factsAre(/3 lists, 63,\d+ words/);
+    await browser.click('#lists [data-name="built-in list"]');
     await page.factsAre(/2 lists, 4 words/);
     // words of one's own: added, graded again, hidden
     await browser.click('#personal-edit');
@@ -1718,6 +1760,12 @@ const CASES = {
     await browser.click('#lists-undo');
     await browser.until("document.querySelector('#lists [data-name=\"one.txt\"]:not(:checked)')");
     await browser.click('#lists-undo');
+    await page.factsAre(/2 lists, 5 words/);
+    await menu('built-in');
+    await page.factsAre(/built-in list, 63,\d+ words/);
+    await browser.click('#lists [data-remove="one.txt"]');
+    await browser.until("!document.querySelector('#lists [data-name=\"one.txt\"]')");
+    await browser.value("document.getElementById('lists-undo').click(), document.getElementById('lists-undo').click()");
     await page.factsAre(/2 lists, 5 words/);
     await menu('built-in');
     await page.factsAre(/built-in list, 63,\d+ words/);
@@ -1876,6 +1924,33 @@ const CASES = {
     await browser.until("!document.querySelector('.bin') && document.querySelectorAll('#library-list .card').length === 1");
     await browser.press('Escape');
     expect((await page.row(1)).startsWith('TONE'), 'the puzzle that is here is gone');
+  },
+
+  async 'a puzzle that is begun while the page starts'() {
+    // the page asks which puzzles other tabs hold, first for drafts and then for those to greet with
+    const unload = await browser.preload(`
+      const { query } = LockManager.prototype;
+      let count = 0;
+      LockManager.prototype.query = async function () {
+        if (++count === 2) await new Promise((resolve) => { window.goOn = resolve; });
+        return query.call(this);
+      };`);
+    try {
+      await reload();
+      await begin(1);
+      await browser.until('window.goOn');
+      await browser.type('tone');
+      await isDrafted(/set 1 4 E/);
+      await browser.value('window.goOn()');
+      await browser.until('window.isRunning');
+      await browser.click('#cell-2-1');
+      await browser.type('a');
+      await isDrafted(/set 2 1 A/);
+      expect(await browser.value("!document.getElementById('warnings').textContent && document.getElementById('kept').dataset.state === 'kept'"), 'the page holds its own puzzle for that of another tab');
+    } finally {
+      await unload();
+      await reload();
+    }
   },
 
   async 'versions of a puzzle'() {
