@@ -349,6 +349,13 @@ function scoredList() {
   return LIST.split('\n').map((word) => `${word};${score(word)}`);
 }
 
+// Has the page use that list.
+async function openGraded() {
+  writeFileSync(join(room, 'graded.txt'), scoredList().join('\n'));
+  await openFile(join(room, 'graded.txt'));
+  await page.statusIs(/^graded.txt: 63,\d+ words/);
+}
+
 // The words of the lights of the grid, as rows tell it.
 function wordsOf(rows) {
   const columns = [...rows[0]].map((_, at) => rows.map((row) => row[at]).join(''));
@@ -1400,9 +1407,7 @@ const CASES = {
   },
 
   async 'a raised fill of a 15 by 15'() {
-    writeFileSync(join(room, 'graded.txt'), scoredList().join('\n'));
-    await openFile(join(room, 'graded.txt'));
-    await page.factsAre(/graded.txt, 63,\d+ words/);
+    await openGraded();
     await begin(1);
     await browser.press('Control+f');
     await page.statusIs(/^filled; its worst word is raised/);
@@ -1426,7 +1431,7 @@ const CASES = {
   },
 
   async 'a raising that ends'() {
-    await page.factsAre(/graded.txt/);
+    await openGraded();
     const startRaising = async () => {
       await begin(1);
       await holdRaising();
@@ -1478,7 +1483,7 @@ const CASES = {
   },
 
   async 'raising by several workers'() {
-    await page.factsAre(/graded.txt/);
+    await openGraded();
     await begin(1);
     await holdRaising();
     await browser.value(`(() => {
@@ -2576,6 +2581,8 @@ async function run(name) {
     console.log(`FAIL ${name}: ${error.message}; the status line: ${await page.status().catch(() => '')}`);
     if (pictures) writeFileSync(join(pictures, 'failed.png'), await browser.picture());
     browser.faults.length = 0;
+    // what the case left open, such as a dialog, is none of the next one
+    await reload().catch(() => {});
     return false;
   }
 }
