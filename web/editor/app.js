@@ -3,6 +3,7 @@ import { Claim } from './claim.js';
 import { CluesView } from './clues.js';
 import { CrossingsView } from './crossings-view.js';
 import { DetailsView } from './details.js';
+import { openDialog } from './dialogs.js';
 import { Editor } from './editor.js';
 import { Figures } from './figures.js';
 import { Files } from './files.js';
@@ -558,7 +559,7 @@ async function step(isBack) {
 }
 
 const ACTIONS = {
-  new: () => $('new-dialog').showModal(),
+  new: () => openDialog($('new-dialog')),
   library: () => library.show(),
   themes: () => themes.show(),
   open: () => pick('.puz,.ipuz,.txt,.xw,.json,.dict'),
@@ -574,7 +575,7 @@ const ACTIONS = {
   print: () => {
     $('print-address').value = keptAddress();
     showPreview();
-    $('print-dialog').showModal();
+    openDialog($('print-dialog'));
   },
   undo: () => step(true),
   redo: () => step(false),
@@ -582,7 +583,7 @@ const ACTIONS = {
   another: () => filler.run(true),
   stop: () => filler.stop(),
   hardest,
-  help: () => $('help-dialog').showModal(),
+  help: () => openDialog($('help-dialog')),
   'next-clue': async () => toClue(null),
   'end-mode': async () => endMode(),
 };

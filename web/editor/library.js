@@ -1,4 +1,5 @@
 // The dialog of puzzles: each can be opened, also as it was before, deleted and restored.
+import { openDialog } from './dialogs.js';
 import { versionsOf, whyNotKept } from './keep.js';
 import { parseRecord, unescapeText } from './record.js';
 
@@ -17,7 +18,7 @@ export class LibraryView {
 
   async show() {
     await this.#showPuzzles();
-    this.#dialog.showModal();
+    openDialog(this.#dialog);
   }
 
   async #showPuzzles() {

@@ -1,4 +1,5 @@
 // The word lists in the tab of the puzzle, and the dialog of the personal list.
+import { openDialog } from './dialogs.js';
 import { joinPersonal, listText, readPersonal } from './word-list.js';
 
 export class ListsView {
@@ -33,7 +34,7 @@ export class ListsView {
   #edit() {
     this.#elements.text.value = this.lists.personal;
     this.#count(this.lists.personal);
-    this.#elements.dialog.showModal();
+    openDialog(this.#elements.dialog);
   }
 
   // Puts the lines of a file behind those of the personal list, and tells which.

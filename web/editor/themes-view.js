@@ -1,4 +1,5 @@
 // The dialog of new grids, with theme entries or without: each grid is judged by the engine before it is chosen.
+import { openDialog } from './dialogs.js';
 import { sketchOf } from './library.js';
 import { bodyOf, parseRecord, wordsOf } from './record.js';
 import { termed } from './terms.js';
@@ -46,7 +47,7 @@ export class ThemesView {
   }
 
   show() {
-    this.#elements.dialog.showModal();
+    openDialog(this.#elements.dialog);
     this.#elements.entries.focus();
   }
 

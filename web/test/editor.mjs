@@ -1785,6 +1785,17 @@ const CASES = {
     await browser.value("document.getElementById('personal-text').value = ''");
     await browser.click('#personal-dialog [value=save]');
     await browser.until("document.getElementById('personal-summary').textContent === 'none yet'");
+    // Esc keeps nothing, also after words were saved
+    await browser.click('#personal-edit');
+    await browser.insert('emu');
+    await browser.press('Escape');
+    await browser.until("!document.getElementById('personal-dialog').open");
+    // changes are made in order, so words that were saved would be there before this list
+    await browser.click('#lists [data-name="two.txt"]');
+    await page.factsAre(/2 lists, 63,\d+ words/);
+    expect((await browser.value("document.getElementById('personal-summary').textContent")) === 'none yet', 'words that were not saved are kept');
+    await menu('built-in');
+    await page.factsAre(/built-in list, 63,\d+ words/);
   },
 
   async 'files that are refused by name'() {
