@@ -160,15 +160,8 @@ export class Browser {
 
   // Waits until an expression is true, or a promise of something true. It is tried at each change of the document, so that what is shown for a
   // moment only is seen too. Returns the value.
-  async until(expression) {
-    const end = Date.now() + HANGS;
-    for (;;) {
-      try {
-        return await this.value(waitFor(expression, end - Date.now()));
-      } catch (error) {
-        if (!isLeft(error)) throw error;
-      }
-    }
+  until(expression) {
+    return untilTrue(this, expression);
   }
 
   // Presses a key, such as `a`, `Enter` or `Control+z`, and holds it for some milliseconds.
@@ -382,10 +375,22 @@ async function isMade(browser) {
 }
 
 // Whether a call failed since the page was left meanwhile.
-export const isLeft = ({ message }) => /navigated|context was destroyed|Cannot find context|no such frame|AbortError|unload|aborted|discarded|destroyed|MessageHandler/i.test(message);
+const isLeft = ({ message }) => /navigated|context was destroyed|Cannot find context|no such frame|AbortError|unload|aborted|discarded|destroyed|MessageHandler/i.test(message);
+
+// Waits until an expression in the page of a browser is true, and returns its value.
+export async function untilTrue(browser, expression) {
+  const end = Date.now() + HANGS;
+  for (;;) {
+    try {
+      return await browser.value(waitFor(expression, end - Date.now()));
+    } catch (error) {
+      if (!isLeft(error)) throw error;
+    }
+  }
+}
 
 // The expression of a promise that is kept once another expression is true.
-export const waitFor = (expression, most) => `new Promise((resolve, reject) => {
+const waitFor = (expression, most) => `new Promise((resolve, reject) => {
   let fault = '';
   const wanted = async () => (${expression});
   const end = (action, value) => {

@@ -3,7 +3,7 @@ import { spawn } from 'node:child_process';
 import { existsSync, mkdtempSync, readFileSync, rmSync, writeFileSync } from 'node:fs';
 import { tmpdir } from 'node:os';
 import { basename, join } from 'node:path';
-import { HANGS, awaitFocus, isLeft, pressOn, removeFolder, waitFor } from './browser.mjs';
+import { awaitFocus, pressOn, removeFolder, untilTrue } from './browser.mjs';
 
 const KEYS = {
   Enter: '\uE006', Tab: '\uE004', Backspace: '\uE003', Delete: '\uE017', Escape: '\uE00C', Home: '\uE011', End: '\uE010', ArrowLeft: '\uE012', ArrowUp: '\uE013',
@@ -137,15 +137,8 @@ export class FirefoxBrowser {
     return told.result.value === undefined ? undefined : JSON.parse(told.result.value);
   }
 
-  async until(expression) {
-    const end = Date.now() + HANGS;
-    for (;;) {
-      try {
-        return await this.value(waitFor(expression, end - Date.now()));
-      } catch (error) {
-        if (!isLeft(error)) throw error;
-      }
-    }
+  until(expression) {
+    return untilTrue(this, expression);
   }
 
   #actions(...sources) {
