@@ -308,7 +308,11 @@ const middlesOf = (selectors) => `(async () => {
     return elements.map((element) => element.getBoundingClientRect()).map(({ x, y, width, height }) => (width ? { x: x + width / 2, y: y + height / 2 } : null));
   };
   const one = middles();
-  await new Promise((resolve) => requestAnimationFrame(() => requestAnimationFrame(resolve)));
+  await new Promise((resolve) => {
+    requestAnimationFrame(() => requestAnimationFrame(resolve));
+    // a page behind others has no frames
+    if (document.hidden) setTimeout(resolve, ${LOOKS_EACH});
+  });
   const other = middles();
   return other.every(Boolean) && JSON.stringify(one) === JSON.stringify(other) ? other : null;
 })()`;
