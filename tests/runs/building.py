@@ -8,12 +8,14 @@ import subprocess
 from documents import TOP
 from steps import ACCEPTED, FAILED, SECONDS, compare
 
-# The commands of the kit that a build calls. Each makes the file after -o. The prover fails on a crate with a file named `wrong`.
+# The commands of the kit that a build calls. Each makes the file after -o. The prover fails on a crate with a file named `wrong`, and waits as long
+# as there is one named `held`.
 RT = """#!/bin/sh
 case $1 in version) echo none ;; doc) echo "$KIT/START-HERE.md" ;; esac
 """
 PROVER = """#!/bin/sh
 [ ! -e wrong ] || { echo "this crate is wrong"; exit 1; }
+while [ -e held ]; do sleep 0.1; done
 until [ "$1" = -o ]; do shift; done
 mkdir -p "$(dirname "$2")"
 printf '#!/bin/sh\\necho built\\n' >"$2"
@@ -37,9 +39,12 @@ def tree(room, program):
         shutil.copy(TOP / name, room / "top" / name)
 
 
-def call(room, *words, **more):
-    environment = {"PATH": f"{room}/bin:{os.environ['PATH']}", "KIT": str(room / "kit"), **more.pop("env", {})}
-    return subprocess.run([room / "top/build", *words], env=environment, timeout=SECONDS, **more)
+def call(room, *words, env=None, **more):
+    return subprocess.run([room / "top/build", *words], env=environment(room, env), timeout=SECONDS, **more)
+
+
+def environment(room, more=None):
+    return {"PATH": f"{room}/bin:{os.environ['PATH']}", "KIT": str(room / "kit"), **(more or {})}
 
 
 def lines_without_times(text):
@@ -59,20 +64,27 @@ def tells_a_line_a_crate(room, program):
 
 
 def overwrites_a_line(room, program):
-    """On a terminal no crate has a line of its own."""
+    """On a terminal the progress is one line. Each time its rest is erased, and the terminal cuts off what is too long for it."""
+    held = room / "top/crates/low/held"
+    held.touch()
     terminal, other = pty.openpty()
-    ended = call(room, "program", stderr=other)
-    os.close(other)
-    told = b""
-    try:
-        while more := os.read(terminal, 4096):
-            told += more
-    except OSError:
-        pass  # the other end is closed
-    os.close(terminal)
-    compare("status", ended.returncode, ACCEPTED)
-    lines = [line for line in lines_without_times(told) if line and not re.search(r"of 2 crates proved; TIME", line)]
-    compare("lines", lines, [BEGIN, "xw: built in TIME"])
+    with subprocess.Popen([room / "top/build", "program"], env=environment(room), stderr=other) as build:
+        os.close(other)
+        told = b""
+        try:
+            while more := os.read(terminal, 4096):
+                told += more
+                if told.count(b"0 of 2 crates proved") >= 2:
+                    held.unlink(missing_ok=True)
+        except OSError:
+            pass  # the other end is closed
+        os.close(terminal)
+        compare("status", build.wait(timeout=SECONDS), ACCEPTED)
+    begin, progress, *rest = re.sub(r"\d+ min \d\d s", "TIME", told.decode()).split("\r\n")
+    compare("other lines", (begin, rest), (BEGIN, ["xw: built in TIME", ""]))
+    first, *times = progress.split("\r")
+    odd = [time for time in times if not re.fullmatch(r"\x1b\[\?7l\x1b\[Kxw: [012] of 2 crates proved; TIME(, \w+)*\x1b\[\?7h", time)]
+    compare("progress", (first, odd, times[1]), ("", [], "\x1b[?7l\x1b[Kxw: 0 of 2 crates proved; TIME, low\x1b[?7h"))
 
 
 def shows_what_failed(room, program):
