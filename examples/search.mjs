@@ -3,17 +3,20 @@
 //
 //   node examples/search.mjs WORDS RECORD [K]
 //
-// RECORD is a file of commands, such as examples/themeless15.xw or what `--save` wrote, and K is the number of placements of a slice. A
-// line on standard input stops the search, and so does its end. The last line is `filled`, `nofill` or `stopped`; after `filled` the grid
+// RECORD is a file of commands, such as examples/themeless15.xw or what `--save` wrote, and K is the number of placements of the first slices.
+// A line on standard input stops the search, and so does its end. The last line is `filled`, `nofill` or `stopped`; after `filled` the grid
 // stands above it. It needs ./build web.
 import { readFileSync } from 'node:fs';
 import { Xw, load } from '../web/dist/xw.js';
 
-// Fills the grid in slices of so many placements. Returns `filled`, `nofill`, or `stopped` once the signal is aborted.
+// After so many slices they get twice as long. Each slice begins at the grid, so one that is too short for a hard grid never ends the search.
+const SLICES = 5;
+
+// Fills the grid in slices, the first ones of so many placements. Returns `filled`, `nofill`, or `stopped` once the signal is aborted.
 export async function search(xw, placements, signal, seed = 0) {
-  for (;;) {
-    // goes on where the slice before it ended
-    const [answer] = xw.line(`autofill ${placements} ${seed}`).lines;
+  for (let slice = 0; ; slice++) {
+    // goes on with what the slices before it learned
+    const [answer] = xw.line(`autofill ${placements * 2 ** Math.floor(slice / SLICES)} ${seed}`).lines;
     if (answer !== 'limit') return answer;
     // other events come between two slices, such as a click on a stop button or a message to the worker
     await new Promise((next) => setTimeout(next));

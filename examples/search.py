@@ -3,8 +3,8 @@
 
 usage: examples/search.py WORDS RECORD [--slice K] [--xw PROGRAM]
 
-RECORD is a file of commands, such as examples/themeless15.xw or what `--save` wrote. A line on standard input stops the search, and so does
-its end. The last line is `filled`, `nofill` or `stopped`; after `filled` the grid stands above it.
+RECORD is a file of commands, such as examples/themeless15.xw or what `--save` wrote. The first slices have K placements. A line on standard
+input stops the search, and so does its end. The last line is `filled`, `nofill` or `stopped`; after `filled` the grid stands above it.
 """
 import argparse
 import itertools
@@ -16,6 +16,8 @@ import sys
 TOP = pathlib.Path(__file__).resolve().parent.parent
 # With another seed the search takes another way, and may fill the grid otherwise.
 SEED = 0
+# After so many slices they get twice as long. Each slice begins at the grid, so one that is too short for a hard grid never ends the search.
+SLICES = 5
 
 
 class Session(subprocess.Popen):
@@ -46,12 +48,13 @@ def is_stopped():
 
 
 def search(session, placements, is_stopped):
-    """Fills the grid in slices of so many placements. Returns `filled`, `nofill` or `stopped`."""
-    for number in itertools.count(1):
-        (answer,) = session.ask(f"autofill {placements} {SEED}")  # goes on where the slice before it ended
+    """Fills the grid in slices, the first ones of so many placements. Returns `filled`, `nofill` or `stopped`."""
+    for number in itertools.count():
+        # goes on with what the slices before it learned
+        (answer,) = session.ask(f"autofill {placements * 2 ** (number // SLICES)} {SEED}")
         if answer != "limit":
             return answer
-        print(f"slice {number}: no fill yet", file=sys.stderr)
+        print(f"slice {number + 1}: no fill yet", file=sys.stderr)
         if is_stopped():
             return "stopped"
 
@@ -60,7 +63,7 @@ def main():
     parser = argparse.ArgumentParser(description=__doc__, formatter_class=argparse.RawDescriptionHelpFormatter)
     parser.add_argument("words", help="a word list")
     parser.add_argument("record", help="the commands that make the grid")
-    parser.add_argument("--slice", metavar="K", type=int, default=2000, help="placements of a slice (default: %(default)s)")
+    parser.add_argument("--slice", metavar="K", type=int, default=2000, help="placements of the first slices (default: %(default)s)")
     parser.add_argument("--xw", metavar="PROGRAM", default=TOP / "xw", help="the program (default: %(default)s)")
     options = parser.parse_args()
     with Session(options.xw, options.words, options.record) as session:
