@@ -146,9 +146,9 @@ uint32_t xw_resume(struct xw *xw, const uint8_t *record, size_t record_length);
  * If there is no memory for the command itself, it is refused like any other: XW_REFUSED, and "no Memory".
  *
  * Time, in a grid of 15 by 15 with 280,000 words: an edit of a letter takes some hundredths of a millisecond, and a query at most some
- * milliseconds. But `choices` takes some 0.1 ms for each word that it lists, and `why` up to 0.2 s. A search takes as long as its number of
- * placements allows, and cannot be stopped while it runs: send `autofill` with 1,000 to 3,000 placements, 0.1 to 0.3 s, again and again
- * (docs/embedding.md, "Searches").
+ * milliseconds. But `choices` takes 0.1 to 1 ms for each word that it lists, and `suggest` and `why` take up to 0.2 s. A search takes as long as
+ * its number of placements allows, and cannot be stopped while it runs: send `autofill` with 1,000 to 3,000 placements, 0.1 to 0.3 s, again and
+ * again (docs/embedding.md, "Searches").
  */
 uint32_t xw_line(struct xw *xw, const uint8_t *line, size_t line_length);
 
