@@ -1,4 +1,4 @@
-// Fills: `autofill` in slices, so that one can be stopped. Each slice goes on where the last one ended. A search that is not done soon goes on in
+// Fills: `autofill` in slices, so that one can be stopped. Each slice goes on with what the last one learned. A search that is not done soon goes on in
 // other workers too, each with a seed of its own; the first `filled` or `nofill` ends all. If the words have scores, the fill is raised then.
 import { refuse, say } from './messages.js';
 import { Raiser } from './raising.js';

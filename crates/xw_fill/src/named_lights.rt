@@ -264,8 +264,9 @@ fn effort_of<'a>(
 /// letters. The seed decides the order of ties, so another seed leads to another fill. The state changes only for
 /// `Filled`.
 ///
-/// A search that ends with `Limit` leaves a hint. The next search with the same names and seed continues from it, so a
-/// search in slices gets as far as a single one. Pass `None`, or the hint of a search from the same state: the answer
+/// A search that ends with `Limit` leaves a hint: which lights fail, and how long runs are. The next search with the
+/// same names and seed continues with it, from the grid as it stands. So slices that get longer come about as far as a
+/// single search. Pass `None`, or the hint of a search from the same state: the answer
 /// depends on the state, the names, the limit, the seed and the hint alone. An error leaves the hint as it was.
 ///
 /// Returns `NoLight` if one of the names belongs to no light, and `Memory` if an allocation fails.
