@@ -146,6 +146,7 @@ fn put_chunk(column: &mut BitRow, chunk: usize, word: u64)
         column.set_chunk(chunk, word);
     }
 }
+
 /// Writes the 64 words of a chunk to the columns of a position.
 fn put_position(
     columns: &mut [BitRow],
