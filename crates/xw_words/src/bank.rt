@@ -323,23 +323,12 @@ impl Bank {
         ensures answer { result ≢ Err WordFault.Memory → result ≡ reserve_answer self.old.words len }
         ensures memory { result ≡ Err WordFault.Memory → IsOk (reserve_answer self.old.words len) }
     {
-        self.make_room(len, 0)
-    }
-
-    /// Like `reserve`, but if the row has to grow, it grows to at least `expected` words in total.
-    pub(crate) fn make_room(&mut self, len: usize, expected: usize) -> Result<(), WordFault>
-        ensures words { self.new.words ≡ self.old.words }
-        ensures room { OnOk result (has_room self.new len ≡ true) }
-        ensures kept { KeepsRoom self.old self.new }
-        ensures answer { result ≢ Err WordFault.Memory → result ≡ reserve_answer self.old.words len }
-        ensures memory { result ≡ Err WordFault.Memory → IsOk (reserve_answer self.old.words len) }
-    {
         judge_length(len)?;
         let row = &mut self.rows[len];
         if row.len() >= MOST_WORDS {
             return Err(WordFault::Full);
         }
-        row.reserve(self.alloc, expected)
+        row.reserve(self.alloc)
     }
 
     /// Adds a word that is not known, in reserved room, and returns its index. Its grade is as

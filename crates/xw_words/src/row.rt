@@ -223,7 +223,7 @@ impl Row {
         if index >= MOST_WORDS {
             return Err(WordFault::Full);
         }
-        self.reserve(alloc, 0)?;
+        self.reserve(alloc)?;
         self.add_reserved(word, grade, least);
         Ok(Added::New(index))
     }
@@ -242,9 +242,8 @@ impl Row {
         self.table.strike(bytes)
     }
 
-    /// Reserves room for one more word. If the row has to grow, it grows to at least `expected`
-    /// words in total.
-    pub fn reserve(&mut self, alloc: Global, expected: usize) -> Result<(), WordFault>
+    /// Reserves room for one more word.
+    pub fn reserve(&mut self, alloc: Global) -> Result<(), WordFault>
         requires few { length self.old.entries < most_words }
         requires long { 2 ≤ self.old.word_len }
         ensures word_len { self.new.word_len ≡ self.old.word_len }
@@ -256,7 +255,7 @@ impl Row {
         if self.table.has_room() {
             return Ok(());
         }
-        let words = grown(self.table.len(), expected);
+        let words = grown(self.table.len());
         let many = LETTERS * self.table.word_len();
         grow_columns(alloc, &mut self.columns, many, words)?;
         self.table.reserve(alloc, words)?;

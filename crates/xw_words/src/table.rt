@@ -30,15 +30,14 @@ pub const BEST_GRADE: u8 = 100;
 const LEAST_GROWTH: usize = 64;
 
 /// The capacity to grow to when `known` words are known: an eighth more, but at least
-/// `LEAST_GROWTH` more, or `expected` if that is greater; at most `MOST_WORDS`. So little room stays
-/// unused, and each word moves only a few times.
-pub fn grown(known: usize, expected: usize) -> usize
+/// `LEAST_GROWTH` more; at most `MOST_WORDS`. So little room stays unused, and each word moves only a
+/// few times.
+pub fn grown(known: usize) -> usize
     requires { known < most_words }
     ensures more { known < result }
     ensures few { result ≤ most_words }
 {
-    let more = known + (known / 8).max(LEAST_GROWTH);
-    more.max(expected).min(MOST_WORDS)
+    (known + (known / 8).max(LEAST_GROWTH)).min(MOST_WORDS)
 }
 
 /// Reserves room for `words` words in total.
@@ -508,7 +507,7 @@ impl Table {
             return Err(WordFault::Full);
         }
         if !self.has_room() {
-            self.reserve(alloc, grown(known, 0))?;
+            self.reserve(alloc, grown(known))?;
         }
         Ok(())
     }
