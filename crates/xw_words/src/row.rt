@@ -1,17 +1,17 @@
 //! The known words of one length, with their columns.
 ghost use Rattle.xw_bits.specs.Bits.{has_bit};
-ghost use Rattle.xw_words.specs.Columns.{has_letter, has_one_of, is_active, AreFits, IsColumn, AreColumns};
+ghost use Rattle.xw_words.specs.Columns.{has_letter, has_one_of, AreFits, IsColumn, AreColumns};
 ghost use Rattle.xw_words.specs.Matching.{HasFits};
-ghost use Rattle.std.specs.Prelude.{◌≡◌, ℕ, ◌+◌, ◌*◌, ◌<◌, ◌≤◌, ◌||◌, ◌==◌, Bool, true, false, None, [], ◌∷◌, ◌++◌, length, slice_index_or, slice_set, take, map, position, OnOk, OnErr, IfOk, IfErr, IfSome, IfNone, ◌≢◌, vec_len, vec_capacity};
-ghost use Rattle.xw_words.specs.Dictionary.{entry_at, index_in, add_to, added_at, with_added, strike_from, IsNew, most_words, all_limited, grade_left, new_entry, returned, with_struck};
-ghost use Rattle.xw_words.specs.Row.{no_marks, are_left, entry_of};
+ghost use Rattle.std.specs.Prelude.{◌≡◌, ℕ, ◌+◌, ◌*◌, ◌<◌, ◌≤◌, ◌||◌, ◌==◌, true, false, None, [], ◌∷◌, ◌++◌, length, map, position, OnOk, OnErr, IfOk, IfErr, IfSome, IfNone, ◌≢◌};
+ghost use Rattle.xw_words.specs.Dictionary.{index_in, add_to, added_at, with_added, strike_from, IsNew, most_words, all_limited, new_entry, with_struck};
 ghost use Rattle.xw_letters.specs.Letter.{folded};
 ghost use Rattle.xw_words.specs.Word.{is_bad_letter, is_bad_in_pattern};
 
 use crate::bank::Added;
 use crate::columns::{LETTERS, columns_of, grow_columns, push_word};
 use crate::fault::WordFault;
-use crate::table::{MOST_WORDS, Table, grown};
+use crate::table::growing::grown;
+use crate::table::{MOST_WORDS, Table};
 use crate::word::{LONGEST, spell};
 use std::alloc::{AllocError, Global};
 use std::marker::Model;

@@ -1,10 +1,12 @@
 //! The known words of one length, without their columns.
+pub mod growing;
+mod limiting;
+
 ghost use Rattle.xw_bits.specs.Bits.{has_bit};
 ghost use Rattle.xw_words.specs.Columns.{is_active};
-ghost use Rattle.std.specs.Prelude.{◌≡◌, ℕ, ◌+◌, ◌*◌, ◌<◌, ◌≤◌, Bool, true, false, None, All, [], ◌∷◌, ◌++◌, length, slice_index_or, slice_set, take, map, position, OnOk, OnErr, IfOk, IfErr, ◌≢◌, ◌⊎◌, nat_lt, vec_len, vec_capacity};
-ghost use Rattle.xw_words.specs.Dictionary.{entry_at, index_in, add_to, added_at, with_added, strike_from, IsNew, most_words, all_limited, grade_left, is_left as is_left_in, is_turned as is_turned_in, new_entry, returned, with_struck};
-ghost use Rattle.std.specs.List.{list_any};
-ghost use Rattle.xw_words.specs.Row.{no_marks, are_left, entry_of};
+ghost use Rattle.std.specs.Prelude.{◌≡◌, ℕ, ◌+◌, ◌*◌, ◌<◌, ◌≤◌, true, false, None, All, [], ◌∷◌, ◌++◌, length, slice_index_or, slice_set, map, position, OnOk, OnErr, IfOk, ◌≢◌, vec_len, vec_capacity};
+ghost use Rattle.xw_words.specs.Dictionary.{entry_at, index_in, add_to, added_at, with_added, strike_from, most_words, grade_left, new_entry, returned, with_struck};
+ghost use Rattle.xw_words.specs.Row.{entry_of};
 ghost use Rattle.xw_words.specs.Index.{word_in};
 ghost use Rattle.xw_letters.specs.Letter.{folded};
 ghost use Rattle.xw_words.specs.Word.{is_bad_letter};
@@ -15,7 +17,7 @@ use crate::index::Index;
 use crate::marks::Marks;
 use crate::weights::Weights;
 use crate::word::{LONGEST, spell};
-use std::alloc::{AllocError, Global};
+use std::alloc::Global;
 use std::marker::Model;
 use xw_bits::bit_row::BitRow;
 use xw_letters::letter::Letter;
@@ -25,50 +27,6 @@ pub const MOST_WORDS: usize = 1048576;
 
 /// The greatest grade of a word.
 pub const BEST_GRADE: u8 = 100;
-
-/// The least number of words by which a row grows.
-const LEAST_GROWTH: usize = 64;
-
-/// The capacity to grow to when `known` words are known: an eighth more, but at least
-/// `LEAST_GROWTH` more; at most `MOST_WORDS`. So little room stays unused, and each word moves only a
-/// few times.
-pub fn grown(known: usize) -> usize
-    requires { known < most_words }
-    ensures more { known < result }
-    ensures few { result ≤ most_words }
-{
-    (known + (known / 8).max(LEAST_GROWTH)).min(MOST_WORDS)
-}
-
-/// Reserves room for `words` words in total.
-fn reserve_words(
-    active: &mut BitRow,
-    marks: &mut Vec<Marks>,
-    letters: &mut Vec<Letter>,
-    word_len: usize,
-    words: usize,
-) -> Result<(), AllocError>
-    requires more { length active.old.bits ≤ words }
-    requires few { words ≤ most_words }
-    requires short { word_len ≤ 255 }
-    requires letters { length letters.old.items ≡ length active.old.bits * word_len }
-    requires marks { length marks.old.items ≡ length active.old.bits }
-    ensures bits { active.new.bits ≡ active.old.bits }
-    ensures room_stays { active.old.room ≤ active.new.room }
-    ensures marks_stay { marks.new.items ≡ marks.old.items }
-    ensures marks_capacity { vec_capacity marks.old ≤ vec_capacity marks.new }
-    ensures items { letters.new.items ≡ letters.old.items }
-    ensures capacity { vec_capacity letters.old ≤ vec_capacity letters.new }
-    ensures room { OnOk result (words ≤ active.new.room) }
-    ensures marks_room { OnOk result (words ≤ vec_capacity marks.new) }
-    ensures letters_room { OnOk result (words * word_len ≤ vec_capacity letters.new) }
-{
-    let more = words - active.len();
-    active.reserve(words)?;
-    marks.reserve_exact(more)?;
-    letters.reserve_exact(more * word_len)?;
-    Ok(())
-}
 
 /// Appends a word's letters within the capacity.
 fn append(letters: &mut Vec<Letter>, word: &[Letter])
@@ -95,39 +53,6 @@ fn grade_or(least: u8, given: Option<u8>, usual: u8) -> u8
     match given {
         Some(grade) => grade.min(BEST_GRADE).max(least),
         None => usual.max(least),
-    }
-}
-
-/// Whether a word with these marks is not struck and not below a grade.
-fn is_left(marks: Marks, least: u8) -> bool
-    ensures { result ≡ are_left least marks }
-{
-    !marks.struck & (least <= marks.grade)
-}
-
-/// A bit for each of at most 64 words: whether it is not struck and not below a grade. The first word is
-/// the lowest bit. It has no branch on a word, since no processor could predict it.
-fn left_bits(marks: &[Marks], least: u8) -> u64
-    requires { length marks.now ≤ 64 }
-    ensures { (k : ℕ) → k < length marks.now → has_bit result k ≡ are_left least (slice_index_or marks.now k no_marks) }
-{
-    let mut bits = 0;
-    for k in 0..marks.len() {
-        bits |= u64::from(is_left(marks[k], least)) << k;
-    }
-    bits
-}
-
-/// Sets the flag of each word that is not struck and not below a grade, and clears the others.
-fn limit_flags(active: &mut BitRow, marks: &[Marks], least: u8)
-    requires { length active.old.bits ≡ length marks.now }
-    ensures bits { active.new.bits ≡ map (are_left least) marks.now }
-    ensures room { active.new.room ≡ active.old.room }
-{
-    for chunk in 0..marks.len().div_ceil(64) {
-        let first = 64 * chunk;
-        let end = marks.len().min(first + 64);
-        active.set_chunk(chunk, left_bits(&marks[first..end], least));
     }
 }
 
@@ -308,66 +233,6 @@ impl Table {
         self.marks[index]
     }
 
-    /// Makes the words active that are not struck and not below a grade, and no others.
-    pub fn limit(&mut self, least: u8)
-        ensures entries { self.new.entries ≡ all_limited least self.old.entries }
-        ensures word_len { self.new.word_len ≡ self.old.word_len }
-        ensures reserved { self.new.reserved ≡ self.old.reserved }
-    {
-        limit_flags(&mut self.active, self.marks.as_slice(), least);
-    }
-
-    /// A bit for each word of a chunk of 64 words: whether it is not struck and not below a grade. The
-    /// first word is the lowest bit.
-    fn left_chunk(&self, chunk: usize, least: u8) -> u64
-        requires { 64 * chunk < length self.now.entries }
-        ensures { (k : ℕ) → k < 64 → 64 * chunk + k < length self.now.entries → has_bit result k ≡ is_left_in least (entry_at self.now.entries (64 * chunk + k)) }
-    {
-        let known = self.len();
-        let first = 64 * chunk;
-        left_bits(&self.marks[first..known.min(first + 64)], least)
-    }
-
-    /// Whether word `index` is active but would be left out at this least grade, or the other way round.
-    fn is_turned(&self, index: usize, least: u8) -> bool
-        requires { index < length self.now.entries }
-        ensures { result ≡ is_turned_in least (entry_at self.now.entries index) }
-    {
-        let left = is_left(self.marks(index), least);
-        if self.is_active(index) { !left } else { left }
-    }
-
-    /// Whether one of a chunk of 64 words is active but would be left out at this least grade, or the other way round. It
-    /// looks at single words only if there is one.
-    fn turns_chunk(&self, chunk: usize, least: u8) -> bool
-        requires { 64 * chunk < length self.now.entries }
-        ensures yes { result ≡ true → list_any (is_turned_in least) self.now.entries ≡ true }
-        ensures no { result ≡ false → (k : ℕ) → 64 * chunk ≤ k → k < 64 * chunk + 64 → k < length self.now.entries → is_turned_in least (entry_at self.now.entries k) ≡ false }
-    {
-        if self.left_chunk(chunk, least) == self.active_chunk(chunk) {
-            return false;
-        }
-        let known = self.len();
-        for index in 64 * chunk..known.min(64 * chunk + 64) {
-            if self.is_turned(index, least) {
-                return true;
-            }
-        }
-        false
-    }
-
-    /// Whether a word is active but would be left out at this least grade, or the other way round.
-    pub fn turns(&self, least: u8) -> bool
-        ensures { result ≡ list_any (is_turned_in least) self.now.entries }
-    {
-        for chunk in 0..self.len().div_ceil(64) {
-            if self.turns_chunk(chunk, least) {
-                return true;
-            }
-        }
-        false
-    }
-
     /// The index of a word, active or not.
     pub fn find(&self, word: &[Letter]) -> Option<usize>
         ensures { result ≡ index_in self.now.entries word.now }
@@ -491,66 +356,6 @@ impl Table {
                 Ok(Added::New(index))
             }
         }
-    }
-
-    /// Reserves room for one more word, unless there is some.
-    fn make_room(&mut self, alloc: Global) -> Result<(), WordFault>
-        requires long { 2 ≤ self.old.word_len }
-        ensures word_len { self.new.word_len ≡ self.old.word_len }
-        ensures entries { self.new.entries ≡ self.old.entries }
-        ensures room { OnOk result (length self.new.entries < self.new.reserved) }
-        ensures full { result ≡ Err WordFault.Full → most_words ≤ length self.old.entries }
-        ensures fault { IfErr result (λ fault. (fault ≡ WordFault.Full) ⊎ (fault ≡ WordFault.Memory)) }
-    {
-        let known = self.len();
-        if known >= MOST_WORDS {
-            return Err(WordFault::Full);
-        }
-        if !self.has_room() {
-            self.reserve(alloc, grown(known))?;
-        }
-        Ok(())
-    }
-
-    /// Whether there is reserved room for one more word.
-    pub fn has_room(&self) -> bool
-        ensures { result ≡ nat_lt (length self.now.entries) self.now.reserved }
-    {
-        self.active.len() < self.reserved
-    }
-
-    /// Reserves room for so many words, if there are none yet. If the allocation fails, the table grows in steps.
-    pub fn expect(&mut self, alloc: Global, words: usize)
-        requires long { 2 ≤ self.old.word_len }
-        ensures word_len { self.new.word_len ≡ self.old.word_len }
-        ensures entries { self.new.entries ≡ self.old.entries }
-    {
-        if self.len() == 0 && words > 0 {
-            let _ = self.reserve(alloc, words.min(MOST_WORDS));
-        }
-    }
-
-    /// Reserves room for `words` words in total.
-    pub fn reserve(&mut self, alloc: Global, words: usize) -> Result<(), AllocError>
-        requires more { length self.old.entries < words }
-        requires few { words ≤ most_words }
-        requires long { 2 ≤ self.old.word_len }
-        ensures word_len { self.new.word_len ≡ self.old.word_len }
-        ensures entries { self.new.entries ≡ self.old.entries }
-        ensures ok { OnOk result (self.new.reserved ≡ words) }
-        ensures err { OnErr result (self.new.reserved ≡ self.old.reserved) }
-    {
-        self.index
-            .reserve(alloc, &self.letters, self.word_len, words)?;
-        reserve_words(
-            &mut self.active,
-            &mut self.marks,
-            &mut self.letters,
-            self.word_len,
-            words,
-        )?;
-        self.reserved = words;
-        Ok(())
     }
 
     /// Appends a word that is not known, in reserved room.

@@ -5,7 +5,7 @@ use Rattle.xw_bits.specs.Bits.{has_bit}
 use Rattle.xw_bits.proofs.BitLemmas.{has_bit-none, has_bit-set}
 use Rattle.xw_words.specs.Row.{no_marks, are_left}
 use Rattle.xw_words.proofs.Sieving.{has_bit-or}
-use Rattle.xw_words.proofs.table.left_bits.Goals as goal
+use Rattle.xw_words.proofs.table.limiting.left_bits.Goals as goal
 
 pub loop-k-init : goal.loop-k-init
 loop-k-init c = record { done = λ j lt. absurd (omega arith); left = λ j le. has_bit-none j }

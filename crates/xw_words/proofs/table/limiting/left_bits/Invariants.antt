@@ -1,7 +1,7 @@
 use Rattle.std.proofs.Common.{◌≡◌, ℕ, ◌<◌, ◌≤◌, false, get_or}
 use Rattle.xw_bits.specs.Bits.{has_bit}
 use Rattle.xw_words.specs.Row.{no_marks, are_left}
-use Rattle.xw_words.proofs.table.left_bits.Given as goal
+use Rattle.xw_words.proofs.table.limiting.left_bits.Given as goal
 
 -- the bits of the words so far are right, and the others are clear
 abbrev pub invariant-loop-k : goal.invariant-loop-k

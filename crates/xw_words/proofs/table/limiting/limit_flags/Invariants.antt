@@ -1,6 +1,6 @@
 use Rattle.std.proofs.Common.{◌≡◌, ℕ, ◌*◌, ◌<◌, false, length, get_or}
 use Rattle.xw_words.specs.Row.{no_marks, are_left}
-use Rattle.xw_words.proofs.table.limit_flags.Given as goal
+use Rattle.xw_words.proofs.table.limiting.limit_flags.Given as goal
 
 -- the flags of the chunks so far are right
 abbrev pub invariant-loop-chunk : goal.invariant-loop-chunk

@@ -1,0 +1,117 @@
+//! Reserves room for words.
+ghost use Rattle.std.specs.Prelude.{◌≡◌, ◌⊎◌, ◌*◌, ◌<◌, ◌≤◌, length, nat_lt, OnOk, OnErr, IfErr, vec_capacity};
+ghost use Rattle.xw_words.specs.Dictionary.{most_words};
+
+use crate::fault::WordFault;
+use crate::marks::Marks;
+use crate::table::{MOST_WORDS, Table};
+use std::alloc::{AllocError, Global};
+use xw_bits::bit_row::BitRow;
+use xw_letters::letter::Letter;
+
+/// The least number of words by which a row grows.
+const LEAST_GROWTH: usize = 64;
+
+/// The capacity to grow to when `known` words are known: an eighth more, but at least
+/// `LEAST_GROWTH` more; at most `MOST_WORDS`. So little room stays unused, and each word moves only a
+/// few times.
+pub fn grown(known: usize) -> usize
+    requires { known < most_words }
+    ensures more { known < result }
+    ensures few { result ≤ most_words }
+{
+    (known + (known / 8).max(LEAST_GROWTH)).min(MOST_WORDS)
+}
+
+/// Reserves room for `words` words in total.
+fn reserve_words(
+    active: &mut BitRow,
+    marks: &mut Vec<Marks>,
+    letters: &mut Vec<Letter>,
+    word_len: usize,
+    words: usize,
+) -> Result<(), AllocError>
+    requires more { length active.old.bits ≤ words }
+    requires few { words ≤ most_words }
+    requires short { word_len ≤ 255 }
+    requires letters { length letters.old.items ≡ length active.old.bits * word_len }
+    requires marks { length marks.old.items ≡ length active.old.bits }
+    ensures bits { active.new.bits ≡ active.old.bits }
+    ensures room_stays { active.old.room ≤ active.new.room }
+    ensures marks_stay { marks.new.items ≡ marks.old.items }
+    ensures marks_capacity { vec_capacity marks.old ≤ vec_capacity marks.new }
+    ensures items { letters.new.items ≡ letters.old.items }
+    ensures capacity { vec_capacity letters.old ≤ vec_capacity letters.new }
+    ensures room { OnOk result (words ≤ active.new.room) }
+    ensures marks_room { OnOk result (words ≤ vec_capacity marks.new) }
+    ensures letters_room { OnOk result (words * word_len ≤ vec_capacity letters.new) }
+{
+    let more = words - active.len();
+    active.reserve(words)?;
+    marks.reserve_exact(more)?;
+    letters.reserve_exact(more * word_len)?;
+    Ok(())
+}
+
+#[tactic(auto, using(crate::proofs::RowLemmas::row_steps))]
+impl Table {
+    /// Reserves room for one more word, unless there is some.
+    pub(crate) fn make_room(&mut self, alloc: Global) -> Result<(), WordFault>
+        requires long { 2 ≤ self.old.word_len }
+        ensures word_len { self.new.word_len ≡ self.old.word_len }
+        ensures entries { self.new.entries ≡ self.old.entries }
+        ensures room { OnOk result (length self.new.entries < self.new.reserved) }
+        ensures full { result ≡ Err WordFault.Full → most_words ≤ length self.old.entries }
+        ensures fault { IfErr result (λ fault. (fault ≡ WordFault.Full) ⊎ (fault ≡ WordFault.Memory)) }
+    {
+        let known = self.len();
+        if known >= MOST_WORDS {
+            return Err(WordFault::Full);
+        }
+        if !self.has_room() {
+            self.reserve(alloc, grown(known))?;
+        }
+        Ok(())
+    }
+
+    /// Whether there is reserved room for one more word.
+    pub fn has_room(&self) -> bool
+        ensures { result ≡ nat_lt (length self.now.entries) self.now.reserved }
+    {
+        self.active.len() < self.reserved
+    }
+
+    /// Reserves room for so many words, if there are none yet. If the allocation fails, the table grows in steps.
+    pub fn expect(&mut self, alloc: Global, words: usize)
+        requires long { 2 ≤ self.old.word_len }
+        ensures word_len { self.new.word_len ≡ self.old.word_len }
+        ensures entries { self.new.entries ≡ self.old.entries }
+    {
+        if self.len() == 0 && words > 0 {
+            let _ = self.reserve(alloc, words.min(MOST_WORDS));
+        }
+    }
+
+    /// Reserves room for `words` words in total.
+    pub fn reserve(&mut self, alloc: Global, words: usize) -> Result<(), AllocError>
+        requires more { length self.old.entries < words }
+        requires few { words ≤ most_words }
+        requires long { 2 ≤ self.old.word_len }
+        ensures word_len { self.new.word_len ≡ self.old.word_len }
+        ensures entries { self.new.entries ≡ self.old.entries }
+        ensures ok { OnOk result (self.new.reserved ≡ words) }
+        ensures err { OnErr result (self.new.reserved ≡ self.old.reserved) }
+    {
+        self.index
+            .reserve(alloc, &self.letters, self.word_len, words)?;
+        reserve_words(
+            &mut self.active,
+            &mut self.marks,
+            &mut self.letters,
+            self.word_len,
+            words,
+        )?;
+        self.reserved = words;
+        Ok(())
+    }
+}
