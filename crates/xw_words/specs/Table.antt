@@ -1,7 +1,7 @@
 -- The words of one length without columns, as callers of a table see them, and how a `Table` represents them.
-use Rattle.std.specs.Prelude.{◌≡◌, ℕ, ◌*◌, ◌<◌, ◌≤◌, List, length, nat_lt, vec_capacity}
+use Rattle.std.specs.Prelude.{◌≡◌, ℕ, ◌*◌, ◌%◌, ◌<◌, ◌≤◌, List, length, nat_lt, vec_capacity}
 use Rattle.xw_words.specs.Dictionary.{Entry}
-use Rattle.xw_words.specs.Row.{Row, entries_of}
+use Rattle.xw_words.specs.Row.{Row, entries_of, AreClearFrom}
 use Rattle.xw_words.specs.Index.{word_in, IsIndex}
 use Rattle.xw_words.specs.declared.table.Table.TheInside.{Inside}
 
@@ -17,13 +17,17 @@ row_with table = record { word_len = table.word_len; entries = table.entries; ro
 
 -- the words that the representation stands for
 abbrev pub table_of : Inside → Table
-table_of t = record { word_len = t.word_len; entries = entries_of t.word_len t.letters.items t.active.bits t.marks.items; reserved = t.reserved }
+table_of t = record { word_len = t.word_len; entries = entries_of t.word_len t.letters.items t.active.bits t.regraded.bits t.marks.items; reserved = t.reserved }
 
--- the invariant of a table: letters, flags, marks and index describe the same words, and have room for `reserved` words
+-- the invariant of a table: letters, flags, marks and index describe the same words, and have room for `reserved` words. The row of
+-- regraded words has a bit for each word that there is room for
 pub record IsKeptTable (t : Inside) : Type 0 where
   pub short : t.word_len ≤ 255
   pub letters : length t.letters.items ≡ length t.active.bits * t.word_len
   pub marks : length t.marks.items ≡ length t.active.bits
+  pub regraded : t.reserved ≤ length t.regraded.bits
+  pub regraded_whole : length t.regraded.bits % 64 ≡ 0
+  pub regraded_past : AreClearFrom (length t.active.bits) t.regraded.bits
   pub few : length t.active.bits ≤ 1048576
   pub within : length t.active.bits ≤ t.reserved
   pub reserved_few : t.reserved ≤ 1048576

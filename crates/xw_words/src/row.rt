@@ -3,7 +3,7 @@ ghost use Rattle.xw_bits.specs.Bits.{has_bit};
 ghost use Rattle.xw_words.specs.Columns.{has_letter, has_one_of, AreFits, IsColumn, AreColumns};
 ghost use Rattle.xw_words.specs.Matching.{HasFits};
 ghost use Rattle.std.specs.Prelude.{◌≡◌, ℕ, ◌+◌, ◌*◌, ◌<◌, ◌≤◌, ◌||◌, ◌==◌, true, false, None, [], ◌∷◌, ◌++◌, length, map, position, OnOk, OnErr, IfOk, IfErr, IfSome, IfNone, ◌≢◌};
-ghost use Rattle.xw_words.specs.Dictionary.{index_in, add_to, added_at, with_added, strike_from, IsNew, most_words, all_limited, new_entry, with_struck};
+ghost use Rattle.xw_words.specs.Dictionary.{index_in, add_to, added_at, with_added, strike_from, IsNew, most_words, all_limited, new_entry, with_struck, best_grade};
 ghost use Rattle.xw_letters.specs.Letter.{folded};
 ghost use Rattle.xw_words.specs.Word.{is_bad_letter, is_bad_in_pattern};
 
@@ -182,6 +182,7 @@ impl Row {
         requires letters { position is_bad_letter bytes.now ≡ None }
         requires length { length bytes.now ≡ self.old.word_len }
         requires long { 2 ≤ self.old.word_len }
+        requires least { least ≤ best_grade }
         ensures word_len { self.new.word_len ≡ self.old.word_len }
         ensures answer { result ≢ Err WordFault.Memory → result ≡ add_to self.old.entries (map folded bytes.now) }
         ensures memory { result ≡ Err WordFault.Memory → IsNew (add_to self.old.entries (map folded bytes.now)) }
@@ -211,6 +212,7 @@ impl Row {
         requires length { length word.now ≡ self.old.word_len }
         requires long { 2 ≤ self.old.word_len }
         requires unknown { index_in self.old.entries word.now ≡ None }
+        requires least { least ≤ best_grade }
         ensures word_len { self.new.word_len ≡ self.old.word_len }
         ensures answer { result ≢ Err WordFault.Memory → result ≡ added_at self.old.entries None }
         ensures memory { result ≡ Err WordFault.Memory → IsNew (added_at self.old.entries None) }
@@ -267,6 +269,7 @@ impl Row {
         requires length { length word.now ≡ self.old.word_len }
         requires room { self.old.room ≡ true }
         requires unknown { index_in self.old.entries word.now ≡ None }
+        requires least { least ≤ best_grade }
         ensures word_len { self.new.word_len ≡ self.old.word_len }
         ensures entries { self.new.entries ≡ self.old.entries ++ new_entry least word.now grade ∷ [] }
         ensures few { length self.old.entries < most_words }

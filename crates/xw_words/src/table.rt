@@ -5,7 +5,7 @@ mod limiting;
 ghost use Rattle.xw_bits.specs.Bits.{has_bit};
 ghost use Rattle.xw_words.specs.Columns.{is_active};
 ghost use Rattle.std.specs.Prelude.{◌≡◌, ℕ, ◌+◌, ◌*◌, ◌<◌, ◌≤◌, true, false, None, All, [], ◌∷◌, ◌++◌, length, slice_index_or, slice_set, map, position, OnOk, OnErr, IfOk, ◌≢◌, vec_len, vec_capacity};
-ghost use Rattle.xw_words.specs.Dictionary.{entry_at, index_in, add_to, added_at, with_added, strike_from, most_words, grade_left, new_entry, returned, with_struck};
+ghost use Rattle.xw_words.specs.Dictionary.{entry_at, index_in, add_to, added_at, with_added, strike_from, most_words, grade_left, new_entry, returned, with_struck, best_grade};
 ghost use Rattle.xw_words.specs.Row.{entry_of};
 ghost use Rattle.xw_words.specs.Index.{word_in};
 ghost use Rattle.xw_letters.specs.Letter.{folded};
@@ -48,7 +48,10 @@ fn append_marks(marks: &mut Vec<Marks>, new: Marks)
 
 /// The grade of an added word: the one that is given, at most `BEST_GRADE`, or else `usual`; raised to `least`.
 fn grade_or(least: u8, given: Option<u8>, usual: u8) -> u8
-    ensures { result ≡ grade_left least given usual }
+    requires least { least ≤ best_grade }
+    requires usual { usual < 128 }
+    ensures grade { result ≡ grade_left least given usual }
+    ensures small { result < 128 }
 {
     match given {
         Some(grade) => grade.min(BEST_GRADE).max(least),
@@ -63,6 +66,8 @@ pub struct Table {
     letters: Vec<Letter>,
     index: Index,
     active: BitRow,
+    /// The words that came back with a grade that was chosen then. It has a bit for each word that there is room for.
+    regraded: BitRow,
     marks: Vec<Marks>,
     weights: Weights,
     reserved: usize,
@@ -92,6 +97,7 @@ impl Table {
             letters: Vec::new(alloc),
             index: Index::new(alloc),
             active: BitRow::new(alloc),
+            regraded: BitRow::new(alloc),
             marks: Vec::new(alloc),
             weights: Weights::new(),
             reserved: 0,
@@ -157,7 +163,7 @@ impl Table {
         ensures { result ≡ (entry_at self.now.entries index).grade }
     {
         match self.marks.get(index) {
-            Some(marks) => marks.grade,
+            Some(marks) => marks.grade(),
             None => 0,
         }
     }
@@ -167,7 +173,7 @@ impl Table {
         ensures { result ≡ (entry_at self.now.entries index).struck }
     {
         match self.marks.get(index) {
-            Some(marks) => marks.struck,
+            Some(marks) => marks.is_struck(),
             None => false,
         }
     }
@@ -176,10 +182,7 @@ impl Table {
     pub fn is_regraded(&self, index: usize) -> bool
         ensures { result ≡ (entry_at self.now.entries index).regraded }
     {
-        match self.marks.get(index) {
-            Some(marks) => marks.regraded,
-            None => false,
-        }
+        index < self.regraded.len() && self.regraded.has(index)
     }
 
     /// How much these words of a chunk of 64 words weigh in a search. The contract promises nothing.
@@ -193,7 +196,7 @@ impl Table {
         for _ in 0..words.count_ones() {
             let index = first.saturating_add(left.trailing_zeros() as usize);
             if let Some(marks) = self.marks.get(index) {
-                total = total.saturating_add(self.weights.of_grade(marks.grade));
+                total = total.saturating_add(self.weights.of_grade(marks.grade()));
             }
             left &= left.wrapping_sub(1);
         }
@@ -213,24 +216,26 @@ impl Table {
         &self.letters[index * self.word_len..(index + 1) * self.word_len]
     }
 
-    /// Makes word `index` active or not, with these marks.
-    fn mark(&mut self, index: usize, active: bool, marks: Marks)
+    /// Makes word `index` active or not, and regraded or not, with these marks.
+    fn mark(&mut self, index: usize, active: bool, regraded: bool, marks: Marks)
         requires { index < length self.old.entries }
-        ensures entries { self.new.entries ≡ slice_set self.old.entries index (entry_of (entry_at self.old.entries index).word active marks) }
+        ensures entries { self.new.entries ≡ slice_set self.old.entries index (entry_of (entry_at self.old.entries index).word active regraded marks) }
         ensures word_len { self.new.word_len ≡ self.old.word_len }
         ensures reserved { self.new.reserved ≡ self.old.reserved }
     {
-        self.weights.note(marks.grade);
+        self.weights.note(marks.grade());
         self.active.put(index, active);
+        self.regraded.put(index, regraded);
         self.marks[index] = marks;
     }
 
     /// The marks of word `index`.
-    fn marks(&self, index: usize) -> Marks
+    fn marks(&self, index: usize) -> &Marks
         requires { index < length self.now.entries }
-        ensures { entry_at self.now.entries index ≡ entry_of (entry_at self.now.entries index).word (entry_at self.now.entries index).active result }
+        ensures grade { result.now.grade ≡ (entry_at self.now.entries index).grade }
+        ensures struck { result.now.struck ≡ (entry_at self.now.entries index).struck }
     {
-        self.marks[index]
+        &self.marks[index]
     }
 
     /// The index of a word, active or not.
@@ -286,7 +291,8 @@ impl Table {
         grade: Option<u8>,
         least: u8,
     ) -> Result<Added, WordFault>
-        requires { index < length self.old.entries }
+        requires known { index < length self.old.entries }
+        requires least { least ≤ best_grade }
         ensures word_len { self.new.word_len ≡ self.old.word_len }
         ensures answer { result ≡ added_at self.old.entries (Some index) }
         ensures ok { OnOk result (self.new.entries ≡ slice_set self.old.entries index (returned least grade (entry_at self.old.entries index))) }
@@ -296,13 +302,10 @@ impl Table {
         if self.is_active(index) {
             return Err(WordFault::Known);
         }
-        let old = self.marks(index);
-        let marks = Marks {
-            grade: grade_or(least, grade, old.grade),
-            struck: false,
-            regraded: old.regraded || grade.is_some() || old.grade < least,
-        };
-        self.mark(index, true, marks);
+        let old = self.marks(index).grade();
+        let regraded = self.is_regraded(index) || grade.is_some() || old < least;
+        let marks = Marks::new(grade_or(least, grade, old), false);
+        self.mark(index, true, regraded, marks);
         Ok(Added::Returned(index))
     }
 
@@ -321,11 +324,9 @@ impl Table {
         spell(&mut letters, bytes);
         match self.find(&letters[..bytes.len()]) {
             Some(index) if !self.is_struck(index) => {
-                let marks = Marks {
-                    struck: true,
-                    ..self.marks(index)
-                };
-                self.mark(index, false, marks);
+                let regraded = self.is_regraded(index);
+                let marks = Marks::new(self.marks(index).grade(), true);
+                self.mark(index, false, regraded, marks);
                 Ok(index)
             }
             _ => Err(WordFault::Unknown),
@@ -342,6 +343,7 @@ impl Table {
     ) -> Result<Added, WordFault>
         requires length { length word.now ≡ self.old.word_len }
         requires long { 2 ≤ self.old.word_len }
+        requires least { least ≤ best_grade }
         ensures word_len { self.new.word_len ≡ self.old.word_len }
         ensures answer { result ≢ Err WordFault.Memory → result ≡ add_to self.old.entries word.now }
         ensures ok { IfOk result (λ added. self.new.entries ≡ with_added least self.old.entries word.now grade added) }
@@ -363,6 +365,7 @@ impl Table {
         requires length { length word.now ≡ self.old.word_len }
         requires room { length self.old.entries < self.old.reserved }
         requires unknown { index_in self.old.entries word.now ≡ None }
+        requires least { least ≤ best_grade }
         ensures word_len { self.new.word_len ≡ self.old.word_len }
         ensures entries { self.new.entries ≡ self.old.entries ++ new_entry least word.now grade ∷ [] }
         ensures reserved { self.new.reserved ≡ self.old.reserved }
@@ -374,12 +377,7 @@ impl Table {
         self.active.push(true);
         let grade = grade_or(least, grade, BEST_GRADE);
         self.weights.note(grade);
-        let marks = Marks {
-            grade,
-            struck: false,
-            regraded: false,
-        };
-        append_marks(&mut self.marks, marks);
+        append_marks(&mut self.marks, Marks::new(grade, false));
         append(&mut self.letters, word);
     }
 }

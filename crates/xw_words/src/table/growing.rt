@@ -1,5 +1,5 @@
 //! Reserves room for words.
-ghost use Rattle.std.specs.Prelude.{◌≡◌, ◌⊎◌, ◌*◌, ◌<◌, ◌≤◌, length, nat_lt, OnOk, OnErr, IfErr, vec_capacity};
+ghost use Rattle.std.specs.Prelude.{◌≡◌, ◌⊎◌, ℕ, ◌*◌, ◌%◌, ◌<◌, ◌≤◌, false, length, slice_index_or, nat_lt, OnOk, OnErr, IfErr, vec_capacity};
 ghost use Rattle.xw_words.specs.Dictionary.{most_words};
 
 use crate::fault::WordFault;
@@ -23,9 +23,24 @@ pub fn grown(known: usize) -> usize
     (known + (known / 8).max(LEAST_GROWTH)).min(MOST_WORDS)
 }
 
-/// Reserves room for `words` words in total.
+/// Appends clear bits, 64 at a time, until a row has `words` bits.
+fn lengthen(row: &mut BitRow, words: usize)
+    requires whole { length row.old.bits % 64 ≡ 0 }
+    requires few { words ≤ most_words }
+    requires room { words ≤ row.old.room }
+    ensures whole { length row.new.bits % 64 ≡ 0 }
+    ensures long { words ≤ length row.new.bits }
+    ensures bits { (i : ℕ) → slice_index_or row.new.bits i false ≡ slice_index_or row.old.bits i false }
+{
+    for _ in row.len() / 64..words.div_ceil(64) {
+        row.push_chunk();
+    }
+}
+
+/// Reserves room for `words` words in total, and lengthens `regraded` to a bit for each of them.
 fn reserve_words(
     active: &mut BitRow,
+    regraded: &mut BitRow,
     marks: &mut Vec<Marks>,
     letters: &mut Vec<Letter>,
     word_len: usize,
@@ -36,20 +51,27 @@ fn reserve_words(
     requires short { word_len ≤ 255 }
     requires letters { length letters.old.items ≡ length active.old.bits * word_len }
     requires marks { length marks.old.items ≡ length active.old.bits }
+    requires regraded { length regraded.old.bits % 64 ≡ 0 }
     ensures bits { active.new.bits ≡ active.old.bits }
     ensures room_stays { active.old.room ≤ active.new.room }
+    ensures regraded_whole { length regraded.new.bits % 64 ≡ 0 }
+    ensures regraded_bits { (i : ℕ) → slice_index_or regraded.new.bits i false ≡ slice_index_or regraded.old.bits i false }
+    ensures regraded_stays { OnErr result (regraded.new.bits ≡ regraded.old.bits) }
     ensures marks_stay { marks.new.items ≡ marks.old.items }
     ensures marks_capacity { vec_capacity marks.old ≤ vec_capacity marks.new }
     ensures items { letters.new.items ≡ letters.old.items }
     ensures capacity { vec_capacity letters.old ≤ vec_capacity letters.new }
     ensures room { OnOk result (words ≤ active.new.room) }
+    ensures regraded_long { OnOk result (words ≤ length regraded.new.bits) }
     ensures marks_room { OnOk result (words ≤ vec_capacity marks.new) }
     ensures letters_room { OnOk result (words * word_len ≤ vec_capacity letters.new) }
 {
     let more = words - active.len();
     active.reserve(words)?;
+    regraded.reserve(words)?;
     marks.reserve_exact(more)?;
     letters.reserve_exact(more * word_len)?;
+    lengthen(regraded, words);
     Ok(())
 }
 
@@ -106,6 +128,7 @@ impl Table {
             .reserve(alloc, &self.letters, self.word_len, words)?;
         reserve_words(
             &mut self.active,
+            &mut self.regraded,
             &mut self.marks,
             &mut self.letters,
             self.word_len,

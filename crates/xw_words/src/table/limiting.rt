@@ -3,18 +3,11 @@ ghost use Rattle.xw_bits.specs.Bits.{has_bit};
 ghost use Rattle.std.specs.Prelude.{◌≡◌, ℕ, ◌+◌, ◌*◌, ◌<◌, ◌≤◌, true, false, length, slice_index_or, map};
 ghost use Rattle.std.specs.List.{list_any};
 ghost use Rattle.xw_words.specs.Dictionary.{entry_at, all_limited, is_left as is_left_in, is_turned as is_turned_in};
-ghost use Rattle.xw_words.specs.Row.{no_marks, are_left};
+ghost use Rattle.xw_words.specs.Marks.{no_marks, are_left};
 
 use crate::marks::Marks;
 use crate::table::Table;
 use xw_bits::bit_row::BitRow;
-
-/// Whether a word with these marks is not struck and not below a grade.
-fn is_left(marks: Marks, least: u8) -> bool
-    ensures { result ≡ are_left least marks }
-{
-    !marks.struck & (least <= marks.grade)
-}
 
 /// A bit for each of at most 64 words: whether it is not struck and not below a grade. The first word is
 /// the lowest bit. It has no branch on a word, since no processor could predict it.
@@ -24,7 +17,7 @@ fn left_bits(marks: &[Marks], least: u8) -> u64
 {
     let mut bits = 0;
     for k in 0..marks.len() {
-        bits |= u64::from(is_left(marks[k], least)) << k;
+        bits |= u64::from(marks[k].is_left(least)) << k;
     }
     bits
 }
@@ -69,7 +62,7 @@ impl Table {
         requires { index < length self.now.entries }
         ensures { result ≡ is_turned_in least (entry_at self.now.entries index) }
     {
-        let left = is_left(self.marks(index), least);
+        let left = self.marks(index).is_left(least);
         if self.is_active(index) { !left } else { left }
     }
 

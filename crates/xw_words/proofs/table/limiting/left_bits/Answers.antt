@@ -1,9 +1,10 @@
 use Rattle.std.proofs.Common.{◌≡◌, ℕ, ◌*◌, ◌^◌, ◌%◌, ◌<◌, ◌||◌, Bool, true, false, cond, eqb, get_or, bit_or, refl, sym, ap, ◌∙◌, inl, inr, arith}
 use mir.Val.{bool_byte}
 use Rattle.std.proofs.lemmas.Bool.{cases_eq, cond-true, cond-false, eq-eqb, ne_eqb}
+use Rattle.std.proofs.lemmas.List.{get_or_read}
 use Rattle.xw_bits.specs.Bits.{has_bit}
 use Rattle.xw_bits.proofs.BitLemmas.{has_bit-none, has_bit-set}
-use Rattle.xw_words.specs.Row.{no_marks, are_left}
+use Rattle.xw_words.specs.Marks.{no_marks, are_left}
 use Rattle.xw_words.proofs.Sieving.{has_bit-or}
 use Rattle.xw_words.proofs.table.limiting.left_bits.Goals as goal
 
@@ -36,7 +37,8 @@ loop-k-preserved c =
     let others : (j : ℕ) → (j ≡ k → ⊥) → has_bit new j ≡ has_bit old j = λ j apart. each j ∙ cond-false (eqb j k) flag (has_bit old j) (ne_eqb j k apart) in
     record {
       done = λ j lt. elim (cases_eq j k) [
-        | inl same ↦ each j ∙ cond-true (eqb j k) flag (has_bit old j) (eq-eqb j k same) ∙ c.is_left.ensures ∙ ap (λ n. are_left c.args.least (get_or c.args.marks.now n no_marks)) (sym same)
+        | inl same ↦ each j ∙ cond-true (eqb j k) flag (has_bit old j) (eq-eqb j k same) ∙ c.is_left.ensures
+            ∙ ap (are_left c.args.least) (get_or_read c.args.marks.now k c.index-marks-k.result c.loop-k-test.true c.index-marks-k.is no_marks) ∙ ap (λ n. are_left c.args.least (get_or c.args.marks.now n no_marks)) (sym same)
         | inr apart ↦ others j apart ∙ c.loop-k.invariant.done j (omega (arith, apart, lt))
       ];
       left = λ j le. others j (λ same. omega (arith, same, le)) ∙ c.loop-k.invariant.left j (omega (arith, le));

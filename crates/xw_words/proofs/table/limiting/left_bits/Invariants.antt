@@ -1,6 +1,6 @@
 use Rattle.std.proofs.Common.{◌≡◌, ℕ, ◌<◌, ◌≤◌, false, get_or}
 use Rattle.xw_bits.specs.Bits.{has_bit}
-use Rattle.xw_words.specs.Row.{no_marks, are_left}
+use Rattle.xw_words.specs.Marks.{no_marks, are_left}
 use Rattle.xw_words.proofs.table.limiting.left_bits.Given as goal
 
 -- the bits of the words so far are right, and the others are clear

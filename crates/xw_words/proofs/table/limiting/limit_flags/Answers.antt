@@ -1,6 +1,6 @@
 use Rattle.std.proofs.Common.{◌<◌, false, map, length, sym, ◌∙◌, arith}
 use Rattle.std.proofs.lemmas.List.{same_lists, get_or_default, get_or-map, length-map}
-use Rattle.xw_words.specs.Row.{no_marks, are_left}
+use Rattle.xw_words.specs.Marks.{no_marks, are_left}
 use Rattle.xw_words.proofs.table.limiting.limit_flags.Goals as goal
 
 pub returns-clause-bits : goal.returns-clause-bits

@@ -1,5 +1,5 @@
 use Rattle.std.proofs.Common.{◌≡◌, ℕ, ◌*◌, ◌<◌, false, length, get_or}
-use Rattle.xw_words.specs.Row.{no_marks, are_left}
+use Rattle.xw_words.specs.Marks.{no_marks, are_left}
 use Rattle.xw_words.proofs.table.limiting.limit_flags.Given as goal
 
 -- the flags of the chunks so far are right
