@@ -97,7 +97,7 @@ async function editText(element, field) {
 
 // Sets the texts of fields in one step. The engine gets near characters for those that it cannot keep.
 function editTexts(texts) {
-  const originals = new Map(editor.originals);
+  const originals = new Map(editor.dueOriginals);
   const lines = texts.flatMap(([field, typed]) => {
     const { near, count } = nearestText(typed);
     if (count) originals.set(field, typed);
@@ -105,6 +105,17 @@ function editTexts(texts) {
     return textLines(field, escapeText(near));
   });
   return edit(lines, { originals });
+}
+
+// Has the puzzle take over what is being typed into a field of its texts, which else happens when the field is left. The field stays as it is.
+function takeTyped() {
+  const field = /** @type {HTMLInputElement} */ (document.activeElement);
+  if (!field?.closest('#clue-list, .fields') || !isText(field)) return;
+  const { value, selectionStart, selectionEnd } = field;
+  field.dispatchEvent(new Event('change', { bubbles: true }));
+  if (field.value === value) return;
+  field.value = value;
+  field.setSelectionRange(selectionStart, selectionEnd);
 }
 
 async function addLengths(texts) {
@@ -572,7 +583,9 @@ const ACTIONS = {
   'save-session': () => files.saveSession(),
   list: () => pick('.txt,.dict,.csv,.tsv'),
   'built-in': () => changeLists((now) => now.onlyBuiltIn()),
-  print: () => {
+  print: async () => {
+    // with the edits that are under way
+    await editor.inOrder(() => {});
     $('print-address').value = keptAddress();
     showPreview();
     openDialog($('print-dialog'));
@@ -614,7 +627,11 @@ function actionOf(event, key) {
     if (event.altKey || document.querySelector('dialog[open]')) return null;
     if (key === 'z' && !isText(event.target)) return () => step(!event.shiftKey);
     if (key === 'y' && !isText(event.target)) return () => step(false);
-    return CONTROL_KEYS[key] && ACTIONS[CONTROL_KEYS[key]];
+    const action = CONTROL_KEYS[key] && ACTIONS[CONTROL_KEYS[key]];
+    return action && (() => {
+      takeTyped();
+      return action();
+    });
   }
   const keys = {
     f1: ACTIONS.help,
@@ -704,6 +721,10 @@ editor.addEventListener('whole', () => {
 });
 
 // What the browser keeps.
+
+// before the shelf keeps what is here
+document.addEventListener('visibilitychange', () => document.hidden && takeTyped());
+addEventListener('pagehide', takeTyped);
 
 const claim = new Claim();
 const shelf = new Shelf(editor, claim, () => files.saveSession());

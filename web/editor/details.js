@@ -51,6 +51,8 @@ export class DetailsView {
     const element = this.#elements[field];
     if (element.value === element.dataset.kept) return;
     element.value = element.value.trim();
+    // what is typed after it stays when the answer comes
+    element.dataset.text = element.value;
     this.actions.text(element, field);
   }
 

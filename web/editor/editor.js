@@ -64,6 +64,9 @@ export class Editor extends EventTarget {
   #last = Promise.resolve();
   // for each thing that is not done yet the lines that it sends, or null if it is no edit
   #due = [];
+  // what the originals will be after the edits of texts that are not done yet
+  /** @type {Map<string, string>[]} */
+  #dueOriginals = [];
   // how many things are to be done after the present one, and what ends a wait for an idle page
   #queued = 0;
   #hurry = null;
@@ -93,7 +96,12 @@ export class Editor extends EventTarget {
   get state() {
     const end = this.#due.indexOf(null);
     const lines = (end < 0 ? this.#due : this.#due.slice(0, end)).flat();
-    return this.#state([this.record, ...lines.map((line) => `${line}\n`)].join(''));
+    return { ...this.#state([this.record, ...lines.map((line) => `${line}\n`)].join('')), originals: [...this.dueOriginals] };
+  }
+
+  // The texts as they were typed, with those of the edits that are under way.
+  get dueOriginals() {
+    return this.#dueOriginals.at(-1) ?? this.originals;
   }
 
   get isBusy() {
@@ -192,11 +200,14 @@ export class Editor extends EventTarget {
    * @returns {Promise<string | null>}
    */
   edit(lines, options = {}) {
+    if (options.originals) this.#dueOriginals.push(options.originals);
     return this.inOrder(async () => {
       try {
         return await this.#edit(lines, options);
       } catch (fault) {
         return fault.status ?? 'Engine';
+      } finally {
+        if (options.originals) this.#dueOriginals.shift();
       }
     }, lines);
   }

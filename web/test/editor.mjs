@@ -1086,6 +1086,36 @@ const CASES = {
     expect((await page.row(1)).startsWith('JOKE'), `the row is ${await page.row(1)}`);
   },
 
+  async 'a text that is being typed'() {
+    await begin(6);
+    await browser.press('Control+f');
+    await page.statusIs(/^filled/);
+    await browser.press('F3');
+    await browser.until("document.activeElement.dataset.light === '1 across'");
+    const fieldIs = (text) => browser.until(`(({ value, selectionStart }) => value === '${text}' && selectionStart === value.length)(document.activeElement)`);
+    // it is saved as far as it is typed, and stays as it is in its field
+    await browser.insert('So far ');
+    const bytes = await saved('crossword.puz', () => browser.press('Control+s'));
+    expect(Xw.open(module, { puzzle: bytes }).line('texts').lines.some((line) => line.endsWith(' So far')), 'what is typed is not in the file');
+    await fieldIs('So far ');
+    await browser.insert('so good');
+    // and it is in the preview of a print
+    await browser.press('Control+p');
+    await browser.until("/1 +So far so good/.test(document.querySelector('#preview .clues p').textContent)");
+    await browser.press('Escape');
+    // and it is kept when the page goes
+    await browser.press('F3');
+    await browser.insert('Kept \u2192 here');
+    await browser.go(PAGE.href);
+    await ready();
+    await browser.until("document.querySelector('#clue-list input').value === 'Kept \u2192 here'");
+    await browser.press('F4');
+    await browser.insert('A title');
+    await browser.go(PAGE.href);
+    await ready();
+    await browser.until("document.getElementById('title').value === 'A title'");
+  },
+
   async 'other words for a light that is entered'() {
     await begin(6);
     await browser.press('Control+f');
