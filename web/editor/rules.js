@@ -4,6 +4,7 @@
 import { mostUnchecked } from './barred.js';
 import { enumeratedLength } from './enumeration.js';
 import { unescapeText } from './record.js';
+import { isBritishGrid } from './terms.js';
 
 // The most words of an American grid, by its size.
 const MOST_WORDS = { 15: 78, 21: 140 };
@@ -42,14 +43,12 @@ function uncheckedRun(board, light) {
   return longest;
 }
 
-// Whether all cells are checked, as in American grids.
-const isAmerican = (board) => board.cells.every((cell, index) => cell.block || isChecked(board, index));
-
 const titled = ({ number, direction }) => `${number} ${direction === 'across' ? 'Across' : 'Down'}`;
 
 function gridWarnings(board) {
   const warnings = [];
-  const most = board.width === board.height && isAmerican(board) ? MOST_WORDS[board.width] : undefined;
+  const isAmerican = !isBritishGrid(board);
+  const most = board.width === board.height && isAmerican ? MOST_WORDS[board.width] : undefined;
   if (most && board.lights.length > most) warnings.push({ text: `${board.lights.length} words: an American ${board.width} × ${board.height} has ${most} at most` });
   const short = board.lights.filter((light) => light.cells.length === 2);
   if (short.length) warnings.push({ text: short.length === 1 ? `${titled(short[0])} has two letters` : `${short.length} lights have two letters`, light: short[0].name });
@@ -60,7 +59,16 @@ function gridWarnings(board) {
   }
   const isBarred = board.cells.some((cell) => cell.right || cell.below);
   if (isBarred) return [...warnings, ...barredWarnings(board)];
-  return isAmerican(board) ? warnings : [...warnings, ...latticeWarnings(board)];
+  return [...warnings, ...(isAmerican ? uncheckedWarnings(board) : latticeWarnings(board))];
+}
+
+// In an American grid each cell is checked.
+function uncheckedWarnings(board) {
+  const unchecked = [...board.cells.keys()].filter((index) => board.through(index).length === 1);
+  if (!unchecked.length) return [];
+  const [cell] = unchecked;
+  const place = `row ${board.rowOf(cell)}, column ${board.columnOf(cell)}`;
+  return [{ text: unchecked.length === 1 ? `the cell in ${place} is in one light only` : `${unchecked.length} cells are in one light only: the first is in ${place}`, cell }];
 }
 
 // In a lattice the unchecked cells in a row are counted, and half of the cells of a light are checked, but for one if their number is odd.

@@ -5,11 +5,16 @@ const UNCHECKED = 0.1;
 
 let isBritish = false;
 
-// Takes the terms of a grid.
-export function useTermsOf(board) {
+// Whether a grid is British by its bars or its unchecked cells.
+export function isBritishGrid(board) {
   const open = board.cells.filter((cell) => !cell.block);
   const unchecked = open.filter((cell) => !cell.across || !cell.down);
-  isBritish = open.some((cell) => cell.right || cell.below) || unchecked.length > UNCHECKED * open.length;
+  return open.some((cell) => cell.right || cell.below) || unchecked.length > UNCHECKED * open.length;
+}
+
+// Takes the terms of a grid.
+export function useTermsOf(board) {
+  isBritish = isBritishGrid(board);
 }
 
 const ENTRY = [

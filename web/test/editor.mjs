@@ -1235,6 +1235,11 @@ const CASES = {
     await warned(/in 2 parts that do not connect/);
     await openRecord(`size 7 2\n${['block 2 2', 'block 2 3', 'block 2 4'].join('\n')}\n`);
     await warned(/1 Across has 3 unchecked cells in a row/);
+    // in an American grid each cell is in two entries
+    await openRecord(`size 9 9\nblock 1 2\nblock 3 1\nblock 9 8\nblock 7 9\nsym half\n`);
+    await warned(/^⚠ 2 cells are in one entry only: the first is in row 1, column 1$/);
+    await browser.click('#checks .warning button[data-cell="0"]');
+    await page.cursorAt('1-1');
     const spell = (row, word) => [...word].map((letter, at) => `set ${row} ${at + 1} ${letter}`).join('\n');
     await openRecord(`size 7 5\n${[2, 4].flatMap((row) => Array.from({ length: 7 }, (_, at) => `block ${row} ${at + 1}`)).join('\n')}\n${spell(1, 'BAKINGS')}\n${spell(3, 'UNBAKED')}\n${spell(5, 'BAKEDUP')}\n`);
     await warned(/UNBAKED and BAKEDUP share BAKED/);
