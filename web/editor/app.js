@@ -27,7 +27,7 @@ import { escapeText, nearestText, parseRecord, strangeCharacter, textLines } fro
 import { Shelf } from './shelf.js';
 import { StandingView } from './standing.js';
 import { foldedText, leftOutText, readList, wordCount } from './word-list.js';
-import { termed } from './terms.js';
+import { isBritishGrid, termed } from './terms.js';
 import { ThemesView } from './themes-view.js';
 import { WarningsView } from './warnings-view.js';
 import { WordsView, titleOf } from './words.js';
@@ -548,8 +548,15 @@ function takePrinting() {
 
 function showPreview() {
   takePrinting();
+  $('print-sender').hidden = printer.parts !== 'submission';
   $('preview').replaceChildren(...printer.pages());
 }
+
+// As a rule clues have lengths in British puzzles, and not in American ones.
+let isLengthsChosen = false;
+$('print-lengths').addEventListener('input', () => {
+  isLengthsChosen = true;
+});
 
 $('print-dialog').addEventListener('input', showPreview);
 $('print-dialog').addEventListener('close', () => {
@@ -587,6 +594,7 @@ const ACTIONS = {
     // with the edits that are under way
     await editor.inOrder(() => {});
     $('print-address').value = keptAddress();
+    if (!isLengthsChosen) $('print-lengths').checked = isBritishGrid(editor.board);
     showPreview();
     openDialog($('print-dialog'));
   },

@@ -2569,6 +2569,7 @@ const CASES = {
     await openFile(join(room, 'enumerations.xw'));
     await page.statusIs(/is open/);
     await browser.press('Control+p');
+    await browser.click('#print-lengths');
     await print();
     const printed = await browser.value("[...document.querySelectorAll('#sheet .clues p')].map((clue) => clue.textContent.replace(/^\\d+ /, '').trim())");
     const wanted = ['Ice cream (3,5)', 'Plain (3)', 'Hyphened (2-1)', 'Two of them (3 wds.)', 'Year of a revolution (1789) (3)', 'Aside (see 1 Down) (3)'];
@@ -2576,7 +2577,15 @@ const CASES = {
   },
 
   async 'printing'() {
-    await begin(1);
+    await reload();
+    // as a rule clues have lengths in British puzzles alone
+    for (const [pattern, hasLengths] of [[3, true], [1, false]]) {
+      await begin(pattern);
+      await browser.press('Control+p');
+      await browser.until(`document.getElementById('print-dialog').open && document.getElementById('print-lengths').checked === ${hasLengths}`);
+      await browser.until(`(document.querySelectorAll('#preview .clues .length').length > 30) === ${hasLengths}`);
+      await browser.press('Escape');
+    }
     await browser.press('Control+f');
     await page.statusIs(/^filled/);
     for (const [paper, width] of [['A4', 595], ['letter', 612]]) {
