@@ -2449,8 +2449,11 @@ const CASES = {
       const spans = ['number', 'letter'].map((className) => cell.appendChild(Object.assign(document.createElement('span'), { className })));
       const texts = ['', 'pencil', 'only', 'reason', 'dead', 'unmatched', 'waiting', 'faulty', 'chosen', 'cursor', 'shade-8'].flatMap((name) => spans.map((span) => {
         const { color } = of(name);
-        return [name + ' ' + span.className, contrast([color, getComputedStyle(span).color], [color])];
-      }));
+        const ink = getComputedStyle(span).color;
+        // alone, in the light of the cursor, in the one that crosses it, and in both
+        return [[], [root.getPropertyValue('--band')], [root.getPropertyValue('--crossing-band')], [root.getPropertyValue('--band'), root.getPropertyValue('--crossing-band')]]
+          .map((bands) => [name + ' ' + span.className + ' under ' + bands.length, contrast([color, ink, ...bands], [color, ...bands])]);
+      })).flat();
       cell.remove();
       return { texts, marks: pairs.filter(([, mark]) => mark).map(([name, one, other]) => [name, contrast([other, one], [other])]) };
     })()`);
@@ -2458,7 +2461,7 @@ const CASES = {
       await browser.scheme(scheme);
       const { marks, texts } = await meanings();
       const weak = [...marks.filter(([, contrast]) => contrast < 3), ...texts.filter(([, contrast]) => contrast < 4.5)];
-      expect(marks.length >= 20 && !weak.length, `${scheme}: ${marks.length} marks; ${weak.map(([name, contrast]) => `${name} ${contrast.toFixed(2)}`).join(', ')}`);
+      expect(marks.length >= 20 && texts.length >= 80 && !weak.length, `${scheme}: ${marks.length} marks; ${weak.map(([name, contrast]) => `${name} ${contrast.toFixed(2)}`).join(', ')}`);
       for (const tab of ['words', 'clues', 'puzzle']) {
         await browser.click(`#tab-${tab}`);
         await browser.until("!document.querySelector('.late')");
