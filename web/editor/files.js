@@ -111,7 +111,7 @@ export class Files {
   }
 
   openList(name, bytes) {
-    say(`reading ${name} …`, 'busy');
+    say(`reading ${name} …`, 'busy', true);
     return this.actions.changeLists((lists) => lists.adding(name, bytes), name, bytes);
   }
 
@@ -163,7 +163,7 @@ export class Files {
       const cell = board.firstEmpty();
       editor.moveTo(cell);
       this.actions.toGrid();
-      return refuse(`not saved: row ${board.rowOf(cell)}, column ${board.columnOf(cell)} is empty`);
+      return refuse(`not saved: row ${board.rowOf(cell)}, column ${board.columnOf(cell)} is empty`, true);
     }
     if (status === 'Circled') {
       editor.moveTo(board.cells.findIndex((cell) => cell.circle && !cell.block));
@@ -173,9 +173,9 @@ export class Files {
     const lacking = order.find((light) => !board.texts.has(`clue ${light.name}`));
     if (status === 'Field' && lacking) {
       this.actions.toClue(lacking);
-      return refuse(termed(`not saved: a text file needs a clue for each light, and ${lacking.name} has none`));
+      return refuse(termed(`not saved: a text file needs a clue for each light, and ${lacking.name} has none`), true);
     }
-    refuse(termed(`not saved: ${refusalText(status)}`));
+    refuse(termed(`not saved: ${refusalText(status)}`), true);
   }
 
   saveSession(why = '') {
@@ -210,7 +210,7 @@ export class Files {
     link.download = name;
     link.click();
     setTimeout(() => URL.revokeObjectURL(link.href), 60000);
-    say(`saved: ${name}${why}`, 'good');
+    say(`saved: ${name}${why}`, 'good', true);
   }
 
   // Files that are dropped anywhere on the page.

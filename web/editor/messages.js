@@ -64,28 +64,33 @@ export function useMessages(elements) {
   ({ line, toast, history, warnings } = elements);
 }
 
-// Says something in the terms of the grid; `tone` is '', 'good' or 'bad', or 'busy' for what passes, which is not listed.
-export const say = (text, tone = '') => sayAsIs(termed(text), tone);
+// Says a sentence in the terms of the grid; `tone` is '', 'good' or 'bad', or 'busy' for what passes, which is not listed.
+export const say = (text, tone = '') => tell(termed(text), tone, true);
 
-// Says something that has names of files or texts of the puzzle.
-export function sayAsIs(told, tone = '') {
+// Says something that has names of files or texts of the puzzle. It begins with one, unless it is a sentence.
+export const sayAsIs = (text, tone = '', isSentence = false) => tell(text, tone, isSentence);
+
+function tell(told, tone, isSentence) {
   const text = keyed(told);
   count++;
   line.textContent = text;
   line.dataset.tone = tone;
+  line.toggleAttribute('data-sentence', isSentence);
   toast.hidden = !text;
   toast.dataset.tone = tone;
   if (!text || tone === 'busy' || history.firstElementChild?.dataset.text === text) return;
   const item = document.createElement('li');
   item.dataset.tone = tone;
   item.dataset.text = text;
-  item.append(Object.assign(document.createElement('time'), { textContent: new Date().toLocaleTimeString(undefined, { hour: '2-digit', minute: '2-digit' }) }), text);
+  const said = Object.assign(document.createElement('span'), { textContent: text });
+  said.toggleAttribute('data-sentence', isSentence);
+  item.append(Object.assign(document.createElement('time'), { textContent: new Date().toLocaleTimeString(undefined, { hour: '2-digit', minute: '2-digit' }) }), said);
   history.prepend(item);
   while (history.childElementCount > MOST_LISTED_MESSAGES) history.lastElementChild.remove();
 }
 
 export const refuse = (text) => say(text, 'bad');
-export const refuseAsIs = (text) => sayAsIs(text, 'bad');
+export const refuseAsIs = (text, isSentence = false) => sayAsIs(text, 'bad', isSentence);
 
 // A function that ends the message that stands now. It does nothing if another one has come since.
 export function endingMessage() {
