@@ -224,9 +224,21 @@ export class WordsView {
     if (!this.#words.length) return this.#isStanding && this.#editor.light ? 'no other word of your lists fits here' : '';
     if (!this.shown.length) return 'no word passes the filter; Esc in it clears it';
     if (this.#isCounting) return 'counting what each word leaves …';
-    if (this.#isStanding && this.#needs.size) return 'beside a word: the crossing words that it changes';
-    if (this.#isStanding && ![...this.#left.values()].some((left) => left !== 'done')) return 'these fit the crossing words as they stand';
+    if (this.#isStanding) return this.#standingLegend();
     if (this.#isDead) return 'these agree with the letters of this light alone';
+    return this.#numbersLegend;
+  }
+
+  // For a light that is entered.
+  #standingLegend() {
+    const alive = this.shown.filter((word) => this.#left.get(word) !== 0);
+    if (!alive.length) return 'each of these leaves another light without a word';
+    if (alive.some((word) => this.#needs.has(word))) return 'beside a word: the crossing words that it changes';
+    if (alive.every((word) => this.#left.get(word) === 'done')) return 'these fit the crossing words as they stand';
+    return this.#numbersLegend;
+  }
+
+  get #numbersLegend() {
     return this.#scores.size ? 'the numbers: its score, and the words left to the tightest light after it' : 'the number: words left to the tightest light after it';
   }
 
