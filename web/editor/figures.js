@@ -2,6 +2,7 @@
 import { figuresOf, figuresText, gradeOf, scoreOf } from './grades.js';
 import { whenIdle } from './idle.js';
 import { wordsOf } from './record.js';
+import { termed } from './terms.js';
 import { titleOf } from './words.js';
 
 export class Figures {
@@ -98,7 +99,8 @@ export class Figures {
     const { board } = this.#editor;
     const [name] = [...this.#scores].find(([, score]) => score === this.#figures.worst);
     const light = board.byName.get(name);
-    if (text.textContent !== this.text) text.textContent = this.text;
+    const told = termed(this.text);
+    if (text.textContent !== told) text.textContent = told;
     worst.textContent = `Worst: ${board.spell(light)}`;
     worst.title = `Go to the worst word, ${titleOf(light)}`;
     worst.onclick = () => this.go(board.byName.get(name) ?? light);
