@@ -114,8 +114,9 @@ function puzzleButton(className, text, action) {
 
 const titleOfState = ({ texts, width, height }) => unescapeText(texts.get('title') ?? '').trim() || `${width} × ${height}`;
 
-function factsOf({ letters }, { at }) {
-  const count = `${letters.size} ${letters.size === 1 ? 'letter' : 'letters'}`;
+function factsOf({ letters, texts }, { at }) {
+  const clues = [...texts].filter(([field, text]) => text && field.startsWith('clue ')).length;
+  const count = `${letters.size} ${letters.size === 1 ? 'letter' : 'letters'}${clues ? `, ${clues} ${clues === 1 ? 'clue' : 'clues'}` : ''}`;
   return at ? `${count}, ${new Date(at).toLocaleDateString(undefined, { day: 'numeric', month: 'short', hour: '2-digit', minute: '2-digit' })}` : count;
 }
 
