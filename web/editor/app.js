@@ -75,7 +75,8 @@ async function edit(lines, options) {
   const refused = await editor.edit(lines, options);
   if (!refused) {
     if (options?.isWhole !== false || $('status').dataset.tone === 'bad') endMessage();
-    reasons.soon();
+    // of several letters the last one tells
+    if (!editor.hasEdits) reasons.soon();
     return null;
   }
   // what the page showed before the engine answered is taken back; after a failure the restart says so

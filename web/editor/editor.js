@@ -108,6 +108,11 @@ export class Editor extends EventTarget {
     return this.#due.length > 0;
   }
 
+  // Whether edits are under way, as where letters come faster than their answers.
+  get hasEdits() {
+    return this.#due.some(Boolean);
+  }
+
   // Gives the puzzle another name, also in the history, so that another tab's of the same name is not taken for it.
   rename() {
     const [before, name] = [this.puzzle, newPuzzleName()];

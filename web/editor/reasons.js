@@ -1,5 +1,5 @@
 // Dead ends: which lights have no word left, and which letters together are the reason.
-import { refuse, say } from './messages.js';
+import { endingMessage, refuse, say } from './messages.js';
 import { titleOf } from './words.js';
 
 // how long after an edit into a dead end its reason is shown, in milliseconds
@@ -14,6 +14,8 @@ export class Reasons {
   #editor;
   #grid;
   #timer = null;
+  // takes away what was said of a dead end, if it stands still
+  #endMessage = () => {};
 
   // `isIdle` tells whether the engine is free for questions.
   constructor(editor, grid, isIdle) {
@@ -28,7 +30,10 @@ export class Reasons {
   soon() {
     clearTimeout(this.#timer);
     const { board, commands } = this.#editor;
-    if (!board.lights.some(this.#isDead)) return;
+    if (!board.lights.some(this.#isDead)) {
+      this.#endMessage();
+      return;
+    }
     if (board.entered === 0) {
       const { list } = this.#editor;
       const other = 'add blocks (.) or bars, or load a longer list';
@@ -50,8 +55,13 @@ export class Reasons {
 
   #tell() {
     const entry = this.#entry();
-    refuse(`${entry ? `${entry} leads to a dead end` : 'a dead end'}: no word is left for some lights. Click a red cell, or press ?, for the reason`);
+    this.#refuse(`${entry ? `${entry} leads to a dead end` : 'a dead end'}: no word is left for some lights. Click a red cell, or press ?, for the reason`);
     if (this.#editor.commands.has('why')) this.#timer = setTimeout(() => this.#explainEntry(), PATIENCE);
+  }
+
+  #refuse(text) {
+    refuse(text);
+    this.#endMessage = endingMessage();
   }
 
   // The word of the last entry, if it is whole; or ''.
@@ -135,12 +145,12 @@ export class Reasons {
   #show({ light, cells, letters, last }) {
     this.#grid.showReason(cells, light);
     if (cells.length === 0) {
-      refuse(`${titleOf(light)} has no word in this list even without letters: the blocks and the list are the reason`);
+      this.#refuse(`${titleOf(light)} has no word in this list even without letters: the blocks and the list are the reason`);
       return;
     }
     const named = `${letters.slice(0, MOST_NAMED).join(', ')}${letters.length > MOST_NAMED ? ' …' : ''}`;
     const cause = letters.length === 1 ? `the ${named} alone` : `these ${letters.length} letters together: ${named}`;
     const entry = last ? this.#entry() : '';
-    refuse(`${entry ? `${entry} leaves ${titleOf(light)} no word` : `${titleOf(light)} has no word`}, by ${cause}. Change ${letters.length === 1 ? 'it' : 'any one of them'}`);
+    this.#refuse(`${entry ? `${entry} leaves ${titleOf(light)} no word` : `${titleOf(light)} has no word`}, by ${cause}. Change ${letters.length === 1 ? 'it' : 'any one of them'}`);
   }
 }

@@ -2241,6 +2241,20 @@ const CASES = {
     expect(await page.has(`1-${Number(number) + 1}`, 'reason'), `no letter of ${number} Down is framed: ${told}`);
   },
 
+  async 'a dead end that is over before it is told'() {
+    await beginBlank(5, 1);
+    await browser.value("window.said.length = 0");
+    // the letters come faster than their answers; no word has the first ones, and the whole is an entry
+    await browser.value("for (const key of 'qqqqq') document.getElementById('grid').dispatchEvent(new KeyboardEvent('keydown', { key, bubbles: true, cancelable: true }))");
+    await browser.until("/QQQQQ is not in your lists/.test(document.getElementById('standing').textContent)");
+    expect(!/dead end/.test(await page.status()), `it says: ${await page.status()}`);
+    // what was told is taken back with its cause
+    await browser.press('Control+z');
+    await page.statusIs(/a dead end/);
+    await browser.press('q');
+    await browser.until("/QQQQQ is not in your lists/.test(document.getElementById('standing').textContent) && !/dead end|no word/.test(document.getElementById('status').textContent)");
+  },
+
   async 'a dead part beside one that is alive'() {
     const blocks = [1, 2, 3, 4, 5].map((column) => `block 4 ${column}`).join('\n');
     await openRecord(`size 5 7\n${blocks}\nset 1 1 S\nset 1 2 T\n`);
