@@ -10,6 +10,10 @@ const ALONE = 300;
 // the seed of one worker lies so far from that of the next
 const SEEDS = 1000003;
 
+// The parts of the way to a grade without a fill that workers leap ahead, and how many slices a leap may take.
+const PARTS = [1 / 4, 1 / 2];
+const MOST_TRIES = 2;
+
 // what a search tells that was not refused
 const ANSWERS = new Set(['filled', 'nofill', 'limit']);
 
@@ -19,6 +23,37 @@ const ANSWERS = new Set(['filled', 'nofill', 'limit']);
  *   isChanged: boolean, isEntering: boolean, pencil: string, entered: Promise<void>, end: () => void,
  * }} Race
  */
+
+// The grades that a worker looks for: some way ahead of the fill that is there, as long as fills are found so. After a leap that is given up comes a
+// slice for the next grade, and then a shorter leap.
+class Leaps {
+  // the least grade that was given up, the slices that the leap has taken, and whether a slice for the next grade is due
+  #given = MOST + 1;
+  #tries = 0;
+  #isNextDue;
+
+  constructor(part, isNextDue) {
+    this.part = part;
+    this.#isNextDue = isNextDue;
+  }
+
+  // The grade to look for, where there is a fill of one grade and none of another.
+  next({ grade, bound }) {
+    // what another worker has found was given up too soon
+    if (grade >= this.#given) this.#given = MOST + 1;
+    const ahead = Math.floor(grade + this.part * (Math.min(this.#given, bound) - grade));
+    return this.#isNextDue ? grade + 1 : Math.max(grade + 1, ahead);
+  }
+
+  // Takes the answer of a slice, for a leap to a grade or null for the next grade.
+  take(leap, answer) {
+    this.#tries = leap && answer === 'limit' ? this.#tries + 1 : 0;
+    this.#isNextDue = this.#tries >= MOST_TRIES;
+    if (!this.#isNextDue) return;
+    this.#given = leap;
+    this.#tries = 0;
+  }
+}
 
 export class Raiser {
   #editor;
@@ -84,21 +119,25 @@ export class Raiser {
   // Has workers join, from one number to another.
   #join(race, from, to) {
     if (race.isOver || to <= from) return;
-    this.#helpers.begin(race.base, to, from).forEach((begun, at) => this.#climb(race, begun, race.seed + SEEDS * (from + at), from + at === 0));
+    this.#helpers.begin(race.base, to, from).forEach((begun, at) => this.#climb(race, begun, race.seed + SEEDS * (from + at), from + at === 0, PARTS[(from + at) % PARTS.length]));
   }
 
-  async #climb(race, begun, seed, isFirst) {
+  async #climb(race, begun, seed, isFirst, part) {
     try {
       const engine = await begun;
       if (isFirst) setTimeout(race.end, LONGEST);
-      let [least, isQuick] = [0, false];
+      // the first one begins with the best fill, which tells a bound
+      const leaps = new Leaps(part, isFirst);
+      let [least, isQuick] = [0, isFirst];
       while (!race.isOver) {
-        const wanted = race.grade + 1;
+        const wanted = leaps.next(race);
+        const isLeap = wanted > race.grade + 1;
         const isNew = wanted !== least;
         // any better fill is found soon; after one, and where there is none soon, the best one is looked for
-        isQuick = isNew && !isQuick;
+        isQuick = isLeap || (isNew && !isQuick);
         const told = await engine.call('best', { least: isNew ? wanted : null, isQuick, limits: `${PLACEMENTS} ${seed}${race.names}`, cells: race.cells });
         least = wanted;
+        leaps.take(isLeap ? wanted : null, told.answer);
         if (!race.isOver) await this.#take(race, told, wanted);
       }
     } catch (fault) {

@@ -1441,6 +1441,47 @@ const CASES = {
     await browser.until("document.getElementById('figures').hidden && document.getElementById('least-row').hidden");
   },
 
+  async 'a raising that leaps ahead'() {
+    writeFileSync(join(room, 'leaps.txt'), 'cat;10\ncot;11\ncut;12\near;13\noar;14\ntea;15\ntoe;16\nare;17\ntar;18\nate;19\n');
+    await openFile(join(room, 'leaps.txt'));
+    await page.factsAre(/leaps.txt, 10 words/);
+    await beginBlank(3, 1);
+    await raiseToTheEnd();
+    // the one worker is answered for
+    await browser.value(`(() => {
+      Object.defineProperty(navigator, 'hardwareConcurrency', { value: 2, configurable: true });
+      window.asked = [];
+      const post = Worker.prototype.postMessage;
+      Worker.prototype.postMessage = function (message, transfer) {
+        if (message.call !== 'best') return post.call(this, message, transfer);
+        window.answer = (value) => this.dispatchEvent(new MessageEvent('message', { data: { id: message.id, value } }));
+        window.asked.push([message.sent.least, message.sent.isQuick]);
+      };
+    })()`);
+    await browser.press('Control+f');
+    const answered = async (count, value) => {
+      await browser.until(`window.asked.length === ${count}`);
+      await browser.value(`window.answer(${JSON.stringify(value)})`);
+    };
+    await answered(1, { answer: 'limit', bound: 97 });
+    // a leap that finds nothing in two slices is given up, and after a slice for the next grade comes a shorter one
+    await answered(2, { answer: 'limit', bound: null });
+    await answered(3, { answer: 'limit', bound: null });
+    await answered(4, { answer: 'limit', bound: 97 });
+    await answered(5, { answer: 'nofill', bound: null });
+    await browser.until('window.asked.length === 6');
+    const asked = await browser.value('window.asked');
+    const grade = asked[0][0] - 1;
+    const leap = (to) => Math.floor(grade + (to - grade) / 4);
+    const wanted = [[grade + 1, false], [leap(97), true], [null, true], [grade + 1, false], [leap(leap(97)), true], [grade + 1, false]];
+    expect(JSON.stringify(asked) === JSON.stringify(wanted), `asked for ${JSON.stringify(asked)}, and not ${JSON.stringify(wanted)}`);
+    await browser.press('Escape');
+    await page.statusIs(/^stopped: worst \d+/);
+    await reload();
+    await menu('built-in');
+    await page.factsAre(/built-in list/);
+  },
+
   async 'a raised fill of a 15 by 15'() {
     await openGraded();
     await begin(1);
