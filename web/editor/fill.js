@@ -130,9 +130,11 @@ export class Filler {
 
   // Says why there is no fill.
   async #tellNone(answer, placements) {
-    const isPart = this.#editor.chosen.size > 0;
+    const { chosen, list, board } = this.#editor;
+    const isPart = chosen.size > 0;
     if (answer === 'stopped') return say('stopped; the grid is as it was');
-    if (answer === 'nofill') refuse(isPart ? 'there is no fill of these lights' : 'there is no fill: no words of the list fit what is entered');
+    const words = list.grade ? `no words with ${list.least} or more fit` : 'no words of the list fit';
+    if (answer === 'nofill') refuse(isPart ? 'there is no fill of these lights' : `there is no fill: ${words} ${board.entered ? 'what is entered' : 'this grid'}`);
     else refuse(`no fill was found in ${placements.toLocaleString('en')} placements: try again, add blocks, or take a letter back`);
     return this.#explain(answer, isPart);
   }
@@ -257,7 +259,8 @@ export class Filler {
     editor.moveTo(empty ?? light.cells[0], light.direction);
     const what = answer === 'nofill' ? 'there is no fill' : 'no fill was found';
     const after = dead.entered === 0 ? '' : dead.entered === 1 ? ' after one word' : ` after ${dead.entered} words`;
-    const hint = editor.pencil.size ? 'Another (Ctrl G) changes the letters in pencil too' : 'Change what crosses it, or the blocks beside it';
+    const others = editor.pencil.size ? 'Another (Ctrl G) changes the letters in pencil too' : `${editor.board.entered ? 'Change what crosses it, or' : 'Change'} the blocks beside it`;
+    const hint = editor.list.grade ? `Lower the least score, ${editor.list.least}. ${others}` : others;
     refuse(`${what}: ${titleOf(light)} is the first light that runs out of words${after}. ${hint}`);
   }
 

@@ -1732,6 +1732,15 @@ const CASES = {
     expect((await page.rows()).join() === '...,...,...,###,...', `the grid is ${await page.rows()}`);
     const [, name] = /: (\d+ \w+) is/.exec(told);
     await browser.until(`document.getElementById('light-name').textContent === '${name}'`);
+    // where the least score may be the cause, that is said
+    writeFileSync(join(room, 'six.txt'), 'abc;60\nadg;60\nbeh;60\ncfi;60\ndef;60\nghi;60\nzzz;5\n');
+    await openFile(join(room, 'six.txt'));
+    await page.factsAre(/six.txt[^,]*, 7 words/);
+    await slideLeast(40);
+    await page.factsAre(/6 of 7 words/);
+    await browser.press('Control+f');
+    await page.statusIs(/^there is no fill: no words with 40 or more fit this grid$/);
+    await page.statusIs(/is the first (light|entry) that runs out of words.*Lower the least score, 40\. Change the blocks beside it$/);
     await menu('built-in');
     await page.factsAre(/built-in list/);
     return told;
