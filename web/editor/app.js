@@ -633,7 +633,8 @@ document.addEventListener('keydown', (event) => {
 
 function actionOf(event, key) {
   if (event.ctrlKey || event.metaKey) {
-    if (event.altKey || document.querySelector('dialog[open]')) return null;
+    // the browser would save the page
+    if (event.altKey || (key !== 's' && document.querySelector('dialog[open]'))) return null;
     if (key === 'z' && !isText(event.target)) return () => step(!event.shiftKey);
     if (key === 'y' && !isText(event.target)) return () => step(false);
     const action = CONTROL_KEYS[key] && ACTIONS[CONTROL_KEYS[key]];

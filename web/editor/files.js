@@ -48,7 +48,9 @@ export class Files {
       }
     } catch (fault) {
       if (!fault.status) throw fault;
-      return this.#refuse(`${file.name}: ${fault.status === 'Ipuz' ? fault.message : refusalText(fault.status)}`);
+      // the engine takes what is no .puz file for a text file
+      const status = fault.status === 'Header' && /\.puz$/i.test(file.name) ? 'Magic' : fault.status;
+      return this.#refuse(`${file.name}: ${status === 'Ipuz' ? fault.message : refusalText(status)}`);
     }
     return this.#opened(file.name);
   }

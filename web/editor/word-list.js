@@ -55,8 +55,14 @@ const WHY = {
   repeated: (count) => (count === 1 ? 'that repeats a word' : 'that repeat words'),
 };
 
-// A spelling without accents: É is E.
-const unaccented = (spelling) => (/[^\x00-\x7f]/.test(spelling) ? spelling.normalize('NFD').replace(/\p{M}/gu, '') : spelling);
+// Letters that are not one of A to Z with an accent, and how they are spelled without it.
+const SPELLED = { Æ: 'AE', æ: 'ae', Œ: 'OE', œ: 'oe', Ø: 'O', ø: 'o', ẞ: 'SS', ß: 'ss', Ł: 'L', ł: 'l', Đ: 'D', đ: 'd', Ð: 'D', ð: 'd', Þ: 'TH', þ: 'th' };
+
+// A spelling without accents: É is E, and Œ is OE.
+function unaccented(spelling) {
+  if (!/[^\x00-\x7f]/.test(spelling)) return spelling;
+  return spelling.normalize('NFD').replace(/\p{M}/gu, '').replace(/\p{L}/gu, (letter) => SPELLED[letter] ?? letter);
+}
 
 // What keeps a spelling without accents from being a word of the list, or null.
 function reasonToLeave(spelling, letters, score, isScored) {

@@ -1780,14 +1780,14 @@ const CASES = {
     };
     await begin(6);
     await open('marked.txt', '\ufeffcat\r\ncot\r\n\r\ncut', '3 words');
-    await open('accents.txt', 'caf\u00e9\ncat\nna\u00efve\ndon\u2019t\ncot\nstra\u00dfe\n', '4 words; 2 without their accents; 2 lines left out: 1 with letters other than A to Z, 1 with signs that are not ASCII');
+    await open('accents.txt', 'caf\u00e9\ncat\nna\u00efve\ndon\u2019t\ncot\nstra\u00dfe\n\u0153uvre\n\u0434\u0430\n', '6 words; 4 without their accents; 2 lines left out: 1 with letters other than A to Z, 1 with signs that are not ASCII');
     await open('latin.txt', Buffer.from('caf\u00e9\ncat\ncot\n', 'latin1'), '3 words; 1 without its accent');
     await openFile(join(room, 'accents.txt'));
-    await page.statusIs(/4 words/);
+    await page.statusIs(/6 words/);
     writeFileSync(join(room, 'greek.txt'), '\u03b3\u03b7\n\u03b8\u03b5\u03ac\n');
     await openFile(join(room, 'greek.txt'));
     await page.statusIs(/^greek.txt: there is no word that the list can take; 2 lines left out: 2 with letters other than A to Z$/);
-    await page.factsAre(/accents.txt, 4 words/);
+    await page.factsAre(/accents.txt, 6 words/);
     await open('short.txt', 'a\ncat\nCat\ncot\n', '2 words; 2 lines left out: 1 with fewer than 2 letters, 1 that repeats a word');
     const scored = '\ufeffcat;10\ncot;-5\ncut;50\near;-1\n\u00e9t\u00e9;90\nword list\noar;20\ntea;70';
     await open('scores.txt', scored, '5 words, the best scores first; 1 without its accent; 3 lines left out: 1 without a score, 2 with scores below 0');
@@ -1902,7 +1902,7 @@ const CASES = {
       else writeFileSync(join(room, name), bytes);
       await hush();
       await browser.drop(join(room, name));
-      await page.statusIs(new RegExp(`^${name}`), 'bad');
+      await page.statusIs(name === 'some.puz' ? /^some.puz: this is no .puz file$/ : new RegExp(`^${name}`), 'bad');
       expect((await page.rows()).join() === rows.join(), `${name} changes the grid`);
       await page.factsAre(/built-in list/);
     }
@@ -2269,6 +2269,11 @@ const CASES = {
     const session = (await saved('crossword.xw', () => browser.press('Control+s'))).toString();
     await page.statusIs(/^saved: crossword.xw: the session, since row 1, column 4 is empty$/);
     expect(/^# xw session 1$/m.test(session) && /set 1 3 O/.test(session), session);
+    await menu('print');
+    await browser.until("document.getElementById('print-dialog').open");
+    await saved('crossword.xw', () => browser.press('Control+s'));
+    await browser.press('Escape');
+    await browser.until("!document.querySelector('dialog[open]')");
     await browser.press('|');
     await browser.until("document.querySelector('.bar-right')");
     await saved('crossword.xw', () => browser.press('Control+s'));
