@@ -5,8 +5,8 @@ import { bodyOf, wordsOf } from './record.js';
 // the most workers of the page, on a screen that is touched, as of a tablet, and elsewhere
 const MOST_TOUCHED = 4;
 const MOST = 16;
-// workers that have more words do not wait for the next search
-const MOST_HELD = 120000;
+// the most words that workers hold while they wait for the next search, together; each takes some 100 bytes
+const MOST_HELD = 1200000;
 
 const isTouched = () => matchMedia('(pointer: coarse)').matches;
 
@@ -58,10 +58,9 @@ export class Helpers {
     return helper.engine;
   }
 
-  // Lets their memory go where there is little of it. Where they need much, one stays.
+  // Lets their memory go where there is little of it. Elsewhere as many stay as need not much of it, but one at least.
   rest() {
-    if (isTouched()) this.#end(0);
-    else if (this.#editor.list.words > MOST_HELD) this.#end(1);
+    this.#end(isTouched() ? 0 : Math.max(1, Math.floor(MOST_HELD / this.#editor.list.words)));
   }
 
   // Ends all but the first ones.
