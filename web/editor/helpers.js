@@ -5,7 +5,7 @@ import { bodyOf, wordsOf } from './record.js';
 // the most workers of the page, on a screen that is touched, as of a tablet, and elsewhere
 const MOST_TOUCHED = 4;
 const MOST = 16;
-// the most words that workers hold while they wait for the next search, together; each takes some 100 bytes
+// the most words that workers hold while they wait for the next search, together
 const MOST_HELD = 1200000;
 
 const isTouched = () => matchMedia('(pointer: coarse)').matches;
