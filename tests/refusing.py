@@ -1,24 +1,19 @@
 """Steps that refuse every allocation of the program in turn, alone and together with all that follow it.
 
-The program runs with refuse.c preloaded, which the kit's clang builds; without the kit these steps fail. Whatever is refused, the program
-has to end by itself and free all that it holds, and one of these has to be true:
+The program runs with refuse.c preloaded. Whatever is refused, the program has to end by itself and free all that it holds, and one of these
+has to be true:
 
 - everything is as without the refusal;
 - a command is answered `no Memory`, and everything else is as if its line were not there;
 - the run ends with `xw: memory` and status 4, and each file has its old bytes or its new ones.
 """
-import functools
 import mmap
 import os
-import pathlib
 import re
 import struct
-import subprocess
-import tempfile
 
+from preload import library
 from steps import ACCEPTED, FAILED, REFUSED, compare
-
-SOURCE = pathlib.Path(__file__).resolve().parent / "refuse.c"
 
 # The page that the program shares, as refuse.c lays it out.
 FIELDS = "count first last refused live waits at length status".split()
@@ -31,17 +26,6 @@ REFUSAL, MESSAGE = b"no Memory\n", b"xw: memory\n"
 
 # Commands that show the whole state of a session.
 STATE = b"show,lights,cells,counts,texts,circles,dups,unlisted,record,stats,suggest,match ..,match ...,match ....,match .....".split(b",")
-
-
-@functools.cache
-def library():
-    """The folder and the path of the library that refuses; the folder goes when this process ends."""
-    folder = tempfile.TemporaryDirectory()
-    path = pathlib.Path(folder.name, "refuse.so")
-    page = subprocess.run(["rt", "doc"], capture_output=True, text=True, check=True).stdout.strip()
-    clang = pathlib.Path(page).parent / "toolchain/bin/clang"
-    subprocess.run([clang, "-fuse-ld=lld", "-O2", "-fPIC", "-nostdlib", "-shared", "-o", path, SOURCE], check=True)
-    return folder, path
 
 
 class Stopped:
@@ -62,7 +46,7 @@ class Stopped:
         self.reports, reports = os.pipe()
         null = os.open(os.devnull, os.O_RDONLY)
         streams = {0: null, 1: self.output, 2: self.errors, 100: orders, 101: reports}
-        env = {"LD_PRELOAD": str(library()[1]), "REFUSE_PAGE": str(room / ".page")}
+        env = {"LD_PRELOAD": library("refuse"), "REFUSE_PAGE": str(room / ".page")}
         actions = [(os.POSIX_SPAWN_DUP2, file, number) for number, file in streams.items()]
         here = os.getcwd()
         os.chdir(room)

@@ -1,13 +1,12 @@
 """Replacing files: a file is replaced whole, or stays unchanged."""
 import os
-import re
 import resource
-import shutil
 import signal
 import subprocess
 
+from failing import Failing
 from samples import PLAIN, TEXT
-from steps import FAILED, SECONDS, absent, compare, end, holds, link, run, write
+from steps import ACCEPTED, FAILED, absent, compare, end, holds, link, run, write
 
 OLD = b"what stood there"
 
@@ -103,22 +102,14 @@ def is_killed(words, typed=b""):
     return step
 
 
-def is_synced(words, typed, name, new=r"\.xw-0\.new"):
-    """Checks by strace, where it is installed, that the bytes of a file come to the device before it has its name, and then its name."""
+def is_synced(words, typed=b""):
+    """Checks that the bytes of a file come to the device before it has its name, and then its name."""
 
     def step(room, program):
-        if not shutil.which("strace"):
-            return
-        calls = "trace=rename,renameat,renameat2,fsync,fdatasync"
-        tracing = ["strace", "-qq", "-f", "-y", "-e", calls, "-o", "calls", program, *words.split()]
-        ended = subprocess.run(tracing, cwd=room, input=typed, capture_output=True, timeout=SECONDS)
-        if b"ptrace" in ended.stderr or ended.returncode == 1:
-            return
-        compare("status", ended.returncode, 0)
-        found = (room / "calls").read_text()
-        here = re.escape(str(room.resolve()))
-        order = rf"sync\(\d+<{here}/{new}>.*rename[a-z0-9]*\([^\n]*{re.escape(name)}\"[^\n]*= 0\n.*sync\(\d+<{here}>[^\n]*= 0\n"
-        assert re.search(order, found, re.S), f"calls: {found}"
+        ended = Failing(room, program, words, typed)
+        compare("status", ended.status, ACCEPTED)
+        order = ["fsync .xw-0.new", "rename .xw-0.new", "fsync ."]
+        compare(f"calls of xw {words}", [call for call in ended.calls if call in order], order)
 
     return step
 
@@ -192,9 +183,9 @@ CASES = {
     "rights_from_the_start, of a new file": [write("plain.puz", PLAIN), has_mode_of_the_mask(0o077, 0o600), has_mode_of_the_mask(0o022, 0o644)],
     "synced": [
         write("plain.puz", PLAIN),
-        is_synced("convert plain.puz new", b"", "new"),
-        is_synced("edit --save mine.xw", b"size 2 1\n", "mine.xw"),
-        is_synced("edit --journal kept.xw", b"size 2 1\n", "kept.xw"),
+        is_synced("convert plain.puz new.txt"),
+        is_synced("edit --save mine.xw", b"size 2 1\n"),
+        is_synced("edit --journal kept.xw", b"size 2 1\n"),
     ],
     "rights_kept": [
         write("plain.puz", PLAIN),
