@@ -107,6 +107,18 @@ CASES = {
             + b"ok\n",
         ),
     ],
+    # Lights in a row and a column of the largest grid have the numbers of their starts: the columns of the first row, and then the rows.
+    "largest_grid": [
+        run(
+            "edit",
+            b"size 255 255\nlights\n",
+            output=b"ok\n"
+            + b"1 across 1 1 " + b"." * 255 + b"\n"
+            + b"".join(b"%d down 1 %d " % (number, number) + b"." * 255 + b"\n" for number in range(1, 256))
+            + b"".join(b"%d across %d 1 " % (254 + row, row) + b"." * 255 + b"\n" for row in range(2, 256))
+            + b"ok\n",
+        )
+    ],
     "many_words": [
         write("many.txt", words(5000)),
         run(

@@ -14,6 +14,10 @@ CASES = {
         b"no BadLetter\nno Command\nno BadLetter\nno BadLetter\nno Command\nno BadLetter\nno BadLetter\n",
     )],
     "forms_of_lines: other letters": [answers(b"add C\xC3\x84T\nadd \xC2\xA0CAT\n", b"no BadLetter\n" * 2)],
+    # The bytes next to the letters, and the least and the greatest byte.
+    "forms_of_lines: bytes that are no letters": [
+        *(answers(b"size 2 1\nset 1 1 %c\nadd A%c\nmatch .%c\n" % (byte, byte, byte), b"ok\n" + b"no BadLetter\n" * 3) for byte in b"@[`{\0\xFF"),
+    ],
     # A line has at most 4,096 bytes, not counting its LF but counting its CR.
     "long_lines: 4,096 bytes and LF": [answers(b"add " + b"a" * 4092 + b"\n", b"no Length\n")],
     "long_lines: 4,096 bytes": [answers(b"add " + b"a" * 4092, b"no Length\n")],

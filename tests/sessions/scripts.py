@@ -66,6 +66,8 @@ ok
 no Size
 > size 0 3
 no Size
+> size 3 256
+no Size
 > size 3
 no Arguments
 > frob
@@ -145,6 +147,82 @@ ok
 > lights
 1 across 1 1 ....
 ok
+@ bar_parts_a_word: The words of the parts, and again those of the whole light.
+> size 4 1
+ok
+> add OVER
+ok
+> add ON
+ok
+> watch on
+ok
+> words 1 across
+1
+OVER
+ok
+> bar 1 2 right
+cell 1 2 N
+cell 1 3 O
+cell 1 4 N
+ok
+> words 1 across
+1
+ON
+ok
+> words 2 across
+1
+ON
+ok
+> bar 1 2 right
+cell 1 2 V
+cell 1 3 E
+cell 1 4 R
+ok
+> words 1 across
+1
+OVER
+ok
+> words 2 across
+no NoLight
+@ refused_edits_change_nothing
+> size 3 3
+ok
+> sym half
+ok
+> set 3 3 A
+ok
+> block 1 1
+no Occupied
+> show
+- - -
+- - -
+- - A
+ok
+> clear 3 3
+ok
+> block 1 1
+ok
+> clear 1 1
+no OnBlock
+> show
+# - -
+- - -
+- - #
+ok
+> size 4 3
+ok
+> sym quarter
+no NotSquare
+> bar 1 4 right
+no Border
+> bar 4 4 right
+no OutOfGrid
+> set 5 1 A
+no OutOfGrid
+> size 2 1
+ok
+> sym quarter
+no NotSquare
 @ refused_block_quarter_turn_border_and_cell
 > size 3 3
 ok
@@ -272,6 +350,174 @@ ok
 > lights
 1 across 1 1 X.Z
 ok
+@ unknown_word_on_the_watch
+> size 3 1
+ok
+> add CAT
+ok
+> watch on
+ok
+> place 1 across xyz
+cell 1 1 X
+cell 1 2 Y
+cell 1 3 Z
+ok
+> words 1 across
+1
+XYZ
+ok
+> suggest
+done
+ok
+> unlisted
+1 across XYZ
+ok
+> fill 0
+filled
+ok
+> place 1 across CAT
+cell 1 1 C
+cell 1 2 A
+cell 1 3 T
+ok
+> unlisted
+ok
+@ known_word_placed_and_struck: An entered word stays when it is struck.
+> size 3 1
+ok
+> add CAT
+ok
+> watch on
+ok
+> place 1 across CAT
+ok
+> words 1 across
+1
+CAT
+ok
+> strike CAT
+ok
+> words 1 across
+1
+CAT
+ok
+> suggest
+done
+ok
+> unlisted
+1 across CAT
+ok
+> fill 0
+filled
+ok
+@ edits_with_words_refused: A refused edit changes nothing. Where several refusals apply, one comes before the others.
+> size 3 1
+ok
+> add CAT
+ok
+> watch on
+ok
+> place 1 across AB
+no PlaceLength
+> place 2 across A4
+no NoLight
+> place 1 across A4B
+no BadLetter
+> place 1 across A4
+no BadLetter
+> add 4
+no BadLetter
+> add A
+no Length
+> add cat
+no Known
+> strike C4
+no BadLetter
+> strike A
+no Length
+> strike DOG
+no Unknown
+> words 1 across
+1
+CAT
+ok
+> strike CAT
+cell 1 1 -
+cell 1 2 -
+cell 1 3 -
+ok
+> strike CAT
+no Unknown
+@ one_word_three_times: The suggestion ignores repeats, but a search has no fill with them.
+> size 2 5
+ok
+> add AS
+ok
+> block 2 1
+ok
+> block 2 2
+ok
+> block 4 1
+ok
+> block 4 2
+ok
+> place 1 across AS
+ok
+> place 2 across AS
+ok
+> place 3 across AS
+ok
+> dups
+2 across 1 across AS
+3 across 1 across AS
+ok
+> unlisted
+ok
+> suggest
+done
+ok
+> fill 0
+nofill
+ok
+> show
+A S
+# #
+A S
+# #
+A S
+ok
+@ grade_of_a_word_that_returns: It keeps its grade, unless it gets another one.
+> size 2 1
+ok
+> add co
+ok
+> add CO
+no Known
+> strike Co
+ok
+> add cO
+ok
+> place 1 across co
+ok
+> grades
+1 across 100
+ok
+> strike CO
+ok
+> add co 20
+ok
+> strike CO
+ok
+> add co
+ok
+> grades
+1 across 20
+ok
+> place 1 across no
+ok
+> unlisted
+1 across NO
+ok
 @ cells_and_key_words: Cells that no grid has, blocks, and key words.
 > size 2 2
 ok
@@ -322,6 +568,24 @@ no NoLight
 no NulByte
 > clue 9 across a\0
 no NoLight
+@ clues_by_start_and_direction: A clue replaces the one before it, and one of the other direction stays.
+> size 2 2
+ok
+> clue 1 across one
+ok
+> clue 1 down two words
+ok
+> clue 1 across again
+ok
+> texts
+clue 1 across again
+clue 1 down two words
+ok
+> clue 1 across
+ok
+> texts
+clue 1 down two words
+ok
 @ circles_toggled
 > size 2 2
 ok

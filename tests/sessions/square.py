@@ -239,6 +239,8 @@ ok
 cell 1 2 ABCDEFGHIJKLMNOPQRSTUVWXYZ
 cell 2 1 ABCDEFGHIJKLMNOPQRSTUVWXYZ
 ok
+> lights
+ok
 @ unlisted_entries_complete_a_square
 > watch on
 ok
@@ -260,8 +262,28 @@ ok
 1 across XT
 1 down XS
 ok
+> words 1 across
+1
+XT
+ok
+> words 1 down
+1
+XS
+ok
+> words 2 down
+1
+TO
+ok
+> words 3 across
+1
+SO
+ok
 > suggest
 try 2 down TO
+ok
+> show
+X T
+S -
 ok
 > fill 1
 filled
@@ -277,6 +299,9 @@ ok
 > show
 - -
 - -
+ok
+> words 1 across 0
+2
 ok
 > fill 4
 filled
@@ -304,6 +329,106 @@ ok
 3 across 2 down TO
 ok
 > unlisted
+ok
+@ square_of_one_row_and_back: Another size keeps the words, and takes away the crossing lights.
+> size 2 1
+ok
+> lights
+1 across 1 1 ..
+ok
+> words 1 across
+5
+AS
+AT
+SO
+TO
+IN
+ok
+> letters 1 1
+AIST
+ok
+> size 2 2
+ok
+> counts
+1 across 2
+1 down 2
+2 down 2
+3 across 2
+ok
+> cells
+cell 1 1 A
+cell 1 2 ST
+cell 2 1 ST
+cell 2 2 O
+ok
+@ square_with_a_corner_blocked
+> watch on
+ok
+> block 2 2
+cell 1 1 AIST
+cell 1 2 NOST
+cell 2 1 NOST
+ok
+> words 2 down
+no NoLight
+> words 3 across 0
+no NoLight
+> letters 3 1
+no OutOfGrid
+> letters 2 2
+no OnBlock
+> set 1 4 X
+no OutOfGrid
+> set 2 2 X
+no OnBlock
+> clear 0 1
+no OutOfGrid
+> clear 2 2
+no OnBlock
+> block 3 3
+no OutOfGrid
+> set 1 1 X
+cell 1 1 -
+cell 1 2 -
+cell 2 1 -
+ok
+> block 1 1
+no Occupied
+> bar 3 1 right
+no OutOfGrid
+> bar 1 2 right
+no Border
+> bar 2 1 below
+no Border
+> show
+X -
+- #
+ok
+@ fill_of_an_entry_without_words
+> set 1 1 X
+ok
+> fill 0
+nofill
+ok
+> show
+X -
+- -
+ok
+@ word_proposed_after_changes: A word that was struck and came back, and another symmetry, change nothing for it.
+> strike SO
+ok
+> add SO
+ok
+> sym half
+ok
+> place 1 across AT
+ok
+> suggest
+try 2 down TO
+ok
+> show
+A T
+- -
 ok
 @ words_left_without_so: Without SO each light has one word left, and each word two lights.
 > strike SO
