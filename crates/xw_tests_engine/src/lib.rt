@@ -1,15 +1,11 @@
-//! Worked examples of the engine's crates, each by calls to the crate's public functions.
+//! Worked examples of what only a call of a library shows: its outcome is no answer of the program.
 #![tactic(auto)]
 
-#[cfg(test)]
-mod edits;
-#[cfg(test)]
-mod feas;
-#[cfg(test)]
-mod fill;
 #[cfg(test)]
 mod grid;
 #[cfg(test)]
 mod searching;
 #[cfg(test)]
 mod words;
+#[cfg(test)]
+mod writing;

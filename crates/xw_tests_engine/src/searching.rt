@@ -1,11 +1,11 @@
 //! Worked examples of saved states, and of words counted by letter, for both engines.
 ghost use Rattle.xw_feas.specs.Snapshot.{IsTwin};
 
-use crate::edits::{ACROSS_1, Start, at};
 use std::alloc::Global;
 use xw_feas::board::Board;
 use xw_feas::edit::{Edit, Refusal};
 use xw_feas::searchable::Searchable;
+use xw_grid::cell::{Cell, Direction, LightName};
 use xw_grid::grid::Grid;
 use xw_letters::letter::Letter;
 use xw_live::live::Live;
@@ -16,11 +16,13 @@ use xw_words::bank::Bank;
 /// letter there.
 type Tally = (usize, usize, u8, usize);
 
-const THREE_BY_THREE: Start = Start {
-    width: 3,
-    height: 3,
-    words: "CAT ARE TEN COT ORE BAT",
+const ACROSS_1: LightName = LightName {
+    number: 1,
+    direction: Direction::Across,
 };
+
+/// The words of a grid of 3 by 3 cells.
+const WORDS: &str = "CAT ARE TEN COT ORE BAT";
 
 /// Of the empty grid. Across 1 and down 1 may be CAT, COT or BAT, down 2 and across 4 may be ARE or
 /// ORE, and the others are TEN.
@@ -60,9 +62,9 @@ const WITH_CAT: &[Tally] = &[
 
 /// Opens an engine with an empty grid, and adds the words.
 fn opened<E: Searchable>(alloc: Global) -> Result<E, Refusal> {
-    let grid = Grid::new(alloc, THREE_BY_THREE.width, THREE_BY_THREE.height)?;
+    let grid = Grid::new(alloc, 3, 3)?;
     let mut engine = E::open(alloc, grid, Bank::new(alloc)?)?;
-    for word in THREE_BY_THREE.words.split_ascii_whitespace() {
+    for word in WORDS.split_ascii_whitespace() {
         let _ = engine.edit(&Edit::Add(word.as_bytes(), None))?;
     }
     Ok(engine)
@@ -94,7 +96,7 @@ fn counts_all<E: Searchable>(engine: &E, tallies: &[Tally]) -> bool {
 fn enter_o<E: Searchable>(engine: &mut E)
     ensures { IsTwin (E.state engine.old) (E.state engine.new) }
 {
-    let _ = engine.edit(&Edit::Set(at(1, 2), Letter::capital(b'O')));
+    let _ = engine.edit(&Edit::Set(Cell { row: 1, col: 2 }, Letter::capital(b'O')));
 }
 
 /// Whether an engine goes back to the empty grid and forth again.

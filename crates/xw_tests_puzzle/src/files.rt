@@ -1,5 +1,0 @@
-//! Tests of puzzle files.
-mod cases;
-mod puz;
-mod puzzles;
-mod text;

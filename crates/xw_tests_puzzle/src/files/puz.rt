@@ -1,4 +1,0 @@
-//! Tests of the `.puz` format.
-mod files;
-mod reading;
-mod writing;
