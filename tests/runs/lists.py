@@ -41,6 +41,8 @@ def at_a_border(count):
         typed += "match .B\nmatch B.\nmatch ..\nwords 1 across\nset 1 2 C\nwords 1 across\nclear 1 2\n"
         output += "".join(lines(it for it in known if it[place] == "B") + "ok\n" for place in (1, 0)) + lines(known) + "ok\n"
         output += feasible(known) + "ok\n" + feasible([it for it in known if it[1] == "C"]) + "ok\n"
+        typed += lines(f"match {it}" for it in words)
+        output += "".join(f"{it}\nok\n" if it in known else "ok\n" for it in words)
         typed += lines(f"{change} {it}" for it in struck)
         output += "ok\n" * len(struck)
     return is_loaded(lines(words).encode(), count, 0, (typed + "match ..\n").encode(), (output + lines(words) + "ok\n").encode())
