@@ -33,10 +33,11 @@ class Failing:
 
 
 def each_failing(make):
-    """The runs that `make(first, last)` makes, with each call failing in turn: alone, and with all that follow. It ends when none fails."""
-    for last_of in (lambda first: first, lambda first: ALL):
+    """The runs that `make(first, last)` makes, with each call failing in turn: alone, and with all that follow. Each time the last run is one
+    in which none fails."""
+    for is_alone in (True, False):
         first = 1
-        while (run := make(first, last_of(first))).failed:
-            yield run
+        while (ended := make(first, first if is_alone else ALL)).failed:
+            yield ended
             first += 1
-        yield run
+        yield ended
