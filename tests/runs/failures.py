@@ -5,12 +5,12 @@ import errno
 from failing import ALL, INPUT, OUTPUT, Failing, each_failing
 from samples import PLAIN, TEXT
 from sessions.square import IN_THE_SQUARE, SQUARE
-from steps import ACCEPTED, FAILED, FIRST, REFUSED, compare, exchange, scripts, write
+from steps import ACCEPTED, FAILED, FIRST, REFUSED, compare, exchange, link, scripts, write
 
 from runs.journals import CUT, record
 
-# Calls on files whose failure is reported. Another one may be, but for those on the folder, which not every file system can bring to the
-# device: without a lock, or if a file is not found to be a link, a file is replaced all the same.
+# Calls on files whose failure is reported, but for those on the folder, which not every file system can bring to the device. The failure of
+# another call may be: without a lock, a file is replaced all the same.
 REPORTED = "read readlink open-to-write create write ftruncate fsync fdatasync fchmod rename".split()
 ON_THE_FOLDER = ("open .", "fsync .")
 
@@ -54,9 +54,11 @@ def message(name, fault):
     return f"xw: {name}: {fault}\n".encode()
 
 
-def replaces(words, name, new, old, typed=b"", read=()):
-    """Replaces a file while calls fail, and checks that it is whole or as it was. `read` are the files that are read before."""
-    messages = [message(name, "cannot write"), *(message(it, "cannot read") for it in read)]
+def replaces(words, name, new, old, typed=b"", read=(), links=()):
+    """Replaces a file while calls fail, and checks that it is whole or as it was. `read` are the files that are read before, and `links`
+    are those that stay links."""
+    told = links[0] if links else name
+    messages = [message(told, "cannot write"), *(message(it, "cannot read") for it in read)]
 
     def step(room, program):
         def run(first, last):
@@ -66,6 +68,7 @@ def replaces(words, name, new, old, typed=b"", read=()):
         for ended in each_failing(run):
             has_ended(ended, messages)
             compare(f"{name} after {ended.what}", holds_now(room, name), new if ended.status == ACCEPTED else old)
+            compare(f"links after {ended.what}", [it for it in links if (room / it).is_symlink()], list(links))
             is_swept(room, ended)
 
     return step
@@ -256,6 +259,12 @@ OLD = b"what stood there"
 CASES = {
     "file_replaced, an old one": [write("plain.txt", TEXT), replaces("convert plain.txt out.puz", "out.puz", PLAIN, OLD, read=["plain.txt"])],
     "file_replaced, none": [write("plain.txt", TEXT), replaces("convert plain.txt out.puz", "out.puz", PLAIN, None, read=["plain.txt"])],
+    "file_replaced, through links": [
+        write("plain.txt", TEXT),
+        link("one.puz", "two.puz"),
+        link("two.puz", "real.puz"),
+        *(replaces("convert plain.txt one.puz", "real.puz", PLAIN, old, read=["plain.txt"], links=["one.puz", "two.puz"]) for old in (OLD, None)),
+    ],
     "file_replaced, by a session": [replaces("edit --save mine.xw", "mine.xw", record(), OLD, b"size 2 1\n")],
     "old_file_kept_beside": [keeps_the_old_file(None), keeps_the_old_file(OLD)],
     "line_not_lost, of a new journal": [Journaling(None, FIRST, BEGINNING + MORE, " --sync")],

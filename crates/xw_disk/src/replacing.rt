@@ -56,6 +56,7 @@ fn follow<R: Files + AllocGlobal>(rt: &R, path: &mut PathBuf) -> io::Result<bool
             path.push(&next)?;
             Ok(true)
         }
+        Err(error) if error.kind() != ErrorKind::NotFound => Err(error),
         _ => Ok(false),
     }
 }
