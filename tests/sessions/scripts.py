@@ -410,6 +410,57 @@ ok
 > fill 0
 filled
 ok
+@ tallies_of_an_entered_word: The light has this word alone, and its letters leave others to the crossing lights.
+> size 3 3
+ok
+> add CAT
+ok
+> add ARE
+ok
+> add TEN
+ok
+> add COT
+ok
+> add ORE
+ok
+> add BAT
+ok
+> tally 1 1
+B 1 1
+C 2 2
+ok
+> tally 1 2
+A 2 1
+O 1 1
+ok
+> place 1 across CAT
+ok
+> tally 1 1
+C 1 2
+ok
+> tally 1 2
+A 1 1
+ok
+> tally 2 1
+A 1 1
+O 1 1
+ok
+> clear 1 1
+ok
+> clear 1 3
+ok
+> set 1 2 O
+ok
+> tally 1 1
+C 1 2
+ok
+> tally 1 2
+O 1 1
+ok
+> tally 2 1
+A 1 1
+O 1 1
+ok
 @ edits_with_words_refused: A refused edit changes nothing. Where several refusals apply, one comes before the others.
 > size 3 1
 ok

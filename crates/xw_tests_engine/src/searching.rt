@@ -5,7 +5,7 @@ use std::alloc::Global;
 use xw_feas::board::Board;
 use xw_feas::edit::{Edit, Refusal};
 use xw_feas::searchable::Searchable;
-use xw_grid::cell::{Cell, Direction, LightName};
+use xw_grid::cell::Cell;
 use xw_grid::grid::Grid;
 use xw_letters::letter::Letter;
 use xw_live::live::Live;
@@ -15,11 +15,6 @@ use xw_words::bank::Bank;
 /// A light by its index, a position, a letter, and how many feasible words of the light have the
 /// letter there.
 type Tally = (usize, usize, u8, usize);
-
-const ACROSS_1: LightName = LightName {
-    number: 1,
-    direction: Direction::Across,
-};
 
 /// The words of a grid of 3 by 3 cells.
 const WORDS: &str = "CAT ARE TEN COT ORE BAT";
@@ -47,17 +42,6 @@ const WITH_O: &[Tally] = &[
     (1, 0, b'B', 0),
     (2, 0, b'O', 1),
     (2, 0, b'A', 0),
-];
-
-/// With CAT entered in across 1.
-const WITH_CAT: &[Tally] = &[
-    (0, 0, b'C', 1),
-    (0, 1, b'A', 1),
-    (0, 1, b'O', 0),
-    (1, 1, b'A', 1),
-    (1, 1, b'O', 1),
-    (2, 0, b'A', 1),
-    (2, 0, b'O', 0),
 ];
 
 /// Opens an engine with an empty grid, and adds the words.
@@ -115,13 +99,6 @@ fn goes_back<E: Searchable>(alloc: Global) -> Result<bool, Refusal> {
     Ok(passes && counts_all(&engine, WITH_O))
 }
 
-/// Whether an engine counts the word that a light's letters spell.
-fn counts_entered<E: Searchable>(alloc: Global) -> Result<bool, Refusal> {
-    let mut engine: E = opened(alloc)?;
-    let _ = engine.edit(&Edit::Place(ACROSS_1, b"CAT"))?;
-    Ok(counts_all(&engine, WITH_CAT))
-}
-
 #[test]
 fn plain_goes_back(rt: HostRuntime) {
     assert!(rt; goes_back::<Plain>(rt.alloc()) == Ok(true));
@@ -130,14 +107,4 @@ fn plain_goes_back(rt: HostRuntime) {
 #[test]
 fn live_goes_back(rt: HostRuntime) {
     assert!(rt; goes_back::<Live>(rt.alloc()) == Ok(true));
-}
-
-#[test]
-fn plain_counts_entered(rt: HostRuntime) {
-    assert!(rt; counts_entered::<Plain>(rt.alloc()) == Ok(true));
-}
-
-#[test]
-fn live_counts_entered(rt: HostRuntime) {
-    assert!(rt; counts_entered::<Live>(rt.alloc()) == Ok(true));
 }
