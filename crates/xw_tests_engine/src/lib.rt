@@ -4,6 +4,8 @@
 #[cfg(test)]
 mod grid;
 #[cfg(test)]
+mod rows;
+#[cfg(test)]
 mod searching;
 #[cfg(test)]
 mod words;
