@@ -22,12 +22,19 @@ def record(*letters, words=b"", title=b"", watch=b"off"):
     return FIRST + words + b"size 2 1\nsym none\n" + b"".join(letters) + texts + b"watch " + watch + b"\n"
 
 
+def heed_signals():
+    """Has a program end by these signals, which what a shell starts in the background may ignore."""
+    for number in (signal.SIGINT, signal.SIGHUP):
+        signal.signal(number, signal.SIG_DFL)
+
+
 class Session:
     """The program over pipes, with a journal."""
 
     def __init__(self, room, program, words="edit --journal mine.xw"):
         pipes = {"stdin": subprocess.PIPE, "stdout": subprocess.PIPE, "stderr": subprocess.PIPE}
-        self.process = subprocess.Popen(["xw", *words.split()], executable=program, cwd=room, env={}, bufsize=0, **pipes)
+        how = {"executable": program, "cwd": room, "env": {}, "bufsize": 0, "preexec_fn": heed_signals}
+        self.process = subprocess.Popen(["xw", *words.split()], **how, **pipes)
         self.output = os.fdopen(os.dup(self.process.stdout.fileno()), "rb")
 
     def send(self, line):
