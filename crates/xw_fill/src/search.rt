@@ -1,5 +1,5 @@
 //! The search for a fill: depth first, with the words of each light in dictionary order.
-ghost use Rattle.std.specs.Prelude.{◌≡◌, ◌<◌, ◌≤◌, false, suc, length, IfOk, IfErr, OnErr, IfSome, IfNone};
+ghost use Rattle.std.specs.Prelude.{◌≡◌, ◌<◌, ◌≤◌, false, suc, [], length, IfOk, IfErr, OnErr, IfSome, IfNone};
 ghost use Rattle.std.specs.Vec.{vec_capacity};
 ghost use Rattle.xw_fill.specs.Position.{DiffersInEntries};
 ghost use Rattle.xw_fill.specs.OfState.{is_dead, light_count, unentered_count, outlook};
@@ -152,6 +152,55 @@ fn marks_for<E: Feasible>(engine: &E, next: Next) -> usize
     }
 }
 
+/// Fills the grid with at most `limit` placements, `first` being the first step. The engine changes only for `Filled`.
+/// The stack holds the start, and has room for a placement in each light. `since` notes the wholly entered lights.
+fn fill_from<E: Searchable>(
+    engine: &mut E,
+    stack: &mut Stack<E, Try>,
+    since: &mut [Option<usize>],
+    watched: &[bool],
+    first: Next,
+    limit: u64,
+) -> Filling
+    requires first { first ≡ outlook (E.state engine.old) }
+    requires empty { stack.old.placements.items ≡ [] }
+    requires room { light_count (E.state engine.old) ≤ vec_capacity stack.old.placements }
+    requires start { start_of E.saved stack.old ≡ E.state engine.old }
+    requires stands { StandsAt E.saved IsMade stack.old (E.state engine.old) }
+    requires long { length since.old ≡ light_count (E.state engine.old) }
+    requires entered { AreEntered (E.state engine.old) (noted since.old 1) }
+    ensures found { IsFilling limit (E.state engine.old) (E.state engine.new) result }
+    ensures fill { HasFill (E.state engine.old) (E.state engine.new) result }
+    ensures answers { UnlessFilled result (E.answers engine.new ≡ E.answers engine.old) }
+{
+    let mut used = 0;
+    let mut next = first;
+    'search: loop {
+        match next {
+            Next::Done => return Filling::Filled,
+            Next::Spent => match stack.back(engine) {
+                None => return Filling::NoFill,
+                Some(tried) => next = Next::Words(tried.light, tried.index + 1),
+            },
+            Next::Words(light, from) => match next_word_index(engine, light, from) {
+                None => next = Next::Spent,
+                Some(index) => {
+                    if used == limit {
+                        stack.reset(engine);
+                        return Filling::Limit;
+                    }
+                    used += 1;
+                    let tried = make_try(engine, light, index);
+                    match try_word(engine, stack, since, watched, tried) {
+                        Some(placed) => next = placed,
+                        None => next = Next::Words(light, index + 1),
+                    }
+                }
+            },
+        }
+    }
+}
+
 /// Fills the grid with at most `limit` placements. The engine changes only for `Filled`. Returns `Memory` if an
 /// allocation fails, and then leaves the engine unchanged. All memory is allocated before the first placement: a try,
 /// a note and a flag for each light, a snapshot of the start, and one for each light that is not wholly entered, up to
@@ -166,31 +215,8 @@ pub fn fill<E: Searchable>(alloc: Global, engine: &mut E, limit: u64) -> Result<
     let count = light_count(engine);
     let mut since = vec![in alloc; None; count]?;
     let all = vec![in alloc; true; count]?;
-    let mut used = 0;
-    let mut next = begin(alloc, engine, since.as_mut_slice())?;
-    let mut stack: Stack<E, Try> = Stack::new(alloc, engine, count, marks_for(engine, next))?;
-    'search: loop {
-        match next {
-            Next::Done => return Ok(Filling::Filled),
-            Next::Spent => match stack.back(engine) {
-                None => return Ok(Filling::NoFill),
-                Some(tried) => next = Next::Words(tried.light, tried.index + 1),
-            },
-            Next::Words(light, from) => match next_word_index(engine, light, from) {
-                None => next = Next::Spent,
-                Some(index) => {
-                    if used == limit {
-                        stack.reset(engine);
-                        return Ok(Filling::Limit);
-                    }
-                    used += 1;
-                    let tried = make_try(engine, light, index);
-                    match try_word(engine, &mut stack, since.as_mut_slice(), &all, tried) {
-                        Some(placed) => next = placed,
-                        None => next = Next::Words(light, index + 1),
-                    }
-                }
-            },
-        }
-    }
+    let first = begin(alloc, engine, since.as_mut_slice())?;
+    let mut stack: Stack<E, Try> = Stack::new(alloc, engine, count, marks_for(engine, first))?;
+    let since = since.as_mut_slice();
+    Ok(fill_from(engine, &mut stack, since, &all, first, limit))
 }

@@ -8,7 +8,7 @@ use Rattle.xw_fill.specs.Inner.Stack.{start_of, StandsAt}
 use Rattle.xw_fill.specs.Inner.Tries.{IsMade}
 use Rattle.xw_fill.proofs.Trail.{AreNotedAlong}
 use Rattle.xw_fill.proofs.Searching.{IsSearching}
-use Rattle.xw_fill.proofs.search.fill.Given as goal
+use Rattle.xw_fill.proofs.search.fill_from.Given as goal
 
 abbrev pub invariant-search : goal.invariant-search
 invariant-search g l =
@@ -22,12 +22,12 @@ invariant-search g l =
       stands : StandsAt g.E.Searchable.saved IsMade l.stack now;
       room : light_count (position_of start) ≤ vec_capacity l.stack.placements;
       few : l.used ≤ l.limit;
-      long : length l.since.items ≡ light_count (position_of start);
-      noted : AreNotedAlong (position_of start) tries l.since.items 0;
+      long : length l.since ≡ light_count (position_of start);
+      noted : AreNotedAlong (position_of start) tries l.since 0;
     }
 
 -- one extra step for a position whose words are being tried
-abbrev steps : Next → ℕ
+abbrev pub steps : Next → ℕ
 steps Done = 0
 steps Spent = 0
 steps (Words light from) = 1

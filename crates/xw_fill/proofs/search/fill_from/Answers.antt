@@ -1,0 +1,302 @@
+use Rattle.std.proofs.Common.{◌≡◌, suc, ◌+◌, ◌≤◌, sym, length, length-append, [], ◌∷◌, ◌++◌, ap, ◌∙◌, subst, arith}
+use Rattle.std.specs.Option.{option_to_list}
+use Rattle.xw_feas.specs.Board.{light_at}
+use Rattle.xw_fill.specs.Position.{position_of}
+use Rattle.xw_fill.specs.Filling.{IsFilling}
+use Rattle.xw_fill.specs.Inner.Noted.{noted, AreEntered, StayNoted}
+use Rattle.xw_fill.specs.Inner.Tries.{AreBlanks, IsMade}
+use Rattle.xw_fill.specs.declared.search.Filling.TheVariants.{Filled, NoFill}
+use Rattle.xw_fill.specs.declared.search.Next.{Next}
+use Rattle.xw_fill.specs.declared.search.Next.TheVariants.{Done, Spent, Words}
+use Rattle.xw_fill.proofs.FeasibleWordsLemmas.{AreAnswers-along}
+use Rattle.xw_fill.proofs.Searching.{IsSearching, IsSound-formed, searching-start, searching-back, searching-spent, searching-open, searching-placed, searching-failed, searching-room, searching-done, searching-none, filling-fill, searching-popped, searching-empty, searching-alive, searching-count, outcome_filling, last-index, due-more}
+use Rattle.xw_fill.proofs.StateLemmas.{DiffersInEntries-itself, DiffersInEntries-then}
+use Rattle.xw_fill.proofs.Trail.{after_try, AreNotedAlong, noted-last, noted-back, noted-more}
+use Rattle.xw_fill.proofs.search.fill_from.Invariants.{steps}
+use Rattle.xw_fill.proofs.search.fill_from.Goals as goal
+
+pub returns-in-None-clause-found : goal.returns-in-None-clause-found
+returns-in-None-clause-found g c =
+    let before = g.E.Feasible.state c.args.engine.now in
+    let start = position_of before in
+    let now = g.E.Feasible.state c.search.engine in
+    let current = position_of now in
+    let long : length c.search.stack.placements.items ≡ 0 = ap length c.in-None.ensures.none in
+    let searching = searching-empty start current c.search.stack.placements.items c.back.new.self.placements.items c.back.result c.search.used c.search.next c.search.invariant.searching c.in-Spent.is c.back.ensures.placements c.in-None.is long in
+    subst (λ engine. IsFilling c.args.limit before (g.E.Feasible.state engine) NoFill) (sym c.in-None.ensures.same) (outcome_filling c.args.limit before now NoFill c.search.invariant.entries (searching-none start current c.search.used c.args.limit searching c.search.invariant.few))
+
+pub returns-in-Done-clause-found : goal.returns-in-Done-clause-found
+returns-in-Done-clause-found g c =
+    let before = g.E.Feasible.state c.args.engine.now in
+    let start = position_of before in
+    let now = g.E.Feasible.state c.search.engine in
+    let current = position_of now in
+    let sound = IsSound-formed before (g.met.E.Feasible.well_formed c.args.engine.now) in
+    outcome_filling c.args.limit before now Filled c.search.invariant.entries (searching-done start current c.search.stack.placements.items c.search.used c.args.limit sound (subst (IsSearching start c.search.stack.placements.items c.search.used current) c.in-Done.is c.search.invariant.searching) c.search.invariant.few)
+
+pub returns-in-Done-clause-fill : goal.returns-in-Done-clause-fill
+returns-in-Done-clause-fill g c =
+    let before = g.E.Feasible.state c.args.engine.now in
+    let start = position_of before in
+    let now = g.E.Feasible.state c.search.engine in
+    let current = position_of now in
+    let formed = g.met.E.Feasible.well_formed c.args.engine.now in
+    filling-fill c.args.limit before now Filled formed (outcome_filling c.args.limit before now Filled c.search.invariant.entries (searching-done start current c.search.stack.placements.items c.search.used c.args.limit (IsSound-formed before formed) (subst (IsSearching start c.search.stack.placements.items c.search.used current) c.in-Done.is c.search.invariant.searching) c.search.invariant.few))
+
+pub returns-in-None-clause-fill : goal.returns-in-None-clause-fill
+returns-in-None-clause-fill g c =
+    let before = g.E.Feasible.state c.args.engine.now in
+    let start = position_of before in
+    let now = g.E.Feasible.state c.search.engine in
+    let current = position_of now in
+    let formed = g.met.E.Feasible.well_formed c.args.engine.now in
+    let long : length c.search.stack.placements.items ≡ 0 = ap length c.in-None.ensures.none in
+    let searching = searching-empty start current c.search.stack.placements.items c.back.new.self.placements.items c.back.result c.search.used c.search.next c.search.invariant.searching c.in-Spent.is c.back.ensures.placements c.in-None.is long in
+    filling-fill c.args.limit before now NoFill formed (outcome_filling c.args.limit before now NoFill c.search.invariant.entries (searching-none start current c.search.used c.args.limit searching c.search.invariant.few))
+
+pub overflow_add-next : goal.overflow_add-next
+overflow_add-next g c =
+    let before = g.E.Feasible.state c.args.engine.now in
+    let start = position_of before in
+    let now = g.E.Feasible.state c.search.engine in
+    let current = position_of now in
+    let sound = IsSound-formed before (g.met.E.Feasible.well_formed c.args.engine.now) in
+    let small = last-index start current c.back.new.self.placements.items c.in-Some.tried c.search.used sound (searching-popped start current c.search.stack.placements.items c.back.new.self.placements.items c.back.result c.in-Some.tried c.search.used c.search.next c.search.invariant.searching c.in-Spent.is c.back.ensures.placements c.in-Some.is) in
+    omega arith
+
+pub next_word_index-requires-clause-light : goal.next_word_index-requires-clause-light
+next_word_index-requires-clause-light g c =
+    let before = g.E.Feasible.state c.args.engine.now in
+    let start = position_of before in
+    let now = g.E.Feasible.state c.search.engine in
+    let current = position_of now in
+    let searching = subst (IsSearching start c.search.stack.placements.items c.search.used current) c.in-Words.is c.search.invariant.searching in
+    let is = searching-open start current c.search.stack.placements.items c.search.used c.in-Words.light c.in-Words.from searching in
+    is.0
+
+pub next_word_index-requires-clause-not_entered : goal.next_word_index-requires-clause-not_entered
+next_word_index-requires-clause-not_entered g c =
+    let before = g.E.Feasible.state c.args.engine.now in
+    let start = position_of before in
+    let now = g.E.Feasible.state c.search.engine in
+    let current = position_of now in
+    let searching = subst (IsSearching start c.search.stack.placements.items c.search.used current) c.in-Words.is c.search.invariant.searching in
+    let is = searching-open start current c.search.stack.placements.items c.search.used c.in-Words.light c.in-Words.from searching in
+    is.1
+
+pub try_word-requires-clause-alive : goal.try_word-requires-clause-alive
+try_word-requires-clause-alive g c =
+    let before = g.E.Feasible.state c.args.engine.now in
+    let start = position_of before in
+    let now = g.E.Feasible.state c.search.engine in
+    let current = position_of now in
+    let searching = subst (IsSearching start c.search.stack.placements.items c.search.used current) c.in-Words.is c.search.invariant.searching in
+    let is = searching-open start current c.search.stack.placements.items c.search.used c.in-Words.light c.in-Words.from searching in
+    searching-alive start current c.search.stack.placements.items c.search.used c.in-Words.light c.in-Words.from searching
+
+pub search-preserved-in-None-next_word_index : goal.search-preserved-in-None-next_word_index
+search-preserved-in-None-next_word_index g c =
+    let before = g.E.Feasible.state c.args.engine.now in
+    let start = position_of before in
+    let now = g.E.Feasible.state c.search.engine in
+    let current = position_of now in
+    let searching = subst (IsSearching start c.search.stack.placements.items c.search.used current) c.in-Words.is c.search.invariant.searching in
+    let is = searching-open start current c.search.stack.placements.items c.search.used c.in-Words.light c.in-Words.from searching in
+    let sound = IsSound-formed before (g.met.E.Feasible.well_formed c.args.engine.now) in
+    record {
+      entries = c.search.invariant.entries;
+      root = c.search.invariant.root;
+      stands = c.search.invariant.stands;
+      long = c.search.invariant.long;
+      noted = c.search.invariant.noted;
+      searching = searching-spent start current c.search.stack.placements.items c.search.used c.in-Words.light c.in-Words.from sound searching c.in-None-next_word_index.ensures;
+      room = c.search.invariant.room;
+      few = c.search.invariant.few;
+    }
+
+pub returns-in-None-clause-answers : goal.returns-in-None-clause-answers
+returns-in-None-clause-answers g c =
+    let before = g.E.Feasible.state c.args.engine.now in
+    let start = position_of before in
+    let now = g.E.Feasible.state c.search.engine in
+    let current = position_of now in
+    let long : length c.search.stack.placements.items ≡ 0 = ap length c.in-None.ensures.none in
+    let searching = searching-empty start current c.search.stack.placements.items c.back.new.self.placements.items c.back.result c.search.used c.search.next c.search.invariant.searching c.in-Spent.is c.back.ensures.placements c.in-None.is long in
+    ap g.E.Feasible.answers c.in-None.ensures.same
+    ∙ AreAnswers-along current start (g.E.Feasible.answers c.search.engine) (g.E.Feasible.answers c.args.engine.now) (g.met.E.Feasible.exact c.search.engine) (g.met.E.Feasible.exact c.args.engine.now) (searching-none start current c.search.used c.args.limit searching c.search.invariant.few).2
+
+pub search-init : goal.search-init
+search-init g c =
+    let before = g.E.Feasible.state c.args.engine.now in
+    record {
+      searching = rw (c.requires.empty, c.requires.first) (searching-start (position_of before));
+      entries = DiffersInEntries-itself before;
+      root = c.requires.start;
+      stands = c.requires.stands;
+      room = c.requires.room;
+      few = omega arith;
+      noted = rw c.requires.empty c.requires.entered;
+      long = c.requires.long;
+    }
+
+pub back-requires : goal.back-requires
+back-requires g c = record { stands = c.search.invariant.stands }
+
+pub search-preserved-in-Some : goal.search-preserved-in-Some
+search-preserved-in-Some g c =
+    let before = g.E.Feasible.state c.args.engine.now in
+    let start = position_of before in
+    let now = g.E.Feasible.state c.search.engine in
+    let current = position_of now in
+    let after = g.E.Feasible.state c.back.new.engine in
+    let left = c.back.new.self.placements.items in
+    let tried = c.in-Some.tried in
+    let sound = IsSound-formed before (g.met.E.Feasible.well_formed c.args.engine.now) in
+    let popped = searching-popped start current c.search.stack.placements.items left c.back.result tried c.search.used c.search.next c.search.invariant.searching c.in-Spent.is c.back.ensures.placements c.in-Some.is in
+    let items : c.search.stack.placements.items ≡ left ++ tried ∷ [] = c.back.ensures.placements ∙ ap (λ o. left ++ option_to_list o) c.in-Some.is in
+    let made : IsMade tried after now = c.in-Some.ensures.back in
+    record {
+      searching = subst (λ position. IsSearching start left c.search.used position (Words tried.light (tried.index + 1))) made.back (searching-back start current left tried c.search.used sound popped);
+      entries = DiffersInEntries-then before now after c.search.invariant.entries c.back.ensures.entries;
+      root = c.back.ensures.start ∙ c.search.invariant.root;
+      stands = c.back.ensures.stands;
+      room = rw c.back.ensures.capacity c.search.invariant.room;
+      few = c.search.invariant.few;
+      long = c.search.invariant.long;
+      noted = noted-back left start tried c.search.since 0 (subst (λ tries. AreNotedAlong start tries c.search.since 0) items c.search.invariant.noted);
+    }
+
+pub reset-requires : goal.reset-requires
+reset-requires g c = record { ready = c.search.invariant.stands.ready }
+
+pub returns-then-used-limit-clause-found : goal.returns-then-used-limit-clause-found
+returns-then-used-limit-clause-found g c =
+    let before = g.E.Feasible.state c.args.engine.now in
+    let start = position_of before in
+    let current = position_of (g.E.Feasible.state c.search.engine) in
+    let searching = subst (IsSearching start c.search.stack.placements.items c.search.used current) c.in-Words.is c.search.invariant.searching in
+    let sound = IsSound-formed before (g.met.E.Feasible.well_formed c.args.engine.now) in
+    let more = due-more start current c.search.stack.placements.items c.search.used c.in-Words.light c.in-Words.from c.in-Some-next_word_index.index sound searching c.in-Some-next_word_index.ensures in
+    (rw (← c.if-used-limit.true) more, c.reset.ensures.back ∙ c.search.invariant.root)
+
+pub returns-then-used-limit-clause-answers : goal.returns-then-used-limit-clause-answers
+returns-then-used-limit-clause-answers g c =
+    let start = position_of (g.E.Feasible.state c.args.engine.now) in
+    AreAnswers-along (position_of (g.E.Feasible.state c.reset.new.engine)) start (g.E.Feasible.answers c.reset.new.engine) (g.E.Feasible.answers c.args.engine.now) (g.met.E.Feasible.exact c.reset.new.engine) (g.met.E.Feasible.exact c.args.engine.now) (ap position_of (c.reset.ensures.back ∙ c.search.invariant.root))
+
+pub make_try-tried-requires : goal.make_try-tried-requires
+make_try-tried-requires g c =
+    let start = position_of (g.E.Feasible.state c.args.engine.now) in
+    let current = position_of (g.E.Feasible.state c.search.engine) in
+    let searching = subst (IsSearching start c.search.stack.placements.items c.search.used current) c.in-Words.is c.search.invariant.searching in
+    let is = searching-open start current c.search.stack.placements.items c.search.used c.in-Words.light c.in-Words.from searching in
+    record { light_in = is.0; not_entered = is.1; index_in = c.in-Some-next_word_index.ensures.within; feasible = c.in-Some-next_word_index.ensures.feasible }
+
+pub try_word-requires-clause-long : goal.try_word-requires-clause-long
+try_word-requires-clause-long g c =
+    let start = position_of (g.E.Feasible.state c.args.engine.now) in
+    let current = position_of (g.E.Feasible.state c.search.engine) in
+    c.search.invariant.long ∙ sym (searching-count start current c.search.stack.placements.items c.search.used c.search.next c.search.invariant.searching)
+
+pub try_word-requires-clause-entered : goal.try_word-requires-clause-entered
+try_word-requires-clause-entered g c =
+    let start = position_of (g.E.Feasible.state c.args.engine.now) in
+    let current = position_of (g.E.Feasible.state c.search.engine) in
+    let tries = c.search.stack.placements.items in
+    let last = noted-last tries _ start _ _ current c.search.since 0 c.search.invariant.searching.trail c.search.invariant.noted in
+    let same : length tries + 0 ≡ length tries = omega arith in
+    subst (λ n. AreEntered current (noted c.search.since (suc n))) same last
+
+pub try_word-requires-clause-room : goal.try_word-requires-clause-room
+try_word-requires-clause-room g c =
+    let start = position_of (g.E.Feasible.state c.args.engine.now) in
+    let current = position_of (g.E.Feasible.state c.search.engine) in
+    let searching = subst (IsSearching start c.search.stack.placements.items c.search.used current) c.in-Words.is c.search.invariant.searching in
+    let room = searching-room start current c.search.stack.placements.items c.search.used c.in-Words.light c.in-Words.from searching in
+    omega (arith, room, c.search.invariant.room)
+
+pub search-preserved-in-Some-try_word : goal.search-preserved-in-Some-try_word
+search-preserved-in-Some-try_word g c =
+    let before = g.E.Feasible.state c.args.engine.now in
+    let start = position_of before in
+    let now = g.E.Feasible.state c.search.engine in
+    let current = position_of now in
+    let after = g.E.Feasible.state c.try_word.new.engine in
+    let tries = c.search.stack.placements.items in
+    let tried = c.make_try-tried.result in
+    let is = c.make_try-tried.ensures in
+    let searching = subst (IsSearching start tries c.search.used current) c.in-Words.is c.search.invariant.searching in
+    let sound = IsSound-formed before (g.met.E.Feasible.well_formed c.args.engine.now) in
+    let blanks = subst (λ light. AreBlanks current.board (light_at current.board light) tried.blanks) is.light is.can.blanks in
+    let placed_now = searching-placed start current tries c.search.used c.in-Words.light c.in-Words.from c.in-Some-next_word_index.index tried sound searching c.in-Some-next_word_index.ensures is.light is.index blanks in
+    let placed = c.in-Some-try_word.ensures.placed in
+    let there : position_of after ≡ after_try current tried = placed.made.placed in
+    let items = placed.pushed in
+    let count : length tries ≡ length tries + 0 = omega arith in
+    let stay = subst (λ n. StayNoted (suc n) c.search.since c.try_word.new.since) count c.try_word.ensures.stay in
+    let last = subst (λ n. AreEntered (after_try current tried) (noted c.try_word.new.since (suc (suc n)))) count (subst (λ position. AreEntered position (noted c.try_word.new.since (suc (suc (length tries))))) there placed.entered) in
+    record {
+      searching = rw (items, placed.step, there) placed_now;
+      entries = DiffersInEntries-then before now after c.search.invariant.entries c.try_word.ensures.entries;
+      root = c.try_word.ensures.start ∙ c.search.invariant.root;
+      stands = c.try_word.ensures.stands;
+      room = omega (arith, c.try_word.ensures.capacity, c.search.invariant.room);
+      few = omega (arith, c.if-used-limit.false, c.search.invariant.few);
+      noted = rw items (noted-more tries _ start _ _ current tried c.search.since c.try_word.new.since 0 c.search.invariant.searching.trail c.search.invariant.noted stay last);
+      long = c.try_word.ensures.long ∙ c.search.invariant.long;
+    }
+
+pub search-preserved : goal.search-preserved
+search-preserved g c =
+    let before = g.E.Feasible.state c.args.engine.now in
+    let start = position_of before in
+    let now = g.E.Feasible.state c.search.engine in
+    let current = position_of now in
+    let after = g.E.Feasible.state c.try_word.new.engine in
+    let tries = c.search.stack.placements.items in
+    let tried = c.make_try-tried.result in
+    let is = c.make_try-tried.ensures in
+    let searching = subst (IsSearching start tries c.search.used current) c.in-Words.is c.search.invariant.searching in
+    let sound = IsSound-formed before (g.met.E.Feasible.well_formed c.args.engine.now) in
+    let blanks = subst (λ light. AreBlanks current.board (light_at current.board light) tried.blanks) is.light is.can.blanks in
+    let died = c.in-None-try_word.ensures.died in
+    let failed = searching-failed start current tries c.search.used c.in-Words.light c.in-Words.from c.in-Some-next_word_index.index tried (position_of died.there) sound searching c.in-Some-next_word_index.ensures is.light is.index blanks died.made.placed died.made.back died.dead in
+    record {
+      searching = rw (died.kept, ap position_of died.same) failed;
+      entries = DiffersInEntries-then before now after c.search.invariant.entries c.try_word.ensures.entries;
+      root = c.try_word.ensures.start ∙ c.search.invariant.root;
+      stands = c.try_word.ensures.stands;
+      room = omega (arith, c.try_word.ensures.capacity, c.search.invariant.room);
+      few = omega (arith, c.if-used-limit.false, c.search.invariant.few);
+      noted = rw (died.kept, died.notes) c.search.invariant.noted;
+      long = ap length died.notes ∙ c.search.invariant.long;
+    }
+
+pub try_word-requires-clause-may : goal.try_word-requires-clause-may
+try_word-requires-clause-may g c = c.make_try-tried.ensures.can
+
+pub try_word-requires-clause-stands : goal.try_word-requires-clause-stands
+try_word-requires-clause-stands g c = c.search.invariant.stands
+
+pub search-smaller-in-Some : goal.search-smaller-in-Some
+search-smaller-in-Some g c =
+    let left = c.back.new.self.placements.items in
+    let items = c.back.ensures.placements ∙ ap (λ o. left ++ option_to_list o) c.in-Some.is in
+    omega (arith, ap length items, length-append left (c.in-Some.tried ∷ []))
+
+pub search-smaller-in-None-next_word_index : goal.search-smaller-in-None-next_word_index
+search-smaller-in-None-next_word_index g c = omega (arith, ap steps c.in-Words.is)
+
+steps-few : (next : Next) → steps next ≤ 1
+steps-few Done = omega arith
+steps-few Spent = omega arith
+steps-few (Words light from) = omega arith
+
+pub search-smaller-in-Some-try_word : goal.search-smaller-in-Some-try_word
+search-smaller-in-Some-try_word g c =
+    let tries = c.search.stack.placements.items in
+    let pushed = c.in-Some-try_word.ensures.placed.pushed in
+    omega (arith, ap steps c.in-Words.is, steps-few c.in-Some-try_word.placed, ap length pushed, length-append tries (c.make_try-tried.result ∷ []), c.if-used-limit.false, c.search.invariant.few)
+
+pub search-smaller : goal.search-smaller
+search-smaller g c = omega (arith, ap length c.in-None-try_word.ensures.died.kept, c.if-used-limit.false, c.search.invariant.few)
