@@ -3,7 +3,7 @@ use Rattle.std.proofs.Common.{◌≡◌, ℕ, suc, ◌-◌, true, false, List, [
 use Rattle.std.specs.Option.{option_to_list}
 use Rattle.std.specs.Prelude.{Option, Some, None, IfNone, Result, Ok, Err, is_ok, OnOk}
 use Rattle.std.proofs.lemmas.Bool.{both_ways, false≢true}
-use Rattle.std.proofs.lemmas.List.{append_assoc, length-append, same_from_push, take-append-drop}
+use Rattle.std.proofs.lemmas.List.{append_assoc, length-append, same_from_push, take_all, take-append-drop, take-append-le}
 use Rattle.xw_feas.specs.State.{State}
 use Rattle.xw_fill.specs.Marks.{held_of, latest}
 use Rattle.xw_fill.specs.Position.{DiffersInEntries}
@@ -98,3 +98,13 @@ count_more placements now placement count is pushed = omega (arith, is, ap lengt
 pub taken_last : {M : Type 0} (placements left : List M) (placement : M) (taken : Option M) → placements ++ placement ∷ [] ≡ left ++ option_to_list taken → IfNone taken (placements ++ placement ∷ [] ≡ []) → (left ≡ placements) × (taken ≡ Some placement)
 taken_last placements left placement None are none = absurd (omega (arith, ap length none, length-append placements (placement ∷ [])))
 taken_last placements left placement (Some last) are none = let same = same_from_push placements left placement last are in (sym same.0, ap Some (sym same.1))
+
+-- taking the last element from a list right after it was appended leaves the list as it was
+pub left_by_pop : {M : Type 0} (placements pushed left : List M) (placement : M) (n : ℕ) → pushed ≡ placements ++ placement ∷ [] → n ≡ length pushed → left ≡ take (n - 1) pushed → left ≡ placements
+left_by_pop placements pushed left placement n pushed_is count left_is =
+    let before : n - 1 ≡ length placements = omega (arith, count, ap length pushed_is, length-append placements (placement ∷ [])) in
+    left_is
+    ∙ ap (λ k. take k pushed) before
+    ∙ ap (take (length placements)) pushed_is
+    ∙ take-append-le (length placements) placements (placement ∷ []) (omega arith)
+    ∙ take_all (length placements) placements (omega arith)

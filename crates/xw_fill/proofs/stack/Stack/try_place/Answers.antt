@@ -1,11 +1,11 @@
-use Rattle.std.proofs.Common.{◌≡◌, ◌∷◌, ◌++◌, [], true, cond, not, sym, ap, ◌∙◌, subst}
+use Rattle.std.proofs.Common.{◌≡◌, ◌∷◌, ◌++◌, [], true, false, cond, not, sym, ap, ◌∙◌, subst}
 use Rattle.std.specs.Prelude.{is_ok}
 use Rattle.std.proofs.lemmas.Bool.{false≢true}
 use Rattle.xw_fill.specs.Marks.{held_of}
 use Rattle.xw_fill.specs.Position.{DiffersInEntries}
 use Rattle.xw_fill.specs.Inner.Stack.{LeadThrough}
 use Rattle.xw_fill.proofs.MarksLemmas.{IsTwin-entries, IsTwin-then, AreTwins-then}
-use Rattle.xw_fill.proofs.StackLemmas.{lead_more, held_kept}
+use Rattle.xw_fill.proofs.StackLemmas.{lead_more, held_kept, left_by_pop}
 use Rattle.xw_fill.proofs.StateLemmas.{DiffersInEntries-itself}
 use Rattle.xw_fill.proofs.stack.Stack.try_place.Goals as goal
 
@@ -19,6 +19,46 @@ pub returns-in-Some-clause-entries : goal.returns-in-Some-clause-entries
 returns-in-Some-clause-entries g c =
     let before = g.E.Feasible.state c.args.engine.now in
     subst (DiffersInEntries before) (sym c.in-Some.ensures.same) (DiffersInEntries-itself before)
+
+pub returns-then-is_err-clause-stands : goal.returns-then-is_err-clause-stands
+returns-then-is_err-clause-stands g c =
+    let items = c.prepare.new.self.placements.items in
+    let stands = c.prepare.ensures.stands in
+    let failed : is_ok c.push.result ≡ false = c.is_err.ensures.negation ∙ ap not c.if-is_err.true in
+    let kept : c.push.new.self.items ≡ items = c.push.ensures.items ∙ ap (λ b. cond b (items ++ c.args.placement ∷ []) items) failed in
+    record {
+      states = stands.states;
+      through = subst (λ placements. LeadThrough g.M.Placement.is_placed placements stands.states (g.E.Feasible.state c.args.engine.now)) (sym kept) stands.through;
+      older = stands.older;
+      held = stands.held;
+      ready = record { root = stands.ready.root; marks = stands.ready.marks };
+      prepared = stands.prepared;
+    }
+
+pub returns-in-Some-clause-stands : goal.returns-in-Some-clause-stands
+returns-in-Some-clause-stands g c =
+    let before = g.E.Feasible.state c.args.engine.now in
+    let stands = c.prepare.ensures.stands in
+    let items = c.prepare.new.self.placements.items in
+    let ok : is_ok c.push.result ≡ true = c.is_err.ensures.negation ∙ ap not c.if-is_err.false in
+    let pushed : c.push.new.self.items ≡ items ++ c.args.placement ∷ [] = c.push.ensures.items ∙ ap (λ b. cond b (items ++ c.args.placement ∷ []) items) ok in
+    let left = left_by_pop items c.push.new.self.items c.pop.new.self.items c.args.placement c.push.new.self.len pushed c.push.new.self.ok.0 c.pop.ensures.rest in
+    rw c.in-Some.ensures.same (record {
+      states = stands.states;
+      through = subst (λ placements. LeadThrough g.M.Placement.is_placed placements stands.states before) (sym left) stands.through;
+      older = stands.older;
+      held = stands.held;
+      ready = record { root = stands.ready.root; marks = stands.ready.marks };
+      prepared = stands.prepared;
+    })
+
+pub returns-in-Some-clause-tried : goal.returns-in-Some-clause-tried
+returns-in-Some-clause-tried g c =
+    let items = c.prepare.new.self.placements.items in
+    let ok : is_ok c.push.result ≡ true = c.is_err.ensures.negation ∙ ap not c.if-is_err.false in
+    let pushed : c.push.new.self.items ≡ items ++ c.args.placement ∷ [] = c.push.ensures.items ∙ ap (λ b. cond b (items ++ c.args.placement ∷ []) items) ok in
+    let left = left_by_pop items c.push.new.self.items c.pop.new.self.items c.args.placement c.push.new.self.len pushed c.push.new.self.ok.0 c.pop.ensures.rest in
+    (left ∙ ap (λ placements. placements.items) c.prepare.ensures.placements, c.in-Some.ensures.same, c.in-Some.ensures.dead)
 
 pub returns-clause-entries : goal.returns-clause-entries
 returns-clause-entries g c = g.met.M.Placement.entries c.args.placement (g.E.Feasible.state c.args.engine.now) (g.E.Feasible.state c.try_place.new.engine) c.in_default.ensures.placed
