@@ -52,14 +52,8 @@ impl Grid {
             return Err(GridFault::Size);
         }
         let size = width as usize * height as usize;
-        Ok(Grid {
-            width,
-            height,
-            squares: vec![in alloc; Square::Open(None); size]?,
-            right: vec![in alloc; false; size]?,
-            below: vec![in alloc; false; size]?,
-            symmetry: Symmetry::None,
-        })
+        let squares = vec![in alloc; Square::Open(None); size]?;
+        Grid::of_squares(alloc, width, height, squares)
     }
 
     /// A grid with these squares, in reading order, without bars or symmetry. There is one square for each
