@@ -110,8 +110,8 @@ impl Lights {
     fn is_at(&self, index: usize, name: LightName) -> bool
         ensures { result ≡ is_such (λ light. same_name light.name name) (slice_get self.now index) }
     {
-        match self.lights.get(index) {
-            Some(light) => is_named(light, name),
+        match self.get(index) {
+            Some(light) => is_named(&light, name),
             None => false,
         }
     }
@@ -191,15 +191,14 @@ impl Lights {
     fn is_like(&self, index: usize, light: &Light) -> bool
         ensures { result ≡ is_such (λ other. same_cell other.start light.now.start && (other.size == light.now.size)) (slice_get self.now index) }
     {
-        match self.lights.get(index) {
-            Some(other) => starts_at(other, light.start) && other.size == light.size,
+        match self.get(index) {
+            Some(other) => starts_at(&other, light.start) && other.size == light.size,
             None => false,
         }
     }
 }
 
 /// The lights of a grid in order.
-#[tactic(auto, using(crate::proofs::GridLemmas::cells_steps))]
 fn list(alloc: Global, grid: &Grid) -> Result<Vec<Light>, AllocError>
     ensures { IfOk result (λ lights. lights.items ≡ lights_of grid.now) }
 {
