@@ -6,10 +6,11 @@ use crate::disk::{DiskFault, Start};
 use crate::identity::{Identity, identity_of};
 use crate::locks::Locks;
 use crate::replacing::{followed, new_beside, put, sync_folder};
-use std::alloc::Global;
+use std::alloc::{AllocError, Global};
 use std::fs::{self, OpenFile, OpenOptions};
 use std::io::{self, ErrorKind, Read, Write};
 use std::os::unix::fs::PermissionsExt;
+use std::path::PathBuf;
 use std::rt::Files;
 
 /// A fault of a disk, with the error that caused it.
@@ -162,15 +163,31 @@ fn put_first<R: Locks + AllocGlobal>(
 ) -> io::Result<R::File> {
     let target = followed(rt, file)?;
     let mode = opened.metadata()?.permissions().mode();
-    let mut whole = Vec::with_capacity(rt.alloc(), first.len().saturating_add(others.len()))?;
+    let whole = joined(rt.alloc(), first, others)?;
+    put_locked(rt, &target, mode, whole.as_slice())
+}
+
+/// Returns the bytes `first`, and behind them `others`.
+fn joined(alloc: Global, first: &[u8], others: &[u8]) -> Result<Vec<u8>, AllocError> {
+    let mut whole = Vec::with_capacity(alloc, first.len().saturating_add(others.len()))?;
     whole.extend_from_slice(first)?;
     whole.extend_from_slice(others)?;
-    let (beside, renamed) = new_beside(rt, &target, Some(mode), whole.as_slice())?;
+    Ok(whole)
+}
+
+/// Replaces a file by a new one with these bytes, which is locked before it gets the name. Returns the new file.
+fn put_locked<R: Locks + AllocGlobal>(
+    rt: &R,
+    target: &PathBuf,
+    mode: u32,
+    bytes: &[u8],
+) -> io::Result<R::File> {
+    let (beside, renamed) = new_beside(rt, target, Some(mode), bytes)?;
     if let Err(error) = rt.try_lock(&renamed) {
         let _ = fs::remove_file(rt, &beside);
         return Err(error);
     }
-    put(rt, &beside, &target)?;
+    put(rt, &beside, target)?;
     Ok(renamed)
 }
 

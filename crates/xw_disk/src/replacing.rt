@@ -1,4 +1,5 @@
 //! Replaces a file atomically.
+use std::alloc::{AllocError, Global};
 use std::fs::{self, OpenFile, OpenOptions, Permissions};
 use std::io::{self, ErrorKind, Write};
 use std::os::unix::fs::{OpenOptionsExt, PermissionsExt};
@@ -18,17 +19,10 @@ pub fn replace<R: Files + AllocGlobal>(rt: &R, file: &str, bytes: &[u8]) -> io::
         Ok(found) if found.is_file() => {
             // A file without write permission must not be replaced either.
             OpenOptions::new().write(true).open(rt, file)?;
-            put_new(
-                rt,
-                &followed(rt, file)?,
-                Some(found.permissions().mode()),
-                bytes,
-            )
+            put_new(rt, file, Some(found.permissions().mode()), bytes)
         }
         Ok(_) => fs::write(rt, file, bytes),
-        Err(error) if error.kind() == ErrorKind::NotFound => {
-            put_new(rt, &followed(rt, file)?, None, bytes)
-        }
+        Err(error) if error.kind() == ErrorKind::NotFound => put_new(rt, file, None, bytes),
         Err(error) => Err(error),
     }
 }
@@ -43,7 +37,7 @@ pub fn replace_like<R: Files + AllocGlobal>(
     let mode = fs::metadata(rt, like)?.permissions().mode();
     match fs::metadata(rt, file) {
         Ok(found) if !found.is_file() => fs::write(rt, file, bytes),
-        _ => put_new(rt, &followed(rt, file)?, Some(mode), bytes),
+        _ => put_new(rt, file, Some(mode), bytes),
     }
 }
 
@@ -72,15 +66,16 @@ pub fn followed<R: Files + AllocGlobal>(rt: &R, file: &str) -> io::Result<PathBu
     Err(io::Error::from(ErrorKind::FilesystemLoop))
 }
 
-/// Writes the bytes to a new file beside the target, and renames it to the target.
+/// Writes the bytes to a new file beside the target of a name, and renames it to the target.
 fn put_new<R: Files + AllocGlobal>(
     rt: &R,
-    target: &PathBuf,
+    file: &str,
     mode: Option<u32>,
     bytes: &[u8],
 ) -> io::Result<()> {
-    let (beside, _opened) = new_beside(rt, target, mode, bytes)?;
-    put(rt, &beside, target)
+    let target = followed(rt, file)?;
+    let (beside, _opened) = new_beside(rt, &target, mode, bytes)?;
+    put(rt, &beside, &target)
 }
 
 /// Writes the bytes to a new file in the folder of the target. Returns its path and the open file, or removes it on
@@ -133,6 +128,22 @@ fn fill<F: Write + OpenFile + Drop>(
     }
 }
 
+/// Returns the options that create a file for appending, with no more permissions than `mode`.
+fn creating(mode: Option<u32>) -> OpenOptions {
+    let mut options = OpenOptions::new();
+    options.append(true).create_new(true);
+    if let Some(mode) = mode {
+        options.mode(mode & PERMISSION_BITS);
+    }
+    options
+}
+
+/// Returns the path next to the target that has this number in its name.
+fn numbered(alloc: Global, target: &PathBuf, number: u32) -> Result<PathBuf, AllocError> {
+    let name = format!(in alloc; ".xw-{number}.new")?;
+    target.with_file_name(alloc, name.as_str())
+}
+
 /// Creates a file next to the target, under a name that is not in use, for appending. It never has more permissions
 /// than the file that it replaces.
 fn new_file<R: Files + AllocGlobal>(
@@ -140,14 +151,9 @@ fn new_file<R: Files + AllocGlobal>(
     target: &PathBuf,
     mode: Option<u32>,
 ) -> io::Result<(PathBuf, R::File)> {
-    let mut options = OpenOptions::new();
-    options.append(true).create_new(true);
-    if let Some(mode) = mode {
-        options.mode(mode & PERMISSION_BITS);
-    }
+    let options = creating(mode);
     for number in 0..u32::MAX {
-        let name = format!(in rt.alloc(); ".xw-{number}.new")?;
-        let beside = target.with_file_name(rt.alloc(), name.as_str())?;
+        let beside = numbered(rt.alloc(), target, number)?;
         match options.open(rt, &beside) {
             Ok(file) => return Ok((beside, file)),
             Err(error) if error.kind() == ErrorKind::AlreadyExists => {}
