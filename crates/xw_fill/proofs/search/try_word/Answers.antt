@@ -1,7 +1,7 @@
 use Rattle.std.proofs.Common.{◌<◌, suc, sym, ◌∙◌, ap, subst}
 use Rattle.xw_fill.specs.Position.{position_of}
 use Rattle.xw_fill.specs.Search.{light_count, is_entered}
-use Rattle.xw_fill.specs.Inner.Noted.{noted, AreEntered, SpellApart}
+use Rattle.xw_fill.specs.Inner.Noted.{noted, AreEntered, SpellApart, StayNoted}
 use Rattle.xw_fill.specs.Inner.Tries.{word_of}
 use Rattle.xw_fill.proofs.LetterSearch.{position_at}
 use Rattle.xw_fill.proofs.Shaped.{shaped}
@@ -76,3 +76,22 @@ returns-in-Open-clause-placed g c =
       entered = subst (λ n. AreEntered after (noted c.note_entered.new.since (suc n))) count c.note_entered.ensures.within;
       step = c.open_outlook.ensures ∙ sym (outlook-open after c.scan_lights.result c.in-Open.chosen c.has_new_repeat.result c.scan_lights.ensures c.in-Open.is c.has_new_repeat.ensures);
     }
+
+pub has_new_repeat-requires-clause-long : goal.has_new_repeat-requires-clause-long
+has_new_repeat-requires-clause-long g c =
+    c.note_entered.ensures.long ∙ c.requires.long ∙ ap light_count (sym (position_at (g.E.Feasible.state c.args.engine.now) (g.E.Feasible.state c.place_word.new.engine) c.place_word.ensures.entries))
+
+pub has_new_repeat-requires-clause-noted : goal.has_new_repeat-requires-clause-noted
+has_new_repeat-requires-clause-noted g c = c.note_entered.ensures.entered
+
+pub returns-in-Blocked-clause-stay : goal.returns-in-Blocked-clause-stay
+returns-in-Blocked-clause-stay g c =
+    let placed = try_placed _ c.args.tried (g.E.Feasible.state c.args.engine.now) (g.E.Feasible.state c.place_word.new.engine) c.args.stack.now.placements.items c.place_word.new.stack.placements.items c.place_word.result c.in_default.is c.place_word.ensures.tried in
+    let count = count_more c.args.stack.now.placements.items c.place_word.new.stack.placements.items c.args.tried c.len-placement.result c.len-placement.ensures placed.0 in
+    subst (λ n. StayNoted n c.args.since.now c.note_entered.new.since) count c.note_entered.ensures.stay
+
+pub returns-in-Open-clause-stay : goal.returns-in-Open-clause-stay
+returns-in-Open-clause-stay g c =
+    let placed = try_placed _ c.args.tried (g.E.Feasible.state c.args.engine.now) (g.E.Feasible.state c.place_word.new.engine) c.args.stack.now.placements.items c.place_word.new.stack.placements.items c.place_word.result c.in_default.is c.place_word.ensures.tried in
+    let count = count_more c.args.stack.now.placements.items c.place_word.new.stack.placements.items c.args.tried c.len-placement.result c.len-placement.ensures placed.0 in
+    subst (λ n. StayNoted n c.args.since.now c.note_entered.new.since) count c.note_entered.ensures.stay
