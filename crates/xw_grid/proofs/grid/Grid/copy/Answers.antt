@@ -1,6 +1,5 @@
 use Rattle.std.proofs.Common.{◌≡◌, ap, ◌∙◌}
 use Rattle.std.proofs.lemmas.List.Elements.{same_from_all_zip}
-use Rattle.xw_grid.specs.Grid.{Grid}
 use Rattle.xw_grid.proofs.grid.Grid.copy.Goals as goal
 
 pub returns-clause-ok : goal.returns-clause-ok
