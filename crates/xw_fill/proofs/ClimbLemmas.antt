@@ -43,6 +43,18 @@ bounded saved climb left grade start is within none = record {
   bound = record { within = omega (arith, within); none = λ below. none };
 }
 
+-- another number of placements that are left
+pub with_left : {E S : Type 0} (saved : S → State) (climb : Climb E S) (left : ℕ) (start : State) → IsClimbing saved climb start → IsClimbing saved (record climb { left = left }) start
+with_left saved climb left start is = record {
+  plan = is.plan;
+  fresh = is.fresh;
+  least = is.least;
+  began = is.began;
+  best = is.best;
+  found = is.found;
+  bound = is.bound;
+}
+
 -- another fill
 pub found_more : {E S : Type 0} (saved : S → State) (climb : Climb E S) (start_now best_now : S) (grade : ℕ) (start filled : State) → IsClimbing saved climb start → IsFilledAt (flags climb.plan.named.items) start filled grade → saved start_now ≡ start → saved best_now ≡ filled
     → IsClimbing saved (record climb { start = start_now; best = best_now; found = Some grade }) start
