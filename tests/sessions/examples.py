@@ -76,6 +76,13 @@ ok
 > fill 0
 nofill
 ok
+> show
+A S
+# #
+A S
+# #
+A S
+ok
 @ bar_parts_the_words_of_a_row
 > size 4 1
 ok

@@ -184,7 +184,7 @@ OVER
 ok
 > words 2 across
 no NoLight
-@ refused_edits_change_nothing
+@ refused_block_quarter_turn_border_and_cell
 > size 3 3
 ok
 > sym half
@@ -209,34 +209,6 @@ no OnBlock
 - - -
 - - #
 ok
-> size 4 3
-ok
-> sym quarter
-no NotSquare
-> bar 1 4 right
-no Border
-> bar 4 4 right
-no OutOfGrid
-> set 5 1 A
-no OutOfGrid
-> size 2 1
-ok
-> sym quarter
-no NotSquare
-@ refused_block_quarter_turn_border_and_cell
-> size 3 3
-ok
-> sym half
-ok
-> set 3 3 A
-ok
-> block 1 1
-no Occupied
-> show
-- - -
-- - -
-- - A
-ok
 > size 3 4
 ok
 > sym quarter
@@ -247,6 +219,18 @@ no Border
 no OutOfGrid
 > bar 9 9 below
 no OutOfGrid
+> size 4 3
+ok
+> sym quarter
+no NotSquare
+> bar 1 4 right
+no Border
+> bar 4 4 right
+no OutOfGrid
+> size 2 1
+ok
+> sym quarter
+no NotSquare
 @ quarter_turn_of_a_bar_and_a_block
 > size 3 3
 ok
@@ -499,44 +483,6 @@ cell 1 3 -
 ok
 > strike CAT
 no Unknown
-@ one_word_three_times: The suggestion ignores repeats, but a search has no fill with them.
-> size 2 5
-ok
-> add AS
-ok
-> block 2 1
-ok
-> block 2 2
-ok
-> block 4 1
-ok
-> block 4 2
-ok
-> place 1 across AS
-ok
-> place 2 across AS
-ok
-> place 3 across AS
-ok
-> dups
-2 across 1 across AS
-3 across 1 across AS
-ok
-> unlisted
-ok
-> suggest
-done
-ok
-> fill 0
-nofill
-ok
-> show
-A S
-# #
-A S
-# #
-A S
-ok
 @ grade_of_a_word_that_returns: It keeps its grade, unless it gets another one.
 > size 2 1
 ok
