@@ -1,5 +1,6 @@
 //! Failures that end a run, and exit statuses.
-ghost use Rattle.std.specs.Prelude.{◌≡◌};
+ghost use Rattle.std.specs.Prelude.{◌≡◌, ◌++◌, codes};
+ghost use Rattle.std.specs.Fmt.{WritesOnOk};
 ghost use Rattle.std.specs.Process.{exit_status};
 ghost use Rattle.xw_puzzle_files.specs.Status.{code_of, status_of, run_ended};
 ghost use Rattle.xw_puzzle_files.specs.Explained.{is_of_disk};
@@ -122,12 +123,12 @@ impl<'a> fmt::Display for Failure<'a> {
             Failure::Input => f.write_str("xw: input fault"),
             Failure::Output => f.write_str("xw: output fault"),
             Failure::Memory => f.write_str("xw: memory"),
-            Failure::CannotRead { file } => write!(f, "xw: {file}: cannot read"),
-            Failure::CannotWrite { file } => write!(f, "xw: {file}: cannot write"),
-            Failure::InUse { file } => write!(f, "xw: {file}: in use"),
-            Failure::Replaced { file } => write!(f, "xw: {file}: replaced"),
-            Failure::OldUnwritable { file } => write!(f, "xw: {file}~: cannot write"),
-            Failure::OldInUse { file } => write!(f, "xw: {file}~: in use"),
+            Failure::CannotRead { file } => write_named(f, file, ": cannot read"),
+            Failure::CannotWrite { file } => write_named(f, file, ": cannot write"),
+            Failure::InUse { file } => write_named(f, file, ": in use"),
+            Failure::Replaced { file } => write_named(f, file, ": replaced"),
+            Failure::OldUnwritable { file } => write_named(f, file, "~: cannot write"),
+            Failure::OldInUse { file } => write_named(f, file, "~: in use"),
             Failure::File { file, name } => write!(f, "xw: {file}: {name}"),
             Failure::Located {
                 file,
@@ -138,26 +139,36 @@ impl<'a> fmt::Display for Failure<'a> {
                 write!(f, "xw: {file}: line {number}: {name}")
             }
             Failure::OneFile { file } => {
-                write!(f, "xw: {file}: the word list cannot be the file to write")
+                write_named(f, file, ": the word list cannot be the file to write")
             }
-            Failure::TwoTexts { file } => write!(
+            Failure::TwoTexts { file } => write_named(
                 f,
-                "xw: {file}: the puzzle and the session cannot be written into one file"
+                file,
+                ": the puzzle and the session cannot be written into one file",
             ),
-            Failure::OverPuzzle { file } => write!(
+            Failure::OverPuzzle { file } => write_named(
                 f,
-                "xw: {file}: the session cannot be written over the puzzle to start with"
+                file,
+                ": the session cannot be written over the puzzle to start with",
             ),
             Failure::SavedAsPuz { file } => {
-                write!(f, "xw: {file}: the session cannot be written as .puz")
+                write_named(f, file, ": the session cannot be written as .puz")
             }
-            Failure::SharedJournal { file } => write!(
+            Failure::SharedJournal { file } => write_named(
                 f,
-                "xw: {file}: the journal cannot be another file of the call"
+                file,
+                ": the journal cannot be another file of the call",
             ),
             Failure::InputTwice => f.write_str("xw: -: standard input can be read only once"),
         }
     }
+}
+
+/// Writes a message that begins with the name of a file.
+fn write_named<W: fmt::Write>(f: &mut fmt::Formatter<W>, file: &str, said: &str) -> fmt::Result
+    ensures { WritesOnOk W.write_str_gives f.old result (codes "xw: " ++ file.now ++ said.now) f.new }
+{
+    write!(f, "xw: {file}{said}")
 }
 
 impl<'a> Failure<'a> {
