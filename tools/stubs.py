@@ -1,8 +1,11 @@
 """Leaves out the bodies of functions in a copy of a crate. tools/try-mutations asks this.
 
-The prover uses the contract of a callee and never its body. So a check of some functions may leave out the bodies of all others. Such a body
-becomes an endless loop, which has any type, and its proof a hole, which the prover passes over if it is told to allow holes. What the
-function said is not looked at any more: neither what it calls, nor its loops, nor its answers.
+The prover uses the contract of a callee and never its body, so a check of some functions can leave out the bodies of all others. Such a body
+becomes an endless loop, which has any type. The function's proof becomes a hole: with --allow-holes the prover takes it by its statement. Then
+it checks neither the body nor the answers, nor what only the body calls.
+
+A function stays if this cannot tell where its body or its proof is: one of a generic impl of a trait, a const one, a recursive one, or one
+whose whole proof is written.
 """
 import glob
 import os
@@ -39,7 +42,7 @@ def module_of(file):
 
 
 def folder_of(head, module, types):
-    """The folder of an impl's functions, by the impl's first line: the type's, or for a trait one in this module; None if it is not plain."""
+    """The folder of an impl's functions, by the impl's first line: the type's, or for a trait one in this module. None if this cannot tell."""
     inherent, of_trait = re.fullmatch(r"impl(?:<[^<>]*>)? (\w+)(?:<[^<>]*>)? *", head), re.fullmatch(r"impl (\w+) for (\w+) *", head)
     if inherent:
         return types.get(inherent[1])
@@ -76,7 +79,7 @@ def can_go(folder):
 
 
 def leave_out(crate, room, named):
-    """Leaves out the functions of a crate in a folder but those with the named ones' bare names."""
+    """Leaves out the functions of the crate's copy in a folder, but none with the bare name of a named one."""
     bare = {it.rpartition("::")[2] for it in named}
     files = {os.path.relpath(it, f"{room}/src"): read(it) for it in glob.glob(f"{room}/src/**/*.rt", recursive=True)}
     types = {name: [*module_of(file), name] for file, text in files.items() for name in TYPE.findall(text)}
