@@ -3,25 +3,34 @@ import os
 import pty
 import re
 import shutil
+import signal
 import subprocess
+import sys
 
 from documents import TOP
 from steps import ACCEPTED, FAILED, SECONDS, compare
 
-# The commands of the kit that a build calls. Each makes the file after -o. The prover fails on a crate with a file named `wrong`, and waits as long
-# as there is one named `held`.
+# The commands of the kit that a build calls. Each makes the file after -o. The prover fails on a crate with a file named `wrong`, or `full` for a
+# full disk, or `other` if it is of another kit, and waits as long as there is a file named `held`.
 RT = """#!/bin/sh
-case $1 in version) echo none ;; doc) echo "$KIT/START-HERE.md" ;; esac
+case $1 in version) echo none ;; doc) echo "$KIT/START-HERE.md" ;; run) echo built >../xw/out/xw ;; esac
+"""
+BROKEN_RT = """#!/bin/sh
+echo "rt: no python3" >&2
+exit 127
 """
 PROVER = """#!/bin/sh
 [ ! -e wrong ] || { echo "this crate is wrong"; exit 1; }
-while [ -e held ]; do sleep 0.1; done
+[ ! -e full ] || { echo "cannot write: No space left on device"; exit 2; }
+[ ! -e other ] || { echo "Usage: rattle build [OPTIONS]"; exit 2; }
+while [ -e held ]; do echo waiting >begun; sleep 0.1; done
 until [ "$1" = -o ]; do shift; done
 mkdir -p "$(dirname "$2")"
 printf '#!/bin/sh\\necho built\\n' >"$2"
 chmod +x "$2"
 """
 CRATES = ("low", "xw")
+MANUAL = ("commands.md", "embedding.md", "formats.md", "front-ends.md", "glossary.md", "performance.md")
 
 
 def tree(room, program):
@@ -34,7 +43,7 @@ def tree(room, program):
     for crate in CRATES:
         (room / "top/crates" / crate / "src").mkdir(parents=True)
     (room / "top/crates.txt").write_text("low:\nxw: low\n")
-    for name in ("build", "docs/xw.1", "docs/commands.md", "docs/formats.md", "tools/xw.bash"):
+    for name in ("build", "tools/proving.py", "docs/xw.1", *(f"docs/{name}" for name in MANUAL), "tools/xw.bash"):
         (room / "top" / name).parent.mkdir(exist_ok=True)
         shutil.copy(TOP / name, room / "top" / name)
 
@@ -57,7 +66,7 @@ BEGIN = "xw: building; the first time this takes some minutes, since every crate
 def tells_a_line_a_crate(room, program):
     ended = call(room, "program", capture_output=True)
     compare("status", ended.returncode, ACCEPTED)
-    told = [BEGIN, "xw: low proved, 1 of 2; TIME", "xw: xw proved, 2 of 2; TIME", "xw: built in TIME"]
+    told = [BEGIN, "xw: low proved, 1 of 2; TIME; about 1 min left", "xw: xw proved, 2 of 2; TIME", "xw: built in TIME"]
     compare("messages", (ended.stdout, lines_without_times(ended.stderr)), (b"", told))
     again = call(room, "program", capture_output=True)
     compare("messages of a build that is not due", (again.returncode, again.stdout + again.stderr), (ACCEPTED, b""))
@@ -83,7 +92,7 @@ def overwrites_a_line(room, program):
     begin, progress, *rest = re.sub(r"\d+ min \d\d s", "TIME", told.decode()).split("\r\n")
     compare("other lines", (begin, rest), (BEGIN, ["xw: built in TIME", ""]))
     first, *times = progress.split("\r")
-    odd = [time for time in times if not re.fullmatch(r"\x1b\[\?7l\x1b\[Kxw: [012] of 2 crates proved; TIME(, \w+)*\x1b\[\?7h", time)]
+    odd = [time for time in times if not re.fullmatch(r"\x1b\[\?7l\x1b\[Kxw: [012] of 2 crates proved; TIME(; about 1 min left)?(, \w+)*\x1b\[\?7h", time)]
     compare("progress", (first, odd, times[1]), ("", [], "\x1b[?7l\x1b[Kxw: 0 of 2 crates proved; TIME, low\x1b[?7h"))
 
 
@@ -94,22 +103,96 @@ def shows_what_failed(room, program):
     compare("a build that fails", (ended.returncode, lines_without_times(ended.stderr)), (FAILED, told))
 
 
+def tells_the_first_failure(room, program):
+    """A crate fails while another one is being proved. The build ends the other one, and does not wait for it."""
+    (room / "top/crates.txt").write_text("low:\nother:\nxw: low other\n")
+    (room / "top/crates/other/src").mkdir(parents=True)
+    (room / "top/crates/other/held").touch()
+    shows_what_failed(room, program)
+
+
+def tells_a_full_disk(room, program):
+    """A full disk is not taken for another kit, whose own command would prove all once more."""
+    (room / "top/crates/low/full").touch()
+    ended = call(room, "program", capture_output=True)
+    told = [BEGIN, "xw: the disk is full; the crates that are proved are kept in crates/xw/out/made"]
+    compare("a full disk", (ended.returncode, lines_without_times(ended.stderr)), (FAILED, told))
+
+
+def builds_with_another_kit(room, program):
+    (room / "top/crates/low/other").touch()
+    ended = call(room, "program", capture_output=True)
+    told = [BEGIN, "xw: this kit wants another call; its rt run builds the program", "xw: built in TIME"]
+    compare("another kit", (ended.returncode, lines_without_times(ended.stderr)), (ACCEPTED, told))
+
+
+def proofs(room):
+    """The files that a build keeps, but for its lock."""
+    return {path: path.stat().st_mtime_ns for path in (room / "top/crates/xw/out").rglob("*") if path.name != "lock" and path.is_file()}
+
+
+def python_alone(room):
+    """A folder of commands for the PATH that has what starts a build, and nothing else."""
+    tools = room / "tools"
+    tools.mkdir()
+    (tools / "env").symlink_to(shutil.which("env"))
+    (tools / "python3").symlink_to(sys.executable)
+    return tools
+
+
+def keeps_proofs_without_rt(room, program):
+    """A command rt that is missing or fails changes nothing of what is proved."""
+    call(room, "program", capture_output=True, check=True)
+    kept = proofs(room)
+    (room / "top/crates/xw/src/main.rt").touch()
+    (room / "bin/rt").write_text(BROKEN_RT)
+    ended = call(room, "program", capture_output=True)
+    compare("a failing rt", (ended.returncode, ended.stderr), (FAILED, b"xw: rt doc failed: rt: no python3\n"))
+    (room / "bin/rt").write_text(RT.replace("echo none", "exit 3"))
+    ended = call(room, "program", capture_output=True)
+    compare("rt version", (ended.returncode, ended.stderr), (FAILED, b"xw: rt version failed: status 3\n"))
+    ended = call(room, "program", env={"PATH": str(python_alone(room))}, capture_output=True)
+    compare("no rt", (ended.returncode, ended.stderr), (FAILED, b"xw: to build it, the Rattle kit's command rt has to be on the PATH\n"))
+    compare("what is kept", proofs(room), kept)
+
+
+def stops(room, program):
+    """^C ends the prover too, says what is kept, and the next build goes on from there."""
+    held = room / "top/crates/xw/held"
+    held.touch()
+    with subprocess.Popen([room / "top/build", "program"], env=environment(room), stderr=subprocess.PIPE) as build:
+        for line in build.stderr:
+            if line.startswith(b"xw: low proved"):
+                break
+        while not (room / "top/crates/xw/begun").exists():
+            pass
+        build.send_signal(signal.SIGINT)
+        told = build.stderr.read()
+        compare("a build that is stopped", (build.wait(timeout=SECONDS), told), (130, b"xw: stopped; 1 of 2 crates are proved and kept\n"))
+    held.unlink()
+    ended = call(room, "program", capture_output=True)
+    compare("the next build", lines_without_times(ended.stderr), [BEGIN, "xw: xw proved, 2 of 2; TIME", "xw: built in TIME"])
+
+
+def explains(room, program):
+    for words in (["--help"], ["program", "--help"]):
+        ended = call(room, *words, capture_output=True)
+        compare(f"{words}", (ended.returncode, ended.stdout.startswith(b"usage: ./build"), ended.stderr), (ACCEPTED, True, b""))
+    compare("an unknown word", call(room, "nothing", capture_output=True).returncode, 2)
+
+
 def installs(room, program):
     ended = call(room, "install", "/usr/local", env={"DESTDIR": str(room / "a stage")}, capture_output=True)
     compare("status", ended.returncode, ACCEPTED)
     stage = room / "a stage/usr/local"
-    names = ("bin/xw", "share/bash-completion/completions/xw", "share/doc/xw/commands.md", "share/doc/xw/formats.md", "share/man/man1/xw.1")
+    names = ("bin/xw", "share/bash-completion/completions/xw", *(f"share/doc/xw/{name}" for name in MANUAL), "share/man/man1/xw.1")
     compare("files", sorted(str(path.relative_to(stage)) for path in stage.rglob("*") if path.is_file()), sorted(names))
     compare("program", subprocess.run([stage / "bin/xw"], capture_output=True, check=True).stdout, b"built\n")
 
 
 def names_binaryen(room, program):
     """Without wasm-opt a build for the web ends before anything is proved."""
-    tools = room / "tools"
-    tools.mkdir()
-    for tool in ("bash", "env", "dirname", "readlink"):
-        (tools / tool).symlink_to(shutil.which(tool))
-    ended = call(room, "web", env={"PATH": str(tools)}, capture_output=True)
+    ended = call(room, "web", env={"PATH": str(python_alone(room))}, capture_output=True)
     compare("status", ended.returncode, FAILED)
     compare("message", ended.stderr, b"xw: the module for the web needs wasm-opt; install binaryen (apt-get install binaryen)\n")
 
@@ -120,6 +203,12 @@ CASES = {
         "progress without a terminal": tells_a_line_a_crate,
         "progress on a terminal": overwrites_a_line,
         "a build that fails": shows_what_failed,
+        "the first failure": tells_the_first_failure,
+        "a full disk": tells_a_full_disk,
+        "another kit": builds_with_another_kit,
+        "no rt": keeps_proofs_without_rt,
+        "a build that is stopped": stops,
+        "help": explains,
         "install": installs,
         "web without binaryen": names_binaryen,
     }.items()
