@@ -1,6 +1,7 @@
 //! Adapters from `Read` to `Source` and from `Write` to `Sink`.
-ghost use Rattle.std.specs.Prelude.{◌≡◌, ◌≤◌, [], length, IfOk, true, false};
-ghost use Rattle.std.specs.Io.KnownBytes.{ReadConsumes, WriteAppends};
+ghost use Rattle.std.specs.Prelude.{◌≡◌, ◌≤◌, ◌<◌, ◌||◌, [], ◌∷◌, ◌++◌, length, take, IfOk, OnErr, MatchResult, false};
+ghost use Rattle.std.specs.Io.KnownBytes.{ReadConsumes, WriteAppends, Keeps};
+ghost use Rattle.xw_lines.specs.Device.{flushed, failures_after, counted_up, is_end};
 
 use crate::device::{DeviceFault, Sink, Source};
 use crate::history::History;
@@ -17,6 +18,7 @@ pub struct FromRead<R> {
 
 impl<R: Read> FromRead<R> {
     pub fn new(reader: R) -> FromRead<R>
+        ensures reader { result.reader ≡ reader }
         ensures transcript { result.transcript.transcript ≡ [] }
         ensures failures { result.failures ≡ 0 }
         ensures end { result.is_at_end ≡ false }
@@ -37,11 +39,21 @@ impl<R: Read> Source for FromRead<R> {
 
     ghost is_at_end = { λ source. source.is_at_end };
 
-    fn read(&mut self, buffer: &mut [u8]) -> Result<usize, DeviceFault> {
+    /// Reads once from the reader. What it returns is what the reader gave, and it is at its end only where the reader
+    /// is. A failed read takes nothing.
+    fn read(&mut self, buffer: &mut [u8]) -> Result<usize, DeviceFault>
+        ensures bound { IfOk result (λ count. count ≤ length buffer.new) }
+        ensures transcript { MatchResult result
+            (λ count. self.new.transcript.transcript ≡ self.old.transcript.transcript ++ take count buffer.new)
+            (λ _. self.new.transcript.transcript ≡ self.old.transcript.transcript) }
+        ensures end { self.new.is_at_end ≡ (self.old.is_at_end || is_end result buffer.new) }
+        ensures failures { self.new.failures ≡ failures_after result self.old.failures }
+        ensures taken { ReadConsumes (R.remaining self.old.reader) (R.remaining self.new.reader) result buffer.new }
+    {
         match read_retrying(&mut self.reader, buffer) {
             Ok(count) => {
                 self.transcript.note(&buffer[..count]);
-                if count == 0 {
+                if count == 0 && !buffer.is_empty() {
                     self.is_at_end = true;
                 }
                 Ok(count)
@@ -82,6 +94,7 @@ pub struct ToWrite<W> {
 
 impl<W: Write> ToWrite<W> {
     pub fn new(writer: W) -> ToWrite<W>
+        ensures writer { result.writer ≡ writer }
         ensures transcript { result.transcript.transcript ≡ [] }
         ensures failures { result.failures ≡ 0 }
     {
@@ -90,6 +103,13 @@ impl<W: Write> ToWrite<W> {
             transcript: History::new(),
             failures: 0,
         }
+    }
+
+    /// Returns the record of what the writer took, for proofs only.
+    pub fn transcript(&self) -> &History
+        ensures { result.now ≡ self.now.transcript }
+    {
+        &self.transcript
     }
 
     /// The writer, with whatever it still holds.
@@ -105,7 +125,18 @@ impl<W: Write> Sink for ToWrite<W> {
 
     ghost failures = { λ sink. sink.failures };
 
-    fn write(&mut self, bytes: &[u8]) -> Result<usize, DeviceFault> {
+    /// Writes once to the writer. A failed write appends nothing.
+    fn write(&mut self, bytes: &[u8]) -> Result<usize, DeviceFault>
+        ensures bound { IfOk result (λ count. count ≤ length bytes.now) }
+        ensures transcript { MatchResult result
+            (λ count. self.new.transcript.transcript ≡ self.old.transcript.transcript ++ take count bytes.now)
+            (λ _. self.new.transcript.transcript ≡ self.old.transcript.transcript) }
+        ensures ok { IfOk result (λ count. 0 < count → self.new.failures ≡ self.old.failures) }
+        ensures none_taken { IfOk result (λ count. count ≡ 0 → 0 < length bytes.now → self.new.failures ≡ counted_up self.old.failures) }
+        ensures none_due { IfOk result (λ count. length bytes.now ≡ 0 → self.new.failures ≡ self.old.failures) }
+        ensures err { OnErr result (self.new.failures ≡ counted_up self.old.failures) }
+        ensures written { WriteAppends (W.contents self.old.writer) (W.contents self.new.writer) result bytes.now }
+    {
         match write_retrying(&mut self.writer, bytes) {
             Ok(count) => {
                 self.transcript.note(&bytes[..count]);
@@ -121,7 +152,14 @@ impl<W: Write> Sink for ToWrite<W> {
         }
     }
 
-    fn flush(&mut self) -> Result<(), DeviceFault> {
+    /// Flushes the writer, which keeps its bytes.
+    fn flush(&mut self) -> Result<(), DeviceFault>
+        ensures transcript { MatchResult result
+            (λ _. self.new.transcript.transcript ≡ self.old.transcript.transcript ++ flushed ∷ [])
+            (λ _. self.new.transcript.transcript ≡ self.old.transcript.transcript) }
+        ensures failures { self.new.failures ≡ failures_after result self.old.failures }
+        ensures kept { Keeps (W.contents self.old.writer) (W.contents self.new.writer) }
+    {
         if self.writer.flush().is_err() {
             self.failures = self.failures.saturating_add(1);
             return Err(DeviceFault);
