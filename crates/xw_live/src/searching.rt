@@ -32,7 +32,7 @@ fn is_letter(edit: &EntryEdit<'_>) -> bool {
 }
 
 impl Live {
-    ghost use Rattle.std.specs.Prelude.{◌≡◌, ◌≤◌};
+    ghost use Rattle.std.specs.Prelude.{◌≡◌, ◌≤◌, OnErr};
     ghost use Rattle.xw_feas.specs.State.{entry_action};
     ghost use Rattle.xw_feas.specs.Trying.{IsTried};
     ghost use Rattle.xw_live.specs.Live.{state_of};
@@ -49,6 +49,7 @@ impl Live {
         requires { saved_state mark.now ≡ state_of self.old }
         ensures tried { IsTried (state_of self.old) (entry_action edit.now) watched.now result (state_of self.new) }
         ensures risen { self.old.spent ≤ self.new.spent }
+        ensures refused { OnErr result (self.new.spent ≡ self.old.spent) }
     {
         let written = Written::of_entries(&self.grid, &self.lights, edit);
         edit_entries(&mut self.grid, &self.lights, edit)?;
@@ -77,8 +78,10 @@ impl Live {
 }
 
 impl Searchable for Live {
-    ghost use Rattle.std.specs.Prelude.{◌≡◌};
+    ghost use Rattle.std.specs.Prelude.{◌≡◌, ◌≤◌, OnErr};
     ghost use Rattle.xw_feas.specs.Snapshot.{IsTwin};
+    ghost use Rattle.xw_feas.specs.State.{entry_action};
+    ghost use Rattle.xw_feas.specs.Trying.{IsTried};
     ghost use Rattle.xw_live.specs.Live.{state_of};
     ghost use Rattle.xw_live.specs.Saved.{saved_state};
 
@@ -127,7 +130,12 @@ impl Searchable for Live {
         edit: &EntryEdit<'_>,
         watched: &[bool],
         mark: &Saved,
-    ) -> Result<Option<usize>, Refusal> {
+    ) -> Result<Option<usize>, Refusal>
+        requires marked { saved_state mark.now ≡ state_of self.old }
+        ensures tried { IsTried (state_of self.old) (entry_action edit.now) watched.now result (state_of self.new) }
+        ensures risen { self.old.spent ≤ self.new.spent }
+        ensures refused { OnErr result (self.new.spent ≡ self.old.spent) }
+    {
         self.try_entries(edit, watched, mark)
     }
 
