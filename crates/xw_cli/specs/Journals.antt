@@ -1,5 +1,5 @@
 -- The journal of a session: what is replayed of it, how it begins and ends, and which failure ends it.
-use Rattle.std.specs.Prelude.{◌≡◌, ◌⊎◌, ◌++◌, ◌<◌, ℕ, List, Ok, Err, codes}
+use Rattle.std.specs.Prelude.{◌≡◌, ◌⊎◌, ◌++◌, ◌<◌, ℕ, Bool, List, Ok, Err, codes}
 use Rattle.xw_journal.specs.File.{first_line, form_of, kept_lines}
 use Rattle.xw_journal.specs.declared.file.Form.{Form}
 use Rattle.xw_journal.specs.declared.file.Form.TheVariants as forms
@@ -24,9 +24,9 @@ Begins forms.Named bytes begun = (lines_of begun ≡ kept_lines bytes) × (rest 
 Begins forms.Whole bytes begun = begun ≡ first_line ++ bytes
 Begins forms.Cut bytes begun = ⊥
 
--- The journal with this name was opened and begun, and the lines of its bytes that count were replayed. This number of
--- them was refused.
-pub record HasReplayed (name : List ℕ) (start : State) (refused : ℕ) (state : State) (old new : List Event) : Type 0 where
+-- The journal with this name was opened and begun, with this flag for syncing, and the lines of its bytes that count
+-- were replayed. This number of them was refused.
+pub record HasReplayed (name : List ℕ) (is_synced : Bool) (start : State) (refused : ℕ) (state : State) (old new : List Event) : Type 0 where
   pub bytes : List ℕ
   pub mid : List Event
   pub opens : Asks (open_ name (Ok bytes)) old mid
@@ -34,7 +34,7 @@ pub record HasReplayed (name : List ℕ) (start : State) (refused : ℕ) (state 
   pub resumes : Resumes name start (kept_lines bytes) (Ok refused) told state
   pub begun : List ℕ
   pub begins : Begins (form_of bytes) bytes begun
-  pub asks : Asks (begin name begun (Ok tt)) mid new
+  pub asks : Asks (begin name begun is_synced (Ok tt)) mid new
 
 -- The journal with this name was not opened.
 pub record IsNotOpened (name : List ℕ) (failure : Failure) (old new : List Event) : Type 0 where
@@ -50,7 +50,7 @@ pub record IsLeft (name : List ℕ) (failure : Failure) (old new : List Event) :
   pub why : (failure ≡ failures.Memory) ⊎ (((stop : Stop) × IsStopped name stop failure) ⊎ ((number : ℕ) × (form_of bytes ≡ forms.Cut) × IsLineFault name number (codes "Cut") failure))
 
 -- The journal with this name was opened, and could not be begun.
-pub record IsNotBegun (name : List ℕ) (failure : Failure) (old new : List Event) : Type 0 where
+pub record IsNotBegun (name : List ℕ) (is_synced : Bool) (failure : Failure) (old new : List Event) : Type 0 where
   pub bytes : List ℕ
   pub mid : List Event
   pub opens : Asks (open_ name (Ok bytes)) old mid
@@ -58,22 +58,22 @@ pub record IsNotBegun (name : List ℕ) (failure : Failure) (old new : List Even
   pub begins : Begins (form_of bytes) bytes begun
   pub fault : DiskFault
   pub told : IsFaultOf fault name failure
-  pub asks : Asks (begin name begun (Err fault)) mid new
+  pub asks : Asks (begin name begun is_synced (Err fault)) mid new
 
 -- The journal with this name was begun, and then an allocation failed.
-pub record IsBegunInVain (name : List ℕ) (failure : Failure) (old new : List Event) : Type 0 where
+pub record IsBegunInVain (name : List ℕ) (is_synced : Bool) (failure : Failure) (old new : List Event) : Type 0 where
   pub bytes : List ℕ
   pub mid : List Event
   pub opens : Asks (open_ name (Ok bytes)) old mid
   pub begun : List ℕ
   pub begins : Begins (form_of bytes) bytes begun
-  pub asks : Asks (begin name begun (Ok tt)) mid new
+  pub asks : Asks (begin name begun is_synced (Ok tt)) mid new
   pub memory : failure ≡ failures.Memory
 
 -- why the lines of the journal with this name are not replayed, or no session begins with it
-abbrev pub IsUnreplayed : List ℕ → Failure → List Event → List Event → Type 0
-IsUnreplayed name failure old new =
-    IsNotOpened name failure old new ⊎ (IsLeft name failure old new ⊎ (IsNotBegun name failure old new ⊎ IsBegunInVain name failure old new))
+abbrev pub IsUnreplayed : List ℕ → Bool → Failure → List Event → List Event → Type 0
+IsUnreplayed name is_synced failure old new =
+    IsNotOpened name failure old new ⊎ (IsLeft name failure old new ⊎ (IsNotBegun name is_synced failure old new ⊎ IsBegunInVain name is_synced failure old new))
 
 -- ---- the end of a journal
 

@@ -255,7 +255,7 @@ pub record IsJournaled (name : List ℕ) (files : SessionFiles) (explain : Bool)
   pub before : ℕ
   pub replayed : State
   pub mid : List Event
-  pub has_replayed : HasReplayed name opened before replayed old.asked mid
+  pub has_replayed : HasReplayed name files.is_synced opened before replayed old.asked mid
   pub is_run : IsJournalRun name files explain before (record { state = replayed; journal = []; failures = 0; cause = None }) result (record old { asked = mid }) new
 
 -- ---- edit
@@ -267,7 +267,7 @@ IsSilent old new = new ≡ record old { asked = new.asked }
 -- why a session is not run: the failure ends the call before the input is read
 abbrev pub IsUnrun : Option (Bor (List ℕ)) → SessionFiles → Failure → List Event → List Event → Type 0
 IsUnrun None files failure old new = IfNamed files.resume_file (λ name. IsUnresumed name failure old new)
-IsUnrun (Some file) files failure old new = IsUnreplayed file.now failure old new
+IsUnrun (Some file) files failure old new = IsUnreplayed file.now files.is_synced failure old new
 
 -- what a session does from its first state, with or without a journal
 abbrev pub IsRunWith : Option (Bor (List ℕ)) → SessionFiles → Bool → State → Result Status Failure → Streams → Streams → Type 0

@@ -28,10 +28,10 @@ pub fn resume_journal<'a, D: Disk, F: Searchable, E: Sink>(
     session: &mut Session<F>,
     errors: &mut E,
 ) -> Result<(D::Journal, usize), Failure<'a>>
-    ensures ok { IfOk result (λ resumed. HasReplayed file.entry.now session.old resumed.1 session.new (D.log disk.old) (D.log disk.new)) }
+    ensures ok { IfOk result (λ resumed. HasReplayed file.entry.now is_synced session.old resumed.1 session.new (D.log disk.old) (D.log disk.new)) }
     ensures transcript { IfOk result (λ resumed. D.Journal.transcript resumed.0 ≡ []) }
     ensures failures { IfOk result (λ resumed. D.Journal.failures resumed.0 ≡ 0) }
-    ensures err { IfErr result (λ failure. IsUnreplayed file.entry.now failure (D.log disk.old) (D.log disk.new)) }
+    ensures err { IfErr result (λ failure. IsUnreplayed file.entry.now is_synced failure (D.log disk.old) (D.log disk.new)) }
 {
     let (opened, bytes) = open_journal(disk, file)?;
     let text = bytes.as_slice();

@@ -172,7 +172,7 @@ fn answer_journaled<'a, F: Searchable, D: Disk, I: Source, O: Sink, E: Sink>(
     ensures { (IsJournaled file.entry.now named.entry explain session result
         (streams D.log I.transcript I.is_at_end I.failures O.transcript O.failures disk.old input.old output.old)
         (streams D.log I.transcript I.is_at_end I.failures O.transcript O.failures disk.new input.new output.new))
-        ⊎ (IfErr result (λ failure. IsUnreplayed file.entry.now failure (D.log disk.old) (D.log disk.new)) × IsErr result × (input.new ≡ input.old) × (output.new ≡ output.old)) }
+        ⊎ (IfErr result (λ failure. IsUnreplayed file.entry.now named.entry.is_synced failure (D.log disk.old) (D.log disk.new)) × IsErr result × (input.new ≡ input.old) × (output.new ≡ output.old)) }
 {
     let (journaled, before) = begin(alloc, disk, session, file, named.is_synced, errors)?;
     converse_journaled(
@@ -189,9 +189,9 @@ fn begin<'a, F: Searchable, D: Disk, E: Sink>(
     is_synced: bool,
     errors: &mut E,
 ) -> Result<(JournaledSession<F, D::Journal>, usize), Failure<'a>>
-    ensures ok { IfOk result (λ begun. HasReplayed file.entry.now session begun.1 begun.0.state (D.log disk.old) (D.log disk.new)) }
+    ensures ok { IfOk result (λ begun. HasReplayed file.entry.now is_synced session begun.1 begun.0.state (D.log disk.old) (D.log disk.new)) }
     ensures new { IfOk result (λ begun. begun.0 ≡ record { state = begun.0.state; journal = []; failures = 0; cause = None }) }
-    ensures err { IfErr result (λ failure. IsUnreplayed file.entry.now failure (D.log disk.old) (D.log disk.new)) }
+    ensures err { IfErr result (λ failure. IsUnreplayed file.entry.now is_synced failure (D.log disk.old) (D.log disk.new)) }
 {
     let (journal, before) = resume_journal(alloc, disk, file, is_synced, &mut session, errors)?;
     let journaled = JournaledSession::new(alloc, session, journal)?;

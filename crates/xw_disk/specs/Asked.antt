@@ -11,6 +11,6 @@ seen (asked.Replace name bytes answer) = replace name.now bytes.now answer
 seen (asked.Copy name like bytes answer) = copy name.now like.now bytes.now answer
 seen (asked.Open name bytes) = open_ name.now (Ok bytes.now)
 seen (asked.Unopened name fault) = open_ name.now (Err fault)
-seen (asked.Begin name start answer) = begin name.now (started start) answer
+seen (asked.Begin name start is_synced answer) = begin name.now (started start) is_synced answer
 seen (asked.TakeLines name lines) = take_lines name.now lines.now.transcript
 seen (asked.End name bytes answer) = end name.now bytes.now answer

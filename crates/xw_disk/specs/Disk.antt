@@ -1,5 +1,5 @@
 -- What a disk was asked, and what it answered.
-use Rattle.std.specs.Prelude.{◌≡◌, ℕ, ◌==◌, cond, List, [], ◌++◌, Result, Ok, Err, refl}
+use Rattle.std.specs.Prelude.{◌≡◌, ℕ, ◌==◌, cond, Bool, true, false, List, [], ◌∷◌, ◌++◌, Result, Ok, Err, refl}
 use Rattle.std.specs.Coded.{Coded, code_by, coded×, coded_ℕ, coded_list}
 use Rattle.xw_disk.specs.declared.disk.DiskFault.{DiskFault}
 use Rattle.xw_disk.specs.declared.disk.DiskFault.TheVariants.{Memory, Unreadable, Unwritable, InUse, Replaced}
@@ -15,8 +15,8 @@ pub data Event : Type 0 where
   copy : List ℕ → List ℕ → List ℕ → Result (Unit {0}) DiskFault → Event
   -- the journal with this name was opened: its bytes, or why it was not
   open_ : List ℕ → Result (List ℕ) DiskFault → Event
-  -- the journal with this name was to begin with these bytes
-  begin : List ℕ → List ℕ → Result (Unit {0}) DiskFault → Event
+  -- the journal with this name was to begin with these bytes, and whether each flush of it is synced to the device
+  begin : List ℕ → List ℕ → Bool → Result (Unit {0}) DiskFault → Event
   -- the journal with this name took these bytes, with a mark for each flush
   take_lines : List ℕ → List ℕ → Event
   -- the journal with this name was to have these bytes at its end
@@ -46,6 +46,14 @@ done_at n = cond (n == 0) (Ok tt) (Err (fault_at n))
 abbrev bytes_at : List ℕ → ℕ → Result (List ℕ) DiskFault
 bytes_at bytes n = cond (n == 0) (Ok bytes) (Err (fault_at n))
 
+abbrev flag_list : Bool → List ℕ
+flag_list false = []
+flag_list true = 1 ∷ []
+
+abbrev flag_at : List ℕ → Bool
+flag_at [] = false
+flag_at (x ∷ xs) = true
+
 abbrev Parts : Type 0
 Parts = ℕ × (List ℕ × (List ℕ × (List ℕ × ℕ)))
 
@@ -58,8 +66,8 @@ to_parts (copy name like bytes (Ok done)) = (2, (name, (bytes, (like, 0))))
 to_parts (copy name like bytes (Err fault)) = (2, (name, (bytes, (like, fault_number fault))))
 to_parts (open_ name (Ok bytes)) = (3, (name, (bytes, ([], 0))))
 to_parts (open_ name (Err fault)) = (3, (name, ([], ([], fault_number fault))))
-to_parts (begin name bytes (Ok done)) = (4, (name, (bytes, ([], 0))))
-to_parts (begin name bytes (Err fault)) = (4, (name, (bytes, ([], fault_number fault))))
+to_parts (begin name bytes is_synced (Ok done)) = (4, (name, (bytes, (flag_list is_synced, 0))))
+to_parts (begin name bytes is_synced (Err fault)) = (4, (name, (bytes, (flag_list is_synced, fault_number fault))))
 to_parts (take_lines name bytes) = (5, (name, (bytes, ([], 0))))
 to_parts (end name bytes (Ok done)) = (6, (name, (bytes, ([], 0))))
 to_parts (end name bytes (Err fault)) = (6, (name, (bytes, ([], fault_number fault))))
@@ -68,7 +76,7 @@ abbrev from_parts : Parts → Event
 from_parts p =
     cond (p.0 == 0) (read p.1.0 (bytes_at p.1.1.0 p.1.1.1.1)) (cond (p.0 == 1) (replace p.1.0 p.1.1.0 (done_at p.1.1.1.1))
     (cond (p.0 == 2) (copy p.1.0 p.1.1.1.0 p.1.1.0 (done_at p.1.1.1.1)) (cond (p.0 == 3) (open_ p.1.0 (bytes_at p.1.1.0 p.1.1.1.1))
-    (cond (p.0 == 4) (begin p.1.0 p.1.1.0 (done_at p.1.1.1.1)) (cond (p.0 == 5) (take_lines p.1.0 p.1.1.0) (end p.1.0 p.1.1.0 (done_at p.1.1.1.1)))))))
+    (cond (p.0 == 4) (begin p.1.0 p.1.1.0 (flag_at p.1.1.1.0) (done_at p.1.1.1.1)) (cond (p.0 == 5) (take_lines p.1.0 p.1.1.0) (end p.1.0 p.1.1.0 (done_at p.1.1.1.1)))))))
 
 pub from_parts-to_parts : (e : Event) → from_parts (to_parts e) ≡ e
 from_parts-to_parts (read name (Ok bytes)) = refl
@@ -95,12 +103,18 @@ from_parts-to_parts (open_ name (Err Unreadable)) = refl
 from_parts-to_parts (open_ name (Err Unwritable)) = refl
 from_parts-to_parts (open_ name (Err InUse)) = refl
 from_parts-to_parts (open_ name (Err Replaced)) = refl
-from_parts-to_parts (begin name bytes (Ok tt)) = refl
-from_parts-to_parts (begin name bytes (Err Memory)) = refl
-from_parts-to_parts (begin name bytes (Err Unreadable)) = refl
-from_parts-to_parts (begin name bytes (Err Unwritable)) = refl
-from_parts-to_parts (begin name bytes (Err InUse)) = refl
-from_parts-to_parts (begin name bytes (Err Replaced)) = refl
+from_parts-to_parts (begin name bytes false (Ok tt)) = refl
+from_parts-to_parts (begin name bytes true (Ok tt)) = refl
+from_parts-to_parts (begin name bytes false (Err Memory)) = refl
+from_parts-to_parts (begin name bytes true (Err Memory)) = refl
+from_parts-to_parts (begin name bytes false (Err Unreadable)) = refl
+from_parts-to_parts (begin name bytes true (Err Unreadable)) = refl
+from_parts-to_parts (begin name bytes false (Err Unwritable)) = refl
+from_parts-to_parts (begin name bytes true (Err Unwritable)) = refl
+from_parts-to_parts (begin name bytes false (Err InUse)) = refl
+from_parts-to_parts (begin name bytes true (Err InUse)) = refl
+from_parts-to_parts (begin name bytes false (Err Replaced)) = refl
+from_parts-to_parts (begin name bytes true (Err Replaced)) = refl
 from_parts-to_parts (take_lines name bytes) = refl
 from_parts-to_parts (end name bytes (Ok tt)) = refl
 from_parts-to_parts (end name bytes (Err Memory)) = refl

@@ -1,5 +1,7 @@
 //! The file of a journal, open for appending, and the writer for its lines.
 ghost use Rattle.std.specs.Prelude.{◌≡◌, [], ◌≤◌, length, IfOk};
+ghost use Rattle.std.specs.Io.KnownBytes.{Keeps, WriteAppends};
+ghost use Rattle.std.specs.Io.Buffered.{writer_inner};
 
 use crate::identity::{Identity, identity_of};
 use std::alloc::{AllocError, Global};
@@ -50,7 +52,10 @@ pub struct Appended<F: Drop, P: Drop> {
 
 impl<F: Write + OpenFile + Drop, P: Place + Drop> Appended<F, P> {
     /// Appends to an open file of this length.
-    pub fn new(file: F, place: P, length: u64, is_synced: bool) -> Appended<F, P> {
+    pub fn new(file: F, place: P, length: u64, is_synced: bool) -> Appended<F, P>
+        ensures file { result.file ≡ file }
+        ensures synced { result.is_synced ≡ is_synced }
+    {
         Appended {
             file,
             place,
@@ -80,6 +85,7 @@ impl<F: Write + OpenFile + Drop, P: Place + Drop> Appended<F, P> {
     /// Writes to the file if its name still leads to it.
     fn append(&mut self, bytes: &[u8]) -> io::Result<usize>
         ensures bound { IfOk result (λ count. count ≤ length bytes.now) }
+        ensures bytes { WriteAppends (F.contents self.old.file) (F.contents self.new.file) result bytes.now }
     {
         if !self.place.is_there()? {
             self.is_lost = true;
@@ -92,7 +98,9 @@ impl<F: Write + OpenFile + Drop, P: Place + Drop> Appended<F, P> {
     }
 
     /// Flushes the file, and syncs it to the device if `is_synced` is set.
-    fn bring(&mut self) -> io::Result<()> {
+    fn bring(&mut self) -> io::Result<()>
+        ensures { Keeps (F.contents self.old.file) (F.contents self.new.file) }
+    {
         self.file.flush()?;
         if self.is_synced {
             self.file.sync_data()?;
@@ -101,14 +109,18 @@ impl<F: Write + OpenFile + Drop, P: Place + Drop> Appended<F, P> {
     }
 
     /// Removes what was written since the last flush, and keeps the error of the call that failed.
-    fn fail(&mut self, error: io::Error) {
+    fn fail(&mut self, error: io::Error)
+        ensures { self.new.file ≡ self.old.file }
+    {
         self.take_back();
         self.error = Some(error);
     }
 
     /// Cuts the file to its length at the last flush. If this fails too, the next start drops what is left of the
     /// line.
-    fn take_back(&mut self) {
+    fn take_back(&mut self)
+        ensures { self.new.file ≡ self.old.file }
+    {
         if self.written > 0 {
             let _ = self.file.set_len(self.length);
             self.written = 0;
@@ -117,6 +129,8 @@ impl<F: Write + OpenFile + Drop, P: Place + Drop> Appended<F, P> {
 }
 
 impl<F: Write + OpenFile + Drop, P: Place + Drop> Write for Appended<F, P> {
+    ghost contents = { λ appended. F.contents appended.file };
+
     fn write(&mut self, bytes: &[u8]) -> io::Result<usize> {
         match self.append(bytes) {
             Ok(count) => {
@@ -151,29 +165,28 @@ impl<F: Write + OpenFile + Drop, P: Place + Drop> Write for Appended<F, P> {
 #[derive(Drop)]
 pub struct JournalWriter<F: Write + OpenFile + Drop, P: Place + Drop> {
     sink: ToWrite<BufWriter<Appended<F, P>>>,
-    lines: History,
 }
 
 impl<F: Write + OpenFile + Drop, P: Place + Drop> JournalWriter<F, P> {
     /// Appends to a file, one flush at a time.
     pub fn new(alloc: Global, appended: Appended<F, P>) -> Result<JournalWriter<F, P>, AllocError>
-        ensures transcript { IfOk result (λ journal. journal.lines.transcript ≡ []) }
+        ensures transcript { IfOk result (λ journal. journal.sink.transcript.transcript ≡ []) }
         ensures failures { IfOk result (λ journal. journal.sink.failures ≡ 0) }
+        ensures file { IfOk result (λ journal. writer_inner journal.sink.writer ≡ appended) }
     {
         match BufWriter::with_capacity(alloc, GATHERED, appended) {
             Ok(writer) => Ok(JournalWriter {
                 sink: ToWrite::new(writer),
-                lines: History::new(),
             }),
             Err(_) => Err(AllocError),
         }
     }
 
     /// Returns the record of what was written, for proofs only.
-    pub fn lines(&self) -> &History
-        ensures { result.now ≡ self.now.lines }
+    pub fn transcript(&self) -> &History
+        ensures { result.now ≡ self.now.sink.transcript }
     {
-        &self.lines
+        self.sink.transcript()
     }
 
     /// Returns the file. This discards the unwritten bytes, since their write failed.
@@ -184,27 +197,15 @@ impl<F: Write + OpenFile + Drop, P: Place + Drop> JournalWriter<F, P> {
 }
 
 impl<F: Write + OpenFile + Drop, P: Place + Drop> Sink for JournalWriter<F, P> {
-    ghost transcript = { λ journal. journal.lines.transcript };
+    ghost transcript = { λ journal. journal.sink.transcript.transcript };
 
     ghost failures = { λ journal. journal.sink.failures };
 
     fn write(&mut self, bytes: &[u8]) -> Result<usize, DeviceFault> {
-        match self.sink.write(bytes) {
-            Ok(count) => {
-                self.lines.note(&bytes[..count]);
-                Ok(count)
-            }
-            Err(fault) => Err(fault),
-        }
+        self.sink.write(bytes)
     }
 
     fn flush(&mut self) -> Result<(), DeviceFault> {
-        match self.sink.flush() {
-            Ok(()) => {
-                self.lines.note_flush();
-                Ok(())
-            }
-            Err(fault) => Err(fault),
-        }
+        self.sink.flush()
     }
 }

@@ -11,7 +11,7 @@ pub enum Asked<'a> {
     Copy(&'a str, &'a str, &'a [u8], Result<(), DiskFault>),
     Open(&'a str, &'a [u8]),
     Unopened(&'a str, DiskFault),
-    Begin(&'a str, Start<'a>, Result<(), DiskFault>),
+    Begin(&'a str, Start<'a>, bool, Result<(), DiskFault>),
     TakeLines(&'a str, &'a History),
     End(&'a str, &'a [u8], Result<(), DiskFault>),
 }

@@ -74,8 +74,8 @@ pub trait Disk {
         is_synced: bool,
     ) -> Result<Self::Journal, DiskFault>
         ensures log { MatchResult result
-            (λ _. log self.new ≡ log self.old ++ begin name.now (started start.entry) (Ok tt) ∷ [])
-            (λ fault. log self.new ≡ log self.old ++ begin name.now (started start.entry) (Err fault) ∷ []) }
+            (λ _. log self.new ≡ log self.old ++ begin name.now (started start.entry) is_synced (Ok tt) ∷ [])
+            (λ fault. log self.new ≡ log self.old ++ begin name.now (started start.entry) is_synced (Err fault) ∷ []) }
         ensures transcript { IfOk result (λ journal. Self.Journal.transcript journal ≡ []) }
         ensures failures { IfOk result (λ journal. Self.Journal.failures journal ≡ 0) };
 

@@ -1,5 +1,6 @@
 //! Opens the file of a journal, and prepares it for appending lines.
 ghost use Rattle.std.specs.Prelude.{◌≡◌, [], IfOk};
+ghost use Rattle.std.specs.Io.Buffered.{writer_inner};
 
 use crate::appended::{Appended, JournalName, JournalWriter};
 use crate::disk::{DiskFault, Start};
@@ -108,8 +109,9 @@ pub fn begin_journal<R: Locks + AllocGlobal + Clone + Drop>(
     start: Start<'_>,
     is_synced: bool,
 ) -> Result<JournalWriter<R::File, JournalName<R>>, Failed>
-    ensures transcript { IfOk result (λ journal. journal.lines.transcript ≡ []) }
+    ensures transcript { IfOk result (λ journal. journal.sink.transcript.transcript ≡ []) }
     ensures failures { IfOk result (λ journal. journal.sink.failures ≡ 0) }
+    ensures synced { IfOk result (λ journal. (writer_inner journal.sink.writer).is_synced ≡ is_synced) }
 {
     match begin(rt, file, opened, start) {
         Ok(begun) => match appending(rt, file, begun, is_synced) {
@@ -199,8 +201,9 @@ fn appending<R: Locks + AllocGlobal + Clone + Drop>(
     opened: R::File,
     is_synced: bool,
 ) -> io::Result<JournalWriter<R::File, JournalName<R>>>
-    ensures transcript { IfOk result (λ journal. journal.lines.transcript ≡ []) }
+    ensures transcript { IfOk result (λ journal. journal.sink.transcript.transcript ≡ []) }
     ensures failures { IfOk result (λ journal. journal.sink.failures ≡ 0) }
+    ensures synced { IfOk result (λ journal. (writer_inner journal.sink.writer).is_synced ≡ is_synced) }
 {
     let found = opened.metadata()?;
     if is_synced {

@@ -1,5 +1,7 @@
 //! The disk of the operating system.
-ghost use Rattle.std.specs.Prelude.{◌≡◌, []};
+ghost use Rattle.std.specs.Prelude.{◌≡◌, [], ◌∷◌, ◌++◌, MatchResult, IfOk};
+ghost use Rattle.std.specs.Io.Buffered.{writer_inner};
+ghost use Rattle.xw_disk.specs.Disk.{begin, started};
 
 use crate::appended::{Appended, JournalName, JournalWriter, Place};
 use crate::asked::Asked;
@@ -139,22 +141,29 @@ impl<'a, R: System + AllocGlobal + Clone + Drop> Disk for SystemDisk<'a, R> {
         opened: R::File,
         start: Start<'_>,
         is_synced: bool,
-    ) -> Result<JournalWriter<R::File, JournalName<R>>, DiskFault> {
+    ) -> Result<JournalWriter<R::File, JournalName<R>>, DiskFault>
+        ensures log { MatchResult result
+            (λ _. self.new.log.events ≡ self.old.log.events ++ begin name.now (started start.entry) is_synced (Ok tt) ∷ [])
+            (λ fault. self.new.log.events ≡ self.old.log.events ++ begin name.now (started start.entry) is_synced (Err fault) ∷ []) }
+        ensures transcript { IfOk result (λ journal. journal.sink.transcript.transcript ≡ []) }
+        ensures failures { IfOk result (λ journal. journal.sink.failures ≡ 0) }
+        ensures synced { IfOk result (λ journal. (writer_inner journal.sink.writer).is_synced ≡ is_synced) }
+    {
         match opening::begin_journal(self.rt, name, opened, start, is_synced) {
             Ok(journal) => {
-                self.log.note(&Asked::Begin(name, start, Ok(())));
+                self.log.note(&Asked::Begin(name, start, is_synced, Ok(())));
                 Ok(journal)
             }
             Err(failed) => {
                 let fault = self.failed(failed);
-                self.log.note(&Asked::Begin(name, start, Err(fault)));
+                self.log.note(&Asked::Begin(name, start, is_synced, Err(fault)));
                 Err(fault)
             }
         }
     }
 
     fn close_journal(&mut self, name: &str, journal: JournalWriter<R::File, JournalName<R>>) {
-        self.log.note(&Asked::TakeLines(name, journal.lines()));
+        self.log.note(&Asked::TakeLines(name, journal.transcript()));
         self.closed = Some(journal.into_appended());
     }
 
