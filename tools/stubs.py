@@ -72,6 +72,12 @@ def bodies(text, module, types):
             yield [*around[0], name], *found
 
 
+def proof_files(room, function, name):
+    """The files of this name about a function in a folder of src/, specs/ and proofs/. The folder of a recursive function begins with +."""
+    *folders, own = ["proofs", *function.split("::")[1:]]
+    return [it for it in (f"{room}/{'/'.join(folders)}/{begin}{own}/{name}" for begin in ("", "+")) if os.path.exists(it)]
+
+
 def can_go(folder):
     """Whether a function with this folder for its proof can be left out: neither a recursive one, nor one that is proved as a whole."""
     above, name = os.path.split(folder)
