@@ -49,13 +49,21 @@ class Told:
         return not self.passes and not self.unproved and not self.refused and not self.errors
 
     def stale(self):
-        """The answers and their lemmas that no longer fit, and the names in `use` lines that are not there."""
-        stale = [(name, why) for file, name, why in self.errors if file == "Answers" and not UNPROVED.search(why)]
-        return {name for name, _ in stale if name}.union(*[names_in(why) for name, why in stale if not name])
+        """The answers and their lemmas that no longer fit."""
+        return {name for file, name, why in self.errors if file == "Answers" and name and not UNPROVED.search(why)}
+
+    def gone(self):
+        """The answers to goals that are not there, and other names that are not."""
+        errors = [(name, why) for file, name, why in self.errors if file == "Answers"]
+        return {name for name, why in errors if name and f"has no `{name}`" in why}.union(*[names_in(why) for name, why in errors if not name])
 
     def failed(self):
         """The answers and their lemmas that fit, and do not prove their goals."""
         return {name for file, name, why in self.errors if file == "Answers" and name} - self.stale()
+
+    def fits(self):
+        """Whether all that the answers cite is there."""
+        return not self.stale() and not self.gone()
 
     def why(self, names):
         """The first error in one of these answers."""
@@ -73,8 +81,8 @@ class Told:
 
 
 def names_in(why):
-    """The names in an error outside declarations: one that is not there, and declarations that were not checked."""
-    return {*re.findall(r"has no `([^`]+)`", why), *re.findall(r"[^\s,]+", why.partition(" was not checked: ")[2])}
+    """The names that are not there by an error outside declarations."""
+    return set(re.findall(r"has no `([^`]+)`", why))
 
 
 def shape(statement):
@@ -82,17 +90,17 @@ def shape(statement):
     return re.sub(r"\bc(\.[^\s(){}\[\],;]+)+", "c", statement)
 
 
-def without_answers(text, removed, searched):
+def without_answers(text, gone, names):
     """The text of a file of answers without some declarations, and with searches in the place of the answers to other goals.
 
-    What cites a lemma that goes is removed or searched as well.
+    What cites a declaration that goes is searched as well.
     """
-    parts = re.split(r"\n\s*\n(?=\S)", re.sub(r"^use .*$", lambda it: without_imports(it[0], removed), text, flags=re.M))
+    parts = re.split(r"\n\s*\n(?=\S)", re.sub(r"^use .*$", lambda it: without_imports(it[0], gone), text, flags=re.M))
     declared = [{record or name for indent, record, name in NAME.findall(it) if not indent or it.startswith("module ")} for it in parts]
-    removed, searched = [citing(it, declared, parts) for it in (removed, searched)]
+    lost = citing(gone | names, declared, parts)
     for at, own in enumerate(declared):
-        if own & (removed | searched):
-            parts[at] = "" if own & removed else with_search(parts[at])
+        if own & lost:
+            parts[at] = "" if own & gone else with_search(parts[at])
     return "\n\n".join([RULES, *[it for it in parts if it]]) + "\n"
 
 
