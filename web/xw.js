@@ -74,6 +74,16 @@ function rawBytesOf(source, fault) {
   throw new TypeError(fault);
 }
 
+// What `open` takes.
+const OPTIONS = ['list', 'puzzle', 'record'];
+
+// Throws a TypeError if the options of `open` are no object, or have a name that it does not take.
+function expectOptions(options) {
+  if (!options || typeof options !== 'object') throw new TypeError('the options are not an object: open takes { list, puzzle, record }');
+  const other = Object.keys(options).find((name) => !OPTIONS.includes(name));
+  if (other !== undefined) throw new TypeError(`${other} is not an option of open, which takes list, puzzle and record`);
+}
+
 // Compiles the module: from its bytes, or from a place. That is a URL, or in Node also a path. By default it is xw.wasm beside this file.
 export async function load(source = new URL('xw.wasm', import.meta.url)) {
   const isBytes = isA(source, 'ArrayBuffer') || ArrayBuffer.isView(source);
@@ -216,8 +226,10 @@ export class Xw {
 
   // Opens a session over a word list, on a puzzle (a .puz or text file), and replays a record. Each is a Uint8Array, an ArrayBuffer or a
   // string in Windows-1252, and may be left out. `record` may have lines that are refused: `reports` then names them. Throws a Fault if it
-  // cannot.
-  static open(module, { list = '', puzzle = '', record = '' } = {}) {
+  // cannot, and a TypeError for options that are no object or have another name.
+  static open(module, options = {}) {
+    expectOptions(options);
+    const { list = '', puzzle = '', record = '' } = options;
     const [lists, puzzles, records] = [bytesOf(list, 'list'), bytesOf(puzzle, 'puzzle'), bytesOf(record, 'record')];
     const xw = new Xw(module);
     xw.#open(lists, puzzles);

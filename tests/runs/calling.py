@@ -110,6 +110,15 @@ def extra(word, usage):
     return wrong(f"unexpected argument '{word}' found", usage)
 
 
+def tipped(word, tip):
+    """The message for a word of `edit` that is no argument, with what to try in its place."""
+    return extra(f"{word}' found\n\n  tip: {tip}", "edit [OPTIONS]").replace(b"' found\n\nUsage", b"\n\nUsage")
+
+
+# The tip for a file that may be the word list.
+LIST = "to load it as the word list, use '--dict {}'"
+
+
 def missing(words, usage):
     return wrong("\n  ".join(["the following required arguments were not provided:", *words]), usage)
 
@@ -128,7 +137,12 @@ WRONG = {
     "frob": wrong("unrecognized subcommand 'frob'", "<COMMAND>"),
     "help frob": wrong("unrecognized subcommand 'frob'", "<COMMAND>"),
     "--frob": extra("--frob", "<COMMAND>"),
-    "edit words.txt": extra("words.txt", "edit [OPTIONS]"),
+    "edit words.txt": tipped("words.txt", LIST.format("words.txt")),
+    "edit --dict a --sync b": tipped("b", LIST.format("b")),
+    "edit mine.puz": tipped("mine.puz", "to start with this puzzle, use '--from mine.puz'"),
+    "edit -dict words.txt": tipped("-d", "a similar argument exists: '--dict'"),
+    "edit --dict words.txt -journal mine.xw": tipped("-j", "a similar argument exists: '--journal'"),
+    "edit --dict a -x b": extra("-x", "edit [OPTIONS]"),
     "edit --frob": wrong("unexpected argument '--frob' found\n\n  tip: a similar argument exists: '--from'", "edit --from <FILE>"),
     "edit -x": extra("-x", "edit [OPTIONS]"),
     "edit --version": extra("--version", "edit [OPTIONS]"),
@@ -150,6 +164,8 @@ WRONG = {
     "edit --journal a --resume b": b"xw: --journal cannot be given with --from or --resume\n",
     "edit --journal a --from b --sync": b"xw: --journal cannot be given with --from or --resume\n",
     "edit --sync": b"xw: --sync needs --journal\n",
+    "check - -": b"xw: -: standard input can be read only once\n",
+    "check --explain - mine.puz -": b"xw: -: standard input can be read only once\n",
     "convert": missing(["<FROM>", "<TO>"], "convert <FROM> <TO>"),
     "convert a": missing(["<TO>"], "convert <FROM> <TO>"),
     "convert a b c": extra("c", "convert [OPTIONS] <FROM> <TO>"),
@@ -158,6 +174,23 @@ WRONG = {
         "unexpected argument '--frob' found\n\n  tip: to pass '--frob' as a value, use '-- --frob'", "check [OPTIONS] <FILE>..."
     ),
 }
+
+# Calls with a file that has no name.
+NAMELESS = [
+    ["check", ""],
+    ["check", "mine.puz", ""],
+    ["convert", "", "mine.txt"],
+    ["convert", "mine.puz", ""],
+    *(["edit", option, ""] for option in ("--dict", "--from", "--resume", "--to", "--save", "--journal")),
+]
+
+
+class Words(list):
+    """The words of a call, of which some may be empty."""
+
+    def split(self):
+        return self
+
 
 CASES = {
     "word_list_of_five_lines": [
@@ -217,5 +250,8 @@ CASES = {
     # Words that are no text are wrong words.
     "words_that_are_no_text": [run(b"check \xFF", errors=b"xw: the arguments are no text\n", status=USAGE)],
     **{f"wrong_words: xw {words}": [run(words, errors=told, status=USAGE)] for words, told in WRONG.items()},
+    **{
+        f"nameless: xw {words}": [run(Words(words), errors=b"xw: the name of a file is empty\n", status=USAGE)] for words in NAMELESS
+    },
     **{f"words_that_ask_for_help: xw {words}": [run(words, output=told)] for words, told in HELPS.items()},
 }

@@ -1,3 +1,4 @@
 pub mod Rows
 pub mod Usages
 pub mod Commands
+pub mod TipLemmas

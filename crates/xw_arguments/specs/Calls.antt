@@ -1,10 +1,13 @@
 -- The call that the parsed arguments describe.
-use Rattle.std.specs.Prelude.{◌≡◌, Bool, true, false, bytes_eq, is_some, map, List, Option, Some, None, codes, option_map}
+use Rattle.std.specs.Prelude.{◌≡◌, ◌==◌, ◌||◌, ◌++◌, count_by, if◌then◌else◌, length, nat_lt, Bool, true, false, bytes_eq, is_some, map, List, Option, Some, None, codes, option_map}
 use Rattle.std.specs.Borrow.{Bor}
+use Rattle.std.specs.List.{list_any}
 use Rattle.clap.specs.Words.{Row, Text, all_of, first_of}
 use Rattle.xw_arguments.specs.declared.arguments.SessionFiles.{SessionFiles}
 use Rattle.xw_arguments.specs.declared.arguments.Clash.{Clash}
 use Rattle.xw_arguments.specs.declared.arguments.Clash.TheVariants.{TwoStarts, JournalAndStart, SyncAlone}
+use Rattle.xw_arguments.specs.declared.arguments.Misnaming.{Misnaming}
+use Rattle.xw_arguments.specs.declared.arguments.Misnaming.TheVariants.{Nameless, InputTwice}
 use Rattle.xw_arguments.specs.declared.arguments.Call.{Call}
 use Rattle.xw_arguments.specs.declared.arguments.Call.TheVariants.{Edit, Convert, Check}
 
@@ -72,3 +75,32 @@ IsCallOf name call rows = (subcommand call ≡ name) × HasValues call rows
 -- the call is the subcommand with its values
 abbrev pub IsCall : Call → Option (Text × List Row) → Type 0
 IsCall call found = (name : Text) × (rows : List Row) × (found ≡ Some (name, rows)) × IsCallOf name call rows
+
+-- ---- the names of a call
+
+-- a file is named, and its name is empty
+abbrev pub is_empty : Option (Bor Text) → Bool
+is_empty None = false
+is_empty (Some name) = length name.now == 0
+
+abbrev pub has_nameless : SessionFiles → Bool
+has_nameless files = is_empty files.dict || is_empty files.from_file || is_empty files.resume_file || is_empty files.to_file || is_empty files.save_file || is_empty files.journal_file
+
+-- a file of the call has an empty name
+abbrev pub is_nameless : Call → Bool
+is_nameless (Edit files explain) = has_nameless files
+is_nameless (Convert from_file to_file explain) = (length from_file.now == 0) || (length to_file.now == 0)
+is_nameless (Check files explain) = list_any (λ file. length file.now == 0) files.items
+
+-- two files to check are standard input
+abbrev pub reads_input_twice : Call → Bool
+reads_input_twice (Check files explain) = nat_lt 1 (count_by (λ file. bytes_eq file.now (codes "-")) files.items)
+reads_input_twice call = false
+
+-- why the names of a call are no names of files, if they are not
+abbrev pub misnaming_in : Call → Option Misnaming
+misnaming_in call = if is_nameless call then Some Nameless else if reads_input_twice call then Some InputTwice else None
+
+abbrev pub misnaming_text : Misnaming → Text
+misnaming_text Nameless = codes "xw: the name of a file is empty\n"
+misnaming_text InputTwice = codes "xw: -: standard input can be read only once\n"

@@ -1,3 +1,4 @@
 pub mod Shapes
 pub mod Calls
+pub mod Tips
 pub mod Usage

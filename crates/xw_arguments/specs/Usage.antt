@@ -1,10 +1,12 @@
 -- Why arguments are not a call, by the kinds of error that `clap` gives for them.
-use Rattle.std.specs.Prelude.{◌≡◌, ◌≢◌, ◌⊎◌, List, [], Option}
+use Rattle.std.specs.Prelude.{◌≡◌, ◌≢◌, ◌⊎◌, List, [], Option, Some}
 use Rattle.clap.specs.Kinds.{Kinds, IsAmong}
 use Rattle.clap.specs.Words.{Row, Text}
 use Rattle.clap.specs.declared.error.kind.ErrorKind.{ErrorKind}
 use Rattle.clap.specs.declared.error.kind.ErrorKind.TheVariants.{DisplayHelp, DisplayVersion, OutOfMemory}
-use Rattle.xw_arguments.specs.Calls.{IsCall}
+use Rattle.xw_arguments.specs.Calls.{IsCall, misnaming_in, misnaming_text}
+use Rattle.xw_arguments.specs.Tips.{tip_due, HasTip}
+use Rattle.xw_arguments.specs.declared.arguments.Misnaming.{Misnaming}
 use Rattle.xw_arguments.specs.declared.arguments.Call.{Call}
 use Rattle.xw_arguments.specs.declared.arguments.Usage.{Usage}
 use Rattle.xw_arguments.specs.declared.arguments.Usage.TheVariants.{Help, Wrong, Memory}
@@ -13,19 +15,30 @@ use Rattle.xw_arguments.specs.declared.arguments.Usage.TheVariants.{Help, Wrong,
 abbrev pub IsHelp : ErrorKind → Type 0
 IsHelp kind = (kind ≡ DisplayHelp) ⊎ (kind ≡ DisplayVersion)
 
--- how an error of this kind is reported
-abbrev pub IsTold : ErrorKind → Usage → Type 0
-IsTold kind (Help text) = IsHelp kind
-IsTold kind (Wrong text) = (kind ≢ DisplayHelp) × (kind ≢ DisplayVersion) × (kind ≢ OutOfMemory)
-IsTold kind Memory = Unit {0}
+-- how an error of this kind in these words is reported
+abbrev pub IsTold : ErrorKind → List Text → Usage → Type 0
+IsTold kind words (Help text) = IsHelp kind
+IsTold kind words (Wrong text) = (kind ≢ DisplayHelp) × (kind ≢ DisplayVersion) × (kind ≢ OutOfMemory) × HasTip (tip_due kind words) text.bytes.items
+IsTold kind words Memory = Unit {0}
 
 -- the parsed arguments describe no call
 abbrev pub IsNoCall : Option (Text × List Row) → Type 0
 IsNoCall found = (call : Call) → IsCall call found → ⊥
 
+-- the names of a call are no names of files, and the message says why
+abbrev pub IsMisnamed : Call → Usage → Type 0
+IsMisnamed call (Help text) = ⊥
+IsMisnamed call (Wrong text) = (misnaming : Misnaming) × (misnaming_in call ≡ Some misnaming) × (text.bytes.items ≡ misnaming_text misnaming)
+IsMisnamed call Memory = Unit {0}
+
+-- the parsed arguments describe a call with such names
+abbrev pub IsMisnamedIn : Option (Text × List Row) → Usage → Type 0
+IsMisnamedIn found usage = (call : Call) × IsCall call found × IsMisnamed call usage
+
 -- Help is for arguments that ask for it. Wrong is for arguments with another error, or with no error but no call
--- either.
-abbrev pub IsUsageOf : Kinds → Option (Text × List Row) → Usage → Type 0
-IsUsageOf kinds found (Help text) = (kind : ErrorKind) × IsAmong kind kinds × IsTold kind (Help text)
-IsUsageOf kinds found (Wrong text) = ((kind : ErrorKind) × IsAmong kind kinds × IsTold kind (Wrong text)) ⊎ ((kinds ≡ []) × IsNoCall found)
-IsUsageOf kinds found Memory = Unit {0}
+-- either, or a call whose names are no names of files.
+abbrev pub IsUsageOf : Kinds → List Text → Option (Text × List Row) → Usage → Type 0
+IsUsageOf kinds words found (Help text) = (kind : ErrorKind) × IsAmong kind kinds × IsTold kind words (Help text)
+IsUsageOf kinds words found (Wrong text) =
+    ((kind : ErrorKind) × IsAmong kind kinds × IsTold kind words (Wrong text)) ⊎ ((kinds ≡ []) × (IsNoCall found ⊎ IsMisnamedIn found (Wrong text)))
+IsUsageOf kinds words found Memory = Unit {0}

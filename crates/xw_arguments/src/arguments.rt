@@ -1,13 +1,15 @@
 //! The command line of the program: its options, and the call that the arguments describe.
-ghost use Rattle.std.specs.Prelude.{◌≡◌, ◌⊎◌, All, is_some, Bool, IfOk, IfErr, OnOk, IfSome, None, Ok, map, false, [], codes};
+ghost use Rattle.std.specs.List.{list_any};
+ghost use Rattle.std.specs.Prelude.{◌≡◌, ◌==◌, length, ◌⊎◌, All, is_some, Bool, IfOk, IfErr, OnOk, IfSome, None, Ok, map, false, [], codes};
 ghost use Rattle.clap.specs.Values.{kind_of};
 ghost use Rattle.clap.specs.Words.{all_of, app_of, first_of, found_of, rows_of, rule_of, subcommand_rows_of};
 ghost use Rattle.clap.specs.declared.builder.command.Command.TheViews.{out-Command as fields_of};
-ghost use Rattle.xw_arguments.specs.Calls.{AreFiles, IsCall, IsCallOf, is_explained, is_set, clash_in, clash_of};
-ghost use Rattle.xw_arguments.specs.Usage.{IsTold, IsNoCall, IsUsageOf};
+ghost use Rattle.xw_arguments.specs.Calls.{AreFiles, IsCall, IsCallOf, is_explained, has_nameless, is_empty, is_nameless, is_set, clash_in, clash_of, misnaming_in, misnaming_text, reads_input_twice};
+ghost use Rattle.xw_arguments.specs.Usage.{IsMisnamed, IsTold, IsNoCall, IsUsageOf};
 ghost use Rattle.xw_arguments.specs.Shapes as shapes;
 ghost use Rattle.xw_arguments.specs.Shapes.{HasNoGlobals, IsLocal};
 
+use crate::tips::{tip_due, with_tip};
 use clap::error::ErrorKind;
 use clap::{Arg, ArgAction, ArgMatches, Command, Error};
 use std::alloc::{AllocError, Global};
@@ -52,6 +54,37 @@ pub struct SessionFiles<'a> {
     pub is_synced: bool,
 }
 
+impl<'a> SessionFiles<'a> {
+    /// Returns whether a file has an empty name.
+    fn is_nameless(&self) -> bool
+        ensures { result ≡ has_nameless self.now }
+    {
+        is_empty(self.dict)
+            || is_empty(self.from_file)
+            || is_empty(self.resume_file)
+            || is_empty(self.to_file)
+            || is_empty(self.save_file)
+            || is_empty(self.journal_file)
+    }
+}
+
+/// Returns whether a file is named, and the name is empty.
+fn is_empty(name: Option<&str>) -> bool
+    ensures { result ≡ is_empty name.entry }
+{
+    match name {
+        Some(name) => name.is_empty(),
+        None => false,
+    }
+}
+
+/// Returns whether one of these names is empty.
+fn is_one_empty(names: &[&str]) -> bool
+    ensures { result ≡ list_any (λ name. length name.now == 0) names.now }
+{
+    names.iter().any(|name| name.is_empty())
+}
+
 /// Options of `edit` that do not go together.
 #[derive(Clone, Copy, Debug, PartialEq, Eq)]
 pub enum Clash {
@@ -70,6 +103,27 @@ impl Clash {
             Clash::TwoStarts => "xw: --from and --resume cannot be given together\n",
             Clash::JournalAndStart => "xw: --journal cannot be given with --from or --resume\n",
             Clash::SyncAlone => "xw: --sync needs --journal\n",
+        }
+    }
+}
+
+/// Why the names of a call are no names of files.
+#[derive(Clone, Copy, Debug, PartialEq, Eq)]
+pub enum Misnaming {
+    /// A name is empty.
+    Nameless,
+    /// Two files to check are standard input.
+    InputTwice,
+}
+
+impl Misnaming {
+    /// Returns the message.
+    pub fn message(self) -> &'static str
+        ensures { result.now ≡ misnaming_text self }
+    {
+        match self {
+            Misnaming::Nameless => "xw: the name of a file is empty\n",
+            Misnaming::InputTwice => "xw: -: standard input can be read only once\n",
         }
     }
 }
@@ -106,6 +160,44 @@ impl<'a> Call<'a> {
             Call::Convert { explain, .. } => *explain,
             Call::Check { explain, .. } => *explain,
         }
+    }
+
+    /// Returns whether a file of the call has an empty name.
+    fn is_nameless(&self) -> bool
+        ensures { result ≡ is_nameless self.now }
+    {
+        match self {
+            Call::Edit { files, .. } => files.is_nameless(),
+            Call::Convert {
+                from_file,
+                to_file,
+                ..
+            } => from_file.is_empty() || to_file.is_empty(),
+            Call::Check { files, .. } => is_one_empty(files.as_slice()),
+        }
+    }
+
+    /// Returns whether two files to check are standard input.
+    fn reads_input_twice(&self) -> bool
+        ensures { result ≡ reads_input_twice self.now }
+    {
+        match self {
+            Call::Check { files, .. } => files.iter().filter(|file| **file == "-").count() > 1,
+            _ => false,
+        }
+    }
+
+    /// Returns why the names of the call are no names of files, if they are not.
+    pub fn misnaming(&self) -> Option<Misnaming>
+        ensures { result ≡ misnaming_in self.now }
+    {
+        if self.is_nameless() {
+            return Some(Misnaming::Nameless);
+        }
+        if self.reads_input_twice() {
+            return Some(Misnaming::InputTwice);
+        }
+        None
     }
 }
 
@@ -295,18 +387,30 @@ fn command<'a>(alloc: Global) -> Result<Command<'a>, AllocError>
 pub fn arguments<'a, S: AsStr>(alloc: Global, words: &'a [S]) -> Result<Call<'a>, Usage>
     // The call is the subcommand that `clap` finds, and its files are the values that `clap` finds.
     ensures call { IfOk result (λ call. IsCall call (shapes.subcommand_in (map S.text words.entry.now))) }
+    ensures named { IfOk result (λ call. misnaming_in call ≡ None) }
     // Parsing succeeds only if `clap` finds no error.
     ensures parsed { OnOk result (shapes.faults_in (map S.text words.entry.now) ≡ []) }
-    ensures usage { IfErr result (IsUsageOf (shapes.faults_in (map S.text words.entry.now)) (shapes.subcommand_in (map S.text words.entry.now))) }
+    ensures usage { IfErr result (IsUsageOf (shapes.faults_in (map S.text words.entry.now)) (map S.text words.entry.now) (shapes.subcommand_in (map S.text words.entry.now))) }
 {
     let command = command(alloc)?;
     let matches = match command.try_get_matches_from(words) {
         Ok(matches) => matches,
-        Err(error) => return Err(explanation(alloc, &error)),
+        Err(error) => return Err(explanation(alloc, words, &error)),
     };
     match call_of(alloc, &matches)? {
-        Some(call) => Ok(call),
+        Some(call) => named(alloc, call),
         None => Err(Usage::Wrong(String::from_str(alloc, message(&matches))?)),
+    }
+}
+
+/// Returns a call, unless its names are no names of files.
+fn named<'a>(alloc: Global, call: Call<'a>) -> Result<Call<'a>, Usage>
+    ensures call { IfOk result (λ same. (same ≡ call.entry) × (misnaming_in same ≡ None)) }
+    ensures usage { IfErr result (IsMisnamed call.entry) }
+{
+    match call.misnaming() {
+        Some(misnaming) => Err(Usage::Wrong(String::from_str(alloc, misnaming.message())?)),
+        None => Ok(call),
     }
 }
 
@@ -447,15 +551,20 @@ impl From<AllocError> for Usage {
     }
 }
 
-/// Returns what to print for an error of `clap`.
-fn explanation(alloc: Global, error: &Error) -> Usage
-    ensures { IsTold (kind_of error.now) result }
+/// Returns what to print for an error of `clap` in these words.
+fn explanation<S: AsStr>(alloc: Global, words: &[S], error: &Error) -> Usage
+    ensures { IsTold (kind_of error.now) (map S.text words.now) result }
 {
     if error.kind() == ErrorKind::OutOfMemory {
         return Usage::Memory;
     }
     match error.to_string(alloc) {
-        Ok(text) if error.use_stderr() => Usage::Wrong(text),
+        Ok(text) if error.use_stderr() => {
+            match with_tip(alloc, text, tip_due(error.kind(), words)) {
+                Ok(told) => Usage::Wrong(told),
+                Err(_) => Usage::Memory,
+            }
+        }
         Ok(text) => Usage::Help(text),
         Err(_) => Usage::Memory,
     }

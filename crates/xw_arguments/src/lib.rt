@@ -2,5 +2,6 @@
 #![tactic(auto)]
 
 pub mod arguments;
+mod tips;
 
-pub use arguments::{Call, Clash, SessionFiles, Usage};
+pub use arguments::{Call, Clash, Misnaming, SessionFiles, Usage};

@@ -20,7 +20,7 @@ pub record IsCalled {E : Type 0} (transcript : E → List ℕ) (failures : E →
 -- The words ask for help or have a fault, which is explained, and nothing is done.
 pub record IsRefused {O E : Type 0} (transcript : O → List ℕ) (failures : O → ℕ) (closed : Bool) (words : List (List ℕ)) (status : Status) (old new : Streams) (output output' : O) (errors errors' : E) : Type 0 where
   pub usage : Usage
-  pub is_usage : IsUsageOf (shapes.faults_in words) (shapes.subcommand_in words) usage
+  pub is_usage : IsUsageOf (shapes.faults_in words) words (shapes.subcommand_in words) usage
   pub explained : IsExplained transcript failures usage output output' status
   pub silent : IsSilentHelp usage closed errors errors'
   pub unasked : new.asked ≡ old.asked

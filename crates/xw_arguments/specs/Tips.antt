@@ -1,0 +1,83 @@
+-- What to try in place of a word that is no argument.
+use Rattle.std.specs.Prelude.{◌≡◌, ◌++◌, ◌&&◌, ◌||◌, ◌==◌, not, Bool, List, [], ◌∷◌, Option, Some, None, codes, nat_eq, option_map, if◌then◌else◌}
+use Rattle.std.specs.List.{list_any, starts_with, ends_with}
+use Rattle.std.specs.Str.{bytes_eq}
+use Rattle.clap.specs.Words.{Text}
+use Rattle.clap.specs.declared.error.kind.ErrorKind.{ErrorKind}
+use Rattle.clap.specs.declared.error.kind.ErrorKind.TheVariants.{UnknownArgument}
+use Rattle.xw_arguments.specs.declared.tips.Tip.{Tip}
+use Rattle.xw_arguments.specs.declared.tips.Tip.TheVariants as tips
+
+-- ---- the text of each tip
+
+-- an option that is spelled like the word
+abbrev pub option_line : Text → Text
+option_line option = codes "\n\n  tip: a similar argument exists: '" ++ option ++ codes "'\n"
+
+abbrev pub list_line : Text → Text
+list_line file = codes "\n\n  tip: to load it as the word list, use '--dict " ++ file ++ codes "'\n"
+
+abbrev pub puzzle_line : Text → Text
+puzzle_line file = codes "\n\n  tip: to start with this puzzle, use '--from " ++ file ++ codes "'\n"
+
+abbrev pub tip_text : Tip → Text
+tip_text (tips.Option option) = option_line option.now
+tip_text (tips.List file) = list_line file.now
+tip_text (tips.Puzzle file) = puzzle_line file.now
+
+-- ---- which tip a word has
+
+-- the option that a word with a single dash stands for
+abbrev pub option_meant : Text → Option Text
+option_meant word =
+    if bytes_eq word (codes "-dict") then Some (codes "--dict") else
+    if bytes_eq word (codes "-from") then Some (codes "--from") else
+    if bytes_eq word (codes "-resume") then Some (codes "--resume") else
+    if bytes_eq word (codes "-to") then Some (codes "--to") else
+    if bytes_eq word (codes "-save") then Some (codes "--save") else
+    if bytes_eq word (codes "-journal") then Some (codes "--journal") else
+    if bytes_eq word (codes "-sync") then Some (codes "--sync") else
+    if bytes_eq word (codes "-explain") then Some (codes "--explain") else None
+
+-- a word takes the next one as its value if it is an option without `=`, and no flag
+abbrev pub has_value : Text → Bool
+has_value word = starts_with nat_eq word (codes "--") && not (list_any (λ byte. byte == 61) word) && not (bytes_eq word (codes "--sync")) && not (bytes_eq word (codes "--explain"))
+
+abbrev pub is_puz : Text → Bool
+is_puz name = ends_with nat_eq name (codes ".puz")
+
+-- the tip for a file that is given without an option
+abbrev pub file_tip : Text → Text
+file_tip file = if is_puz file then puzzle_line file else list_line file
+
+-- the tip for a word that is an argument, if it is neither an option nor the value of the word before it
+abbrev pub tip_unless : Text → Text → Option Text
+tip_unless previous word = if starts_with nat_eq word (codes "-") || has_value previous then None else Some (file_tip word)
+
+abbrev pub tip_or : Option Text → Option Text → Option Text
+tip_or (Some tip) other = Some tip
+tip_or None other = other
+
+-- the tip for a word of `edit`, if it has one, after the word before it
+abbrev pub tip_at : Text → Text → Option Text
+tip_at previous word = tip_or (option_map option_line (option_meant word)) (tip_unless previous word)
+
+-- the first of these tips
+abbrev pub tip_among : Text → List Text → Option Text
+tip_among previous [] = None
+tip_among previous (word ∷ words) = tip_or (tip_at previous word) (tip_among word words)
+
+-- the tip for the words of a command line, of which the first is the program
+abbrev pub tip_of : List Text → Option Text
+tip_of (program ∷ subcommand ∷ words) = if bytes_eq subcommand (codes "edit") then tip_among subcommand words else None
+tip_of words = None
+
+-- only a word that is no argument has a tip
+abbrev pub tip_due : ErrorKind → List Text → Option Text
+tip_due UnknownArgument words = tip_of words
+tip_due kind words = None
+
+-- the text has the tip that is due
+abbrev pub HasTip : Option Text → Text → Type 0
+HasTip None text = Unit {0}
+HasTip (Some tip) text = (before : Text) × (after : Text) × (text ≡ before ++ tip ++ after)
