@@ -1,20 +1,35 @@
-"""Runs with `--explain`, which prints the location of a fault."""
+"""Runs with `--explain`, which prints the location of a fault and a sentence that says what it means."""
 from samples import CIRCLED, PLAIN, TEXT, WRONG_SUM
-from steps import FAILED, FORMAT, USAGE, run, write
+from steps import FAILED, FORMAT, USAGE, holds, run, write
+
+# The sentences: docs/commands.md, "Where a fault is".
+CUT_OFF = "the file is cut off"
+NO_PUZZLE = "this is no puzzle file"
 
 
-def told(data, fault, location):
+def told(data, fault, location, sentence):
     """Checks the message for a file with a fault, without and with its location."""
     return [
         write("told", data),
         run("check told", errors=f"xw: told: {fault}\n".encode(), status=FORMAT),
-        run("check --explain told", errors=f"xw: told: {fault}\nxw: {location}\n".encode(), status=FORMAT),
+        run("check --explain told", errors=f"xw: told: {fault}\nxw: {location}\nxw: {sentence}\n".encode(), status=FORMAT),
     ]
 
 
-def is_not_written(file, typed, fault, location=None):
+def is_no_command(option, data, line, fault, sentence):
+    """Checks the message for a line of a file that is no command, without and with the sentence. The file stays as it was."""
+    message = f"xw: lines: line {line}: {fault}\n"
+    return [
+        write("lines", data),
+        run(f"edit {option} lines", errors=message.encode(), status=FORMAT),
+        run(f"edit --explain {option} lines", errors=f"{message}xw: {sentence}\n".encode(), status=FORMAT),
+        holds("lines", data),
+    ]
+
+
+def is_not_written(file, typed, fault, sentence, location=None):
     """Runs commands on the plain puzzle, and checks the fault of writing it."""
-    errors = f"xw: {file}: {fault}\n" + (f"xw: {location}\n" if location else "")
+    errors = f"xw: {file}: {fault}\n" + (f"xw: {location}\n" if location else "") + f"xw: {sentence}; nothing was written\n"
     output = b"ok\n" * typed.count(b"\n")
     return [
         write("refused", PLAIN),
@@ -68,30 +83,47 @@ CASES = {
         run("edit --explain --dict a --to a", errors=b"xw: a: the word list cannot be the file to write\n", status=USAGE),
     ],
     # A `.puz` file that is cut off at several offsets.
-    "puz_faults_told, notes": told(PLAIN[:71], "NoNul", "notes"),
-    "puz_faults_told, clue": told(PLAIN[:66], "NoNul", "clue 2 (1 down)"),
-    "puz_faults_told, header": told(PLAIN[:51], "Short", "header"),
-    "puz_faults_told, boards": told(PLAIN[:59], "Short", "boards"),
-    "wrong_sum_told": told(WRONG_SUM, "BadSum", "file checksum"),
+    "puz_faults_told, notes": told(PLAIN[:71], "NoNul", "notes", CUT_OFF),
+    "puz_faults_told, clue": told(PLAIN[:66], "NoNul", "clue 2 (1 down)", CUT_OFF),
+    "puz_faults_told, header": told(PLAIN[:51], "Short", "header", CUT_OFF),
+    "puz_faults_told, boards": told(PLAIN[:59], "Short", "boards", CUT_OFF),
+    "wrong_sum_told": told(WRONG_SUM, "BadSum", "file checksum", "the file is damaged: a checksum is wrong"),
     # The faulty line of a text file, or its end.
-    "text_faults_told, line": told(TEXT[:20], "Tag", "line 2"),
-    "text_faults_told, end": told(b"\n\n", "Header", "end of file"),
-    "text_faults_told, byte": told(b"<ACROSS PUZZLE>\n\n<\0", "NulByte", "line 3"),
+    "text_faults_told, line": told(TEXT[:20], "Tag", "line 2", "another line stands where a tag must come"),
+    "text_faults_told, end": told(b"\n\n", "Header", "end of file", NO_PUZZLE),
+    "text_faults_told, byte": told(b"<ACROSS PUZZLE>\n\n<\0", "NulByte", "line 3", NO_PUZZLE),
     # A cell of a text file is reported by row and column.
     "bad_cell_told": told(
-        b"<ACROSS PUZZLE>\n<TITLE>\n<AUTHOR>\n<COPYRIGHT>\n<SIZE>\n2x2\n<GRID>\nAT\nS?\n", "BadCell", "row 2, column 2"
+        b"<ACROSS PUZZLE>\n<TITLE>\n<AUTHOR>\n<COPYRIGHT>\n<SIZE>\n2x2\n<GRID>\nAT\nS?\n",
+        "BadCell",
+        "row 2, column 2",
+        "a cell is neither a letter nor a block",
     ),
     # Puzzles that the output format cannot hold.
-    "empty_cell_told": is_not_written("empty.puz", b"clear 2 1\nclear 2 2\n", "NotFilled", "row 2, column 1"),
-    "unspelled_clue_told": is_not_written("clue.txt", b"clue 2 down\n", "Field", "clue 3 (2 down)"),
-    "unspelled_title_told": is_not_written("title.txt", b"title <x>\n", "Field", "title"),
+    "empty_cell_told": is_not_written("empty.puz", b"clear 2 1\nclear 2 2\n", "NotFilled", "the grid has empty cells, the first at row 2, column 1", "row 2, column 1"),
+    "unspelled_clue_told": is_not_written("clue.txt", b"clue 2 down\n", "Field", "the file cannot hold one of the texts", "clue 3 (2 down)"),
+    "unspelled_title_told": is_not_written("title.txt", b"title <x>\n", "Field", "the file cannot hold one of the texts", "title"),
+    # Lines that are no commands.
+    "no_journal_told": is_no_command("--journal", PLAIN, 1, "Command", "this is no journal; nothing in it was changed"),
+    "no_list_as_journal_told": is_no_command("--journal", b"cat\ndog\n", 1, "Command", "this is no journal; nothing in it was changed"),
+    "no_session_told": is_no_command("--resume", b"cat\ndog\n", 1, "Command", "this is no journal; nothing in it was changed"),
+    "wrong_line_told": is_no_command("--resume", b"add cat\nadx dog\n", 2, "Command", "no command has this name; nothing in the file was changed"),
+    "wrong_words_told": is_no_command(
+        "--resume", b"add cat\nsize 5\n", 2, "Arguments", "the rest of the line does not fit the command; nothing in the file was changed"
+    ),
+    "long_line_told": is_no_command(
+        "--resume", b"#" * 4097 + b"\n", 1, "LineTooLong", "the line has more than 4,096 bytes; nothing in the file was changed"
+    ),
+    "cut_line_told": is_no_command(
+        "--journal", b"add cat\nadd dog", 2, "Cut", "the last line has no line feed, so this may be no journal; nothing in it was changed"
+    ),
     # The fault of a bar has no location.
-    "barred_told": is_not_written("barred.txt", b"bar 1 1 right\n", "Barred"),
+    "barred_told": is_not_written("barred.txt", b"bar 1 1 right\n", "Barred", "a puzzle file cannot hold bars"),
     "circle_told": [
         write("circled", CIRCLED),
         run(
             "convert circled --explain circled.txt",
-            errors=b"xw: circled.txt: Circled\nxw: row 1, column 1\n",
+            errors=b"xw: circled.txt: Circled\nxw: row 1, column 1\nxw: a text file cannot hold circles; nothing was written\n",
             status=FORMAT,
         ),
     ],

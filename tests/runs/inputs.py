@@ -39,7 +39,7 @@ CASES = {
         run("check -", PLAIN, b"puz 2x2 4 lights\n"),
         run("check -", TEXT, b"text 2x2 4 lights\n"),
         run("check -", b"", errors=b"xw: -: Header\n", status=FORMAT),
-        run("check --explain -", b"x\n", errors=b"xw: -: Header\nxw: line 1\n", status=FORMAT),
+        run("check --explain -", b"x\n", errors=b"xw: -: Header\nxw: line 1\nxw: this is no puzzle file\n", status=FORMAT),
         from_a_pipe("check -", (PLAIN[:1], PLAIN[1:60], PLAIN[60:]), b"puz 2x2 4 lights\n"),
         has_no_input("check -", b"xw: -: cannot read\n"),
     ],

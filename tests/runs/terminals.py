@@ -1,10 +1,10 @@
-"""Messages on a terminal: the only one that is told there and nowhere else is that a long word list is loading."""
+"""Messages on a terminal: a long word list is loading, and failures are explained as with `--explain`."""
 import os
 import pty
 import subprocess
 
 from samples import PLAIN
-from steps import FORMAT, SECONDS, compare, run, write
+from steps import FAILED, FORMAT, SECONDS, absent, compare, holds, run, write
 
 # As many line feeds as a list may have before it is called long.
 MOST = 1000000
@@ -53,9 +53,30 @@ CASES = {
         write("short.txt", b"\n" * MOST + b"cat"),
         tells("edit --dict short.txt", b"xw: short.txt: 1 added, 1000000 skipped\n"),
     ],
+    "a grid with empty cells": [
+        tells(
+            "edit --to mine.puz",
+            b"xw: mine.puz: NotFilled\nxw: row 1, column 1\nxw: the grid has empty cells, the first at row 1, column 1; nothing was written\n",
+            FORMAT,
+        ),
+        absent("mine.puz"),
+    ],
+    "a file that is no puzzle": [
+        write("words.txt", b"cat\n"),
+        tells("check words.txt", b"xw: words.txt: Header\nxw: line 1\nxw: this is no puzzle file\n", FORMAT),
+        tells("check words.txt gone", b"xw: words.txt: Header\nxw: line 1\nxw: this is no puzzle file\nxw: gone: cannot read\nxw: No such file or directory\n", FAILED),
+    ],
+    "a file that is no journal": [
+        write("p.puz", PLAIN),
+        tells("edit --journal p.puz", b"xw: p.puz: line 1: Command\nxw: this is no journal; nothing in it was changed\n", FORMAT),
+        holds("p.puz", PLAIN),
+    ],
+    "a file that cannot be written": [
+        tells("edit --save no/such/folder", b"xw: no/such/folder: cannot write\nxw: No such file or directory\n", FAILED),
+    ],
     "a long list before another fault": [
         *LONG,
         write("bad.puz", PLAIN[:60]),
-        tells("edit --dict long.txt --from bad.puz", b"xw: long.txt: loading\n" + COUNTED + b"xw: bad.puz: NoNul\n", FORMAT),
+        tells("edit --dict long.txt --from bad.puz", b"xw: long.txt: loading\n" + COUNTED + b"xw: bad.puz: NoNul\nxw: title\nxw: the file is cut off\n", FORMAT),
     ],
 }

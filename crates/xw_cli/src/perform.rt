@@ -9,6 +9,7 @@ ghost use Rattle.xw_session.specs.Answer.{Answers};
 ghost use Rattle.xw_session.specs.Opening.{empty_puzzle, opened_on, puzzle_of};
 ghost use Rattle.xw_files.specs.Formats.{IsRead};
 ghost use Rattle.xw_disk.specs.Disk.{read, take_lines};
+ghost use Rattle.xw_arguments.specs.Calls.{explained_if};
 ghost use Rattle.xw_puzzle_files.specs.declared.failure.Failure.TheVariants.{Memory};
 ghost use Rattle.xw_puzzle_files.specs.declared.failure.Status.TheVariants.{Accepted};
 ghost use Rattle.xw_grid.specs.Puzzle.{PuzzleShown};
@@ -35,7 +36,8 @@ use xw_puzzle_files::outlet::{Messages, Outlet};
 use xw_session::{Session, Sink, Source, opening};
 use xw_words::Bank;
 
-/// Executes a call, reports a failure if there is one, and returns the exit status.
+/// Executes a call, reports a failure if there is one, and returns the exit status. On a terminal, failures are
+/// explained.
 pub fn perform<F: Searchable, D: Disk, I: Source, O: Outlet, E: Messages>(
     alloc: Global,
     disk: &mut D,
@@ -44,10 +46,11 @@ pub fn perform<F: Searchable, D: Disk, I: Source, O: Outlet, E: Messages>(
     output: &mut O,
     errors: &mut E,
 ) -> Status
-    ensures { Performs E.transcript E.failures (O.is_closed output.new) call.entry result
+    ensures { Performs E.transcript E.failures (O.is_closed output.new) (explained_if (E.is_terminal errors.old) call.entry) result
         (streams D.log I.transcript I.is_at_end I.failures O.transcript O.failures disk.old input.old output.old)
         (streams D.log I.transcript I.is_at_end I.failures O.transcript O.failures disk.new input.new output.new) errors.new }
 {
+    let call = call.explained_if(errors.is_terminal());
     let explain = call.is_explained();
     match run::<F, D, I, O, E>(alloc, disk, call, input, output, errors) {
         Ok(status) => status,

@@ -64,7 +64,7 @@ pub fn answer_words<F: Searchable, D: Disk, S: AsStr, I: Source, O: Outlet, E: M
     output: &mut O,
     errors: &mut E,
 ) -> Status
-    ensures { AnswersWords E.transcript E.failures O.transcript O.failures O.is_closed (map S.text words.now) result
+    ensures { AnswersWords E.transcript E.failures E.is_terminal O.transcript O.failures O.is_closed (map S.text words.now) result
         (streams D.log I.transcript I.is_at_end I.failures O.transcript O.failures disk.old input.old output.old)
         (streams D.log I.transcript I.is_at_end I.failures O.transcript O.failures disk.new input.new output.new) output.old output.new errors.old errors.new }
 {

@@ -1,5 +1,5 @@
 -- What `check` prints of puzzle files, and how it ends.
-use Rattle.std.specs.Prelude.{◌≡◌, ◌⊎◌, ◌++◌, ◌&&◌, ℕ, Bool, true, false, List, [], ◌∷◌, Result, Ok, Err, codes, decimal, fold, if◌then◌else◌, length, nat_lt}
+use Rattle.std.specs.Prelude.{◌≡◌, ◌⊎◌, ◌++◌, ℕ, Bool, true, false, List, [], ◌∷◌, Result, Ok, Err, codes, decimal, fold, if◌then◌else◌, length, nat_lt}
 use Rattle.xw_grid.specs.Grid.{Grid}
 use Rattle.xw_grid.specs.Light.{lights_of}
 use Rattle.xw_grid.specs.Puzzle.{PuzzleShown}
@@ -12,7 +12,7 @@ use Rattle.xw_puzzle_files.specs.declared.failure.Failure.{Failure}
 use Rattle.xw_puzzle_files.specs.declared.failure.Failure.TheVariants as failures
 use Rattle.xw_puzzle_files.specs.declared.failure.Status.{Status}
 use Rattle.xw_puzzle_files.specs.declared.failure.Status.TheVariants.{Accepted}
-use Rattle.xw_puzzle_files.specs.Explained.{is_of_disk, GoesOut, IsMessage}
+use Rattle.xw_puzzle_files.specs.Explained.{GoesOut, IsMessage}
 use Rattle.xw_puzzle_files.specs.Files.{Asks, IsUnread}
 use Rattle.xw_puzzle_files.specs.Status.{code_of, status_of}
 
@@ -74,7 +74,7 @@ pub record IsToldUnchecked {E : Type 0} (transcript : E → List ℕ) (reports :
   pub unshown : told' ≡ told
   pub status_is : status ≡ status_of failure
   pub message : List ℕ
-  pub is_message : IsMessage (explain && is_of_disk failure) failure message
+  pub is_message : IsMessage explain failure message
   pub before : E
   pub after : E
   pub goes_out : GoesOut transcript reports before after message

@@ -4,6 +4,7 @@ use Rattle.xw_arguments.specs.declared.arguments.Usage.{Usage}
 use Rattle.xw_arguments.specs.declared.arguments.Usage.TheVariants.{Help, Wrong, Memory}
 use Rattle.xw_lines.specs.Device.{HasFailed, flushed}
 use Rattle.xw_puzzle_files.specs.Status.{status_of}
+use Rattle.xw_puzzle_files.specs.Sentences.{sentence_if}
 use Rattle.xw_puzzle_files.specs.Told.{failure_text}
 use Rattle.xw_puzzle_files.specs.declared.failure.Failure.{Failure}
 use Rattle.xw_puzzle_files.specs.declared.failure.Failure.TheVariants as faults
@@ -39,17 +40,21 @@ is_of_disk (faults.CannotWrite file) = true
 is_of_disk (faults.OldUnwritable file) = true
 is_of_disk failure = false
 
--- The message of a failure is its text on a line. If the error of the system is due, a second line may have some
--- reason.
+-- the line with some error of the system, if one is due
+abbrev pub IsReason : Bool → List ℕ → Type 0
+IsReason true line = (line ≡ []) ⊎ ((reason : List ℕ) × (line ≡ codes "xw: " ++ reason ++ codes "\n"))
+IsReason false line = line ≡ []
+
+-- The message of a failure is its text on a line. If `explain` is set, more lines follow: the error of the system after
+-- a fault of the disk, and the sentence for the failure.
 abbrev pub IsMessage : Bool → Failure → List ℕ → Type 0
-IsMessage true failure text = (text ≡ failure_text failure ++ codes "\n") ⊎ ((reason : List ℕ) × (text ≡ failure_text failure ++ codes "\nxw: " ++ reason ++ codes "\n"))
-IsMessage false failure text = text ≡ failure_text failure ++ codes "\n"
+IsMessage explain failure text = (reason : List ℕ) × IsReason (explain && is_of_disk failure) reason × (text ≡ failure_text failure ++ codes "\n" ++ reason ++ sentence_if explain failure)
 
 -- The message of the failure is written, and the status is that of the failure. Or the message could not be allocated,
 -- and this is reported instead, with its status.
 abbrev pub IsTold : {S : Type 0} → (S → List ℕ) → (S → ℕ) → Bool → Failure → S → S → Status → Type 0
-IsTold transcript failures due failure old new status =
-    ((text : List ℕ) × IsMessage due failure text × (status ≡ status_of failure) × GoesOut transcript failures old new text)
+IsTold transcript failures explain failure old new status =
+    ((text : List ℕ) × IsMessage explain failure text × (status ≡ status_of failure) × GoesOut transcript failures old new text)
     ⊎ ((status ≡ Failed) × GoesOut transcript failures old new (codes "xw: memory\n"))
 
 -- a failure has no message if it is one of the output, whose reader is gone
@@ -57,8 +62,7 @@ abbrev pub is_quiet : Failure → Bool → Bool
 is_quiet faults.Output closed = closed
 is_quiet failure closed = false
 
--- A quiet failure has no message; any other has one. The error of the system is due only after a fault of the disk,
--- and only if `explain` is set.
+-- a quiet failure has no message; any other has one
 abbrev pub IsReported : {S : Type 0} → (S → List ℕ) → (S → ℕ) → Bool → Bool → Failure → S → S → Status → Type 0
 IsReported transcript failures true explain failure old new status = (status ≡ Failed) × (new ≡ old)
-IsReported transcript failures false explain failure old new status = IsTold transcript failures (explain && is_of_disk failure) failure old new status
+IsReported transcript failures false explain failure old new status = IsTold transcript failures explain failure old new status

@@ -4,5 +4,6 @@ pub mod Status
 pub mod Told
 pub mod Names
 pub mod Locations
+pub mod Sentences
 pub mod Explained
 pub mod Files

@@ -3,10 +3,11 @@ ghost use Rattle.std.specs.Prelude.{◌≡◌, [], ◌∷◌, ◌++◌, ◌&&◌
 ghost use Rattle.xw_lines.specs.Device.{flushed};
 ghost use Rattle.xw_lines.specs.Sends.{Sends};
 ghost use Rattle.xw_puzzle_files.specs.Status.{status_of};
-ghost use Rattle.xw_puzzle_files.specs.Explained.{is_of_disk, is_quiet, rebus_line, GoesOut, IsExplained, IsMessage, IsReported, IsSilentHelp, IsTold};
+ghost use Rattle.xw_puzzle_files.specs.Explained.{is_of_disk, is_quiet, rebus_line, GoesOut, IsExplained, IsMessage, IsReason, IsReported, IsSilentHelp, IsTold};
 
 use crate::failure::{Failure, Status};
 use crate::outlet::Outlet;
+use crate::sentences::sentence_line;
 use std::alloc::{AllocError, Global};
 use std::io;
 use xw_arguments::Usage;
@@ -76,7 +77,7 @@ fn is_quiet(failure: &Failure<'_>, is_closed: bool) -> bool
 }
 
 /// Reports the failure of a call, and returns the exit status. `is_closed` says whether the reader of the output is
-/// gone. After a fault of the disk the error of the system follows if `explain` is set.
+/// gone. If `explain` is set, more lines follow, as `message` says.
 pub fn report<D: Disk, E: Sink>(
     alloc: Global,
     disk: &D,
@@ -90,22 +91,20 @@ pub fn report<D: Disk, E: Sink>(
     if is_quiet(failure, is_closed) {
         return Status::Failed;
     }
-    let is_due = explain && failure.is_of_disk();
-    tell(alloc, failure, is_due, disk.error(), errors)
+    tell(alloc, failure, explain, disk.error(), errors)
 }
 
-/// Prints the message of a failure, and returns the exit status. If `is_due` is set, an error of the system follows.
-/// If the message cannot be allocated, prints `xw: memory` and returns `Failed`. Write errors are ignored.
+/// Prints the message of a failure, and returns the exit status. If the message cannot be allocated, prints `xw: memory` and returns `Failed`. Write errors are ignored.
 fn tell<E: Sink>(
     alloc: Global,
     failure: &Failure<'_>,
-    is_due: bool,
+    explain: bool,
     error: Option<io::Error>,
     errors: &mut E,
 ) -> Status
-    ensures { IsTold E.transcript E.failures is_due failure.now errors.old errors.new result }
+    ensures { IsTold E.transcript E.failures explain failure.now errors.old errors.new result }
 {
-    match message(alloc, failure, is_due, error) {
+    match message(alloc, failure, explain, error) {
         Ok(text) => {
             let _ = device::write_all(errors, text.as_bytes());
             failure.status()
@@ -126,30 +125,46 @@ pub fn tell_in_turn<'a, D: Disk, E: Sink>(
     explain: bool,
     errors: &mut E,
 ) -> Result<Status, Failure<'a>>
-    ensures ok { IfOk result (λ status. (status ≡ status_of failure.now) × (text : List ℕ) × IsMessage (explain && is_of_disk failure.now) failure.now text × GoesOut E.transcript E.failures errors.old errors.new text) }
+    ensures ok { IfOk result (λ status. (status ≡ status_of failure.now) × (text : List ℕ) × IsMessage explain failure.now text × GoesOut E.transcript E.failures errors.old errors.new text) }
     ensures memory { IsOkUnless result Failure.Memory }
 {
-    let is_due = explain && failure.is_of_disk();
-    let text = message(alloc, failure, is_due, disk.error())?;
+    let text = message(alloc, failure, explain, disk.error())?;
     let _ = device::write_all(errors, text.as_bytes());
     Ok(failure.status())
 }
 
-/// Returns the message of a failure, with the error of the system if `is_due` is set.
+/// Returns the message of a failure. If `explain` is set, more lines follow: the error of the system after a fault of
+/// the disk, and the sentence for the failure.
 fn message(
     alloc: Global,
     failure: &Failure<'_>,
-    is_due: bool,
+    explain: bool,
     error: Option<io::Error>,
 ) -> Result<String, AllocError>
-    ensures { IfOk result (λ text. IsMessage is_due failure.now text.bytes.items) }
+    ensures { IfOk result (λ text. IsMessage explain failure.now text.bytes.items) }
+{
+    let reason = reason_line(alloc, is_reason_due(failure, explain), error)?;
+    let sentence = sentence_line(alloc, failure, explain)?;
+    format!(in alloc; "{failure}\n{reason}{sentence}")
+}
+
+/// Returns whether an error of the system may follow the message of a failure.
+fn is_reason_due(failure: &Failure<'_>, explain: bool) -> bool
+    ensures { result ≡ (explain && is_of_disk failure.now) }
+{
+    explain && failure.is_of_disk()
+}
+
+/// Returns the line with the error of the system, or no bytes if it is not due or there is none.
+fn reason_line(alloc: Global, is_due: bool, error: Option<io::Error>) -> Result<String, AllocError>
+    ensures { IfOk result (λ line. IsReason is_due line.bytes.items) }
 {
     match error {
         Some(error) if is_due => match reason_of(alloc, error)? {
-            Some(reason) => format!(in alloc; "{failure}\nxw: {reason}\n"),
-            None => format!(in alloc; "{failure}\n"),
+            Some(reason) => format!(in alloc; "xw: {reason}\n"),
+            None => Ok(String::new(alloc)),
         },
-        _ => format!(in alloc; "{failure}\n"),
+        _ => Ok(String::new(alloc)),
     }
 }
 

@@ -10,5 +10,6 @@ pub mod files;
 pub mod location;
 pub mod names;
 pub mod outlet;
+mod sentences;
 
 pub use xw_arguments::{SessionFiles, Usage};

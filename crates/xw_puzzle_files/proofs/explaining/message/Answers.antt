@@ -1,6 +1,10 @@
-use Rattle.std.proofs.Common.{append_assoc}
-use Rattle.xw_puzzle_files.proofs.Told.{reasoned}
+use Rattle.std.proofs.Common.{Bool, append_assoc, subst}
+use Rattle.xw_puzzle_files.specs.Explained.{IsReason}
+use Rattle.xw_puzzle_files.proofs.Told.{messaged}
 use Rattle.xw_puzzle_files.proofs.explaining.message.Goals as goal
 
-pub returns-in-Some-2 : goal.returns-in-Some-2
-returns-in-Some-2 c = reasoned (λ text. text.bytes.items) c.format.result c.args.is_due c.args.failure.now c.in-Some-2.reason.bytes.items _ c.if-is_due.true (simp append_assoc) c.format.ensures.ok
+pub returns : goal.returns
+returns c =
+    let reason = c.in_ok-reason.reason.bytes.items in
+    let due = subst (λ (d : Bool). IsReason d reason) c.is_reason_due.ensures c.in_ok-reason.ensures in
+    messaged (λ text. text.bytes.items) c.format.result c.args.explain c.args.failure.now reason c.in_ok-sentence.sentence.bytes.items _ due c.in_ok-sentence.ensures (simp append_assoc) c.format.ensures.ok
