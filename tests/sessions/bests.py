@@ -301,11 +301,91 @@ least 100
 bound 101
 ok
 > best 0
-limit
+filled
+least 100
 bound 101
 ok
 > show
 -
+ok
+@ nothing_left_to_fill: A search that needs no placement is never cut.
+> place 1 across AB
+ok
+> place 3 across CD
+ok
+> best 0
+filled
+least 100
+bound 101
+ok
+> best 0 5 1 across 2 down
+filled
+least 100
+bound 101
+ok
+> fill 0
+filled
+ok
+> autofill 0
+filled
+ok
+> show
+A B
+C D
+ok
+@ nothing_left_in_the_named_light: From 61 on, no word down begins with the B.
+> place 1 across AB
+ok
+> best 0 0 1 across
+filled
+least 60
+bound 61
+ok
+> best 1000 0 1 across
+filled
+least 60
+bound 61
+ok
+> autofill 0 0 1 across
+filled
+ok
+> best 0
+limit
+bound 61
+ok
+> show
+A B
+- -
+ok
+@ nothing_left_after_a_search: The second search goes on with what the first one learned.
+> best 1000
+filled
+least 65
+bound 66
+ok
+> best 0
+filled
+least 100
+bound 101
+ok
+> best 0
+filled
+least 100
+bound 101
+ok
+@ nothing_left_and_a_word_twice
+> place 1 across AB
+ok
+> place 3 across BD
+ok
+> best 0
+nofill
+ok
+> fill 0
+nofill
+ok
+> autofill 0
+nofill
 ok
 @ searches_beside_each_other: Each goes on with its own kind, and none minds the others.
 > best 0

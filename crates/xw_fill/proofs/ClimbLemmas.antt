@@ -1,6 +1,7 @@
 -- The search for the best fill.
-use Rattle.std.proofs.Common.{◌≡◌, ℕ, ◌<◌, ◌≤◌, Bool, true, List, [], Option, Some, sym, ◌∙◌, ap, subst, arith}
-use Rattle.std.specs.Prelude.{replicate}
+use Rattle.std.proofs.Common.{◌≡◌, ℕ, ◌<◌, ◌≤◌, Bool, true, List, [], Option, Some, None, cond, refl, sym, ◌∙◌, ap, subst, arith}
+use Rattle.std.specs.Prelude.{replicate, IfSome, nat_le}
+use Rattle.std.proofs.lemmas.Bool.{le-leb}
 use Rattle.std.proofs.lemmas.List.{get_or-replicate}
 use Rattle.xw_words.specs.Dictionary.{best_grade}
 use Rattle.xw_feas.specs.State.{State}
@@ -12,7 +13,10 @@ use Rattle.xw_fill.specs.NamedFill.{flags, AreFlags, IsFillOf}
 use Rattle.xw_fill.specs.Best.{at_least, IsFillAt, HasNoneAt, IsBound, IsFilledAt, IsBest}
 use Rattle.xw_fill.specs.declared.best.Best.{Best}
 use Rattle.xw_fill.specs.declared.best.Best.TheVariants.{Filled, NoFill, Limit}
-use Rattle.xw_fill.specs.Inner.Climbing.{IsClimbing}
+use Rattle.xw_fill.specs.Inner.Climbing.{IsClimbing, HasClimbed, IsAtLeast, IsTaken, grade_above, next_grade, work_left, best_of}
+use Rattle.xw_fill.specs.declared.allowance.Allowance.{Allowance}
+use Rattle.xw_fill.specs.declared.best.probe.Probe.{Probe}
+use Rattle.xw_fill.specs.declared.best.probe.Probe.TheVariants as probes
 use Rattle.xw_fill.specs.declared.best.climb.Climb.{Climb}
 use Rattle.xw_feas.proofs.BoardLemmas.{length-lights}
 use Rattle.xw_fill.proofs.MarksLemmas.{IsTwin-turned, filled_twin}
@@ -32,8 +36,8 @@ pub filled_at_twin : (named : ℕ → Bool) (before after : State) (grade : ℕ)
 filled_at_twin named before after grade is = subst (IsTwin before) (sym is.holds) (filled_twin before is.entries)
 
 -- a better bound
-pub bounded : {E S : Type 0} (saved : S → State) (climb : Climb E S) (left grade : ℕ) (start : State) → IsClimbing saved climb start → grade ≤ best_grade → HasNoneAt (flags climb.plan.named.items) start grade → IsClimbing saved (record climb { bound = grade; left = left }) start
-bounded saved climb left grade start is within none = record {
+pub bounded : {E S : Type 0} (saved : S → State) (climb : Climb E S) (grade : ℕ) (start : State) → IsClimbing saved climb start → grade ≤ best_grade → HasNoneAt (flags climb.plan.named.items) start grade → IsClimbing saved (record climb { bound = grade }) start
+bounded saved climb grade start is within none = record {
   plan = is.plan;
   fresh = is.fresh;
   least = is.least;
@@ -41,18 +45,6 @@ bounded saved climb left grade start is within none = record {
   best = is.best;
   found = is.found;
   bound = record { within = omega (arith, within); none = λ below. none };
-}
-
--- another number of placements that are left
-pub with_left : {E S : Type 0} (saved : S → State) (climb : Climb E S) (left : ℕ) (start : State) → IsClimbing saved climb start → IsClimbing saved (record climb { left = left }) start
-with_left saved climb left start is = record {
-  plan = is.plan;
-  fresh = is.fresh;
-  least = is.least;
-  began = is.began;
-  best = is.best;
-  found = is.found;
-  bound = is.bound;
 }
 
 -- another fill
@@ -67,6 +59,81 @@ found_more saved climb start_now best_now grade start filled is fill start_is be
   found = subst (λ s. IsFilledAt (flags climb.plan.named.items) start s grade) (sym best_is) fill;
   bound = is.bound;
 }
+
+-- ---- what a step keeps
+
+-- a step that found nothing
+pub climbed_same : {E S : Type 0} (saved : S → State) (climb : Climb E S) (from to : Allowance) → from.made ≤ to.made → to.limit ≡ from.limit → HasClimbed saved climb climb from to
+climbed_same saved climb from to made limit = record {
+  plan = refl;
+  least = refl;
+  found = omega arith;
+  bound = omega arith;
+  made = made;
+  limit = limit;
+  idle = λ none was. was;
+}
+
+-- a step that found a better bound
+pub climbed_bound : {E S : Type 0} (saved : S → State) (climb : Climb E S) (grade : ℕ) (from to : Allowance) → grade < climb.bound → from.made ≤ to.made → to.limit ≡ from.limit → HasClimbed saved climb (record climb { bound = grade }) from to
+climbed_bound saved climb grade from to below made limit = record {
+  plan = refl;
+  least = refl;
+  found = omega arith;
+  bound = omega (arith, below);
+  made = made;
+  limit = limit;
+  idle = λ none was. was;
+}
+
+-- a step that found a better fill
+pub climbed_found : {E S : Type 0} (saved : S → State) (before now : Climb E S) (grade : ℕ) (from to : Allowance) → now.plan ≡ before.plan → now.least ≡ before.least → now.bound ≡ before.bound → now.found ≡ Some grade → next_grade before ≤ grade
+    → from.made ≤ to.made → to.limit ≡ from.limit → (to.made ≡ from.made → saved now.best ≡ saved now.start) → HasClimbed saved before now from to
+climbed_found saved before now grade from to plan least bound found better made limit idle = record {
+  plan = plan;
+  least = least;
+  found = omega (arith, better, ap (λ f. grade_above f now.least) found);
+  bound = omega (arith, bound);
+  made = made;
+  limit = limit;
+  idle = λ none was. subst (λ f. IfSome f (λ n. saved now.best ≡ saved now.start)) (sym found) (idle none);
+}
+
+-- one step after another
+pub climbed-then : {E S : Type 0} (saved : S → State) (before between now : Climb E S) (from through to : Allowance) → HasClimbed saved before between from through → HasClimbed saved between now through to → HasClimbed saved before now from to
+climbed-then saved before between now from through to first next = record {
+  plan = next.plan ∙ first.plan;
+  least = next.least ∙ first.least;
+  found = omega (arith, first.found, next.found);
+  bound = omega (arith, first.bound, next.bound);
+  made = omega (arith, first.made, next.made);
+  limit = next.limit ∙ first.limit;
+  idle = λ none was. next.idle (omega (arith, first.made, next.made, none)) (first.idle (omega (arith, first.made, next.made, none)) was);
+}
+
+-- ---- how much is left
+
+-- no step leaves more to do
+pub work_kept : {E S : Type 0} (saved : S → State) (before now : Climb E S) (from to : Allowance) → HasClimbed saved before now from to → work_left now to ≤ work_left before from
+work_kept saved before now from to climbed = omega (arith, climbed.found, climbed.bound, climbed.made, climbed.limit)
+
+-- a step that may make a placement leaves less to do
+pub work_done : {E S : Type 0} (saved : S → State) (before now : Climb E S) (from to : Allowance) (grade : ℕ) (probe : Probe) → HasClimbed saved before now from to → next_grade before ≤ grade → grade < before.bound → from.made < to.until → IsAtLeast grade probe → IsTaken grade before now to probe
+    → work_left now to < work_left before from
+work_done saved before now from to grade (probes.Filled least) climbed new below share above taken =
+    omega (arith, climbed.made, climbed.limit, new, below, above.0, taken.1, ap (λ f. grade_above f now.least) taken.0)
+work_done saved before now from to grade probes.NoFill climbed new below share above taken =
+    omega (arith, climbed.made, climbed.limit, climbed.found, new, below, taken.1)
+work_done saved before now from to grade probes.Limit climbed new below share above taken =
+    omega (arith, climbed.limit, climbed.found, climbed.bound, taken.2, share, to.within, to.shared)
+
+-- a search that can find no better fill answers no Limit
+pub no_limit : (found : Option ℕ) (least bound told : ℕ) → bound ≤ grade_above found least → best_of found least bound ≡ Limit told → ⊥
+no_limit (Some grade) least bound told over is = cc
+no_limit None least bound told over is =
+    let below : nat_le bound least ≡ true = le-leb bound least over in
+    let e : NoFill ≡ Limit told = sym (ap (λ b. cond b NoFill (Limit bound)) below) ∙ is in
+    cc
 
 -- ---- the named lights
 

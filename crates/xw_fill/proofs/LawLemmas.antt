@@ -3,14 +3,17 @@
 use Rattle.std.proofs.Common.{◌≡◌, ℕ, zero, suc, ◌+◌, ◌-◌, ◌<◌, ◌≤◌, Bool, true, false, cond, not, ◌&&◌, List, [], ◌∷◌, length, Option, Some, None, refl, sym, ◌∙◌, ap, subst, arith, inl, inr}
 use Rattle.std.specs.Prelude.{nat_lt}
 use Rattle.std.specs.List.{list_any}
-use Rattle.std.proofs.lemmas.Bool.{cases_eq, true≢false, ltb-true, ltb-false}
+use Rattle.std.proofs.lemmas.Bool.{cases_eq, true≢false, false≢true, ltb-true, ltb-false}
 use Rattle.xw_feas.specs.State.{State}
-use Rattle.xw_fill.specs.Position.{Position, position_of, placed}
+use Rattle.xw_fill.specs.Position.{Position, position_of, placed, filled_in}
+use Rattle.xw_fill.specs.Filling.{IsFilling}
+use Rattle.xw_fill.specs.declared.search.Filling.{Filling}
 use Rattle.xw_fill.specs.declared.search.Filling.TheVariants.{Filled, NoFill, Limit}
 use Rattle.xw_fill.proofs.Shaped.{IsShaped}
 use Rattle.xw_fill.specs.FeasibleWords.{feasible_words}
-use Rattle.xw_fill.specs.Search.{light_count, is_entered, is_dead, with_fewer, chosen_below, chosen, found_by, found_in, due_of, due_by, due_in, end_of, end_by, end_in, unentered_count, found, due}
+use Rattle.xw_fill.specs.Search.{light_count, is_entered, is_dead, with_fewer, chosen_below, chosen, found_by, found_in, due_of, due_by, due_in, end_of, end_by, end_in, unentered_count, found, due, end}
 use Rattle.xw_fill.specs.Laws.{IsSearched, IsChoice, AnswerIsOne, EndIsOne}
+use Rattle.xw_fill.proofs.StateLemmas.{DiffersInEntries-itself}
 use Rattle.xw_fill.proofs.BelowLemmas.{Among}
 use Rattle.xw_fill.proofs.SearchLemmas.{chosen-Some, chosen-counted, chosen_below-None, open_feasible, placed-laid, placed-fewer}
 
@@ -213,3 +216,24 @@ pub end_is_one : EndIsOne
 end_is_one limit before now other_now Filled a b = a.2 ∙ sym b.2
 end_is_one limit before now other_now NoFill a b = a.2 ∙ sym b.2
 end_is_one limit before now other_now Limit a b = a.1 ∙ sym b.1
+
+-- ---- a search without a placement
+
+words_idle : (found : List ℕ → Bool) (due : List ℕ → ℕ) (words : List (List ℕ)) → list_any found words ≡ true → due_of found due words ≡ 0 → ⊥
+words_idle found due [] some none = false≢true some
+words_idle found due (word ∷ words) some none = omega (arith, none)
+
+choice_idle : (position : Position) (dead : Bool) (choice : Option ℕ) → (not dead && found_by found position choice) ≡ true → cond dead 0 (due_by found due position choice) ≡ 0 → end_by found end position choice ≡ position
+choice_idle position true choice some none = absurd (false≢true some)
+choice_idle position false None some none = refl
+choice_idle position false (Some light) some none = absurd (words_idle (λ word. found (placed position light word)) (λ word. due (placed position light word)) (feasible_words position light) some none)
+
+-- a search that may make no placement leaves the state as it was
+pub filling_idle : (limit : ℕ) (before after : State) (filling : Filling) → IsShaped (position_of before).board → limit ≡ 0 → IsFilling limit before after filling → after ≡ before
+filling_idle limit before after Filled shaped none is =
+    let position = position_of before in
+    let searched = search_is position shaped in
+    let ends = searched.end_is ∙ choice_idle position (is_dead position) (chosen position) (sym searched.found_is ∙ is.1) (sym searched.due_is ∙ omega (arith, is.0, none)) in
+    is.2 ∙ ap (λ (p : Position). filled_in before p.board.entries) ends ∙ sym (DiffersInEntries-itself before)
+filling_idle limit before after NoFill shaped none is = is.2
+filling_idle limit before after Limit shaped none is = is.1

@@ -25,6 +25,7 @@ pub mod PlanLemmas
 pub mod CheckLemmas
 pub mod LetterLemmas
 pub mod LetterSearch
+pub mod AllowanceLemmas
 pub mod Naming
 pub mod NamedFills
 pub mod TryingLemmas

@@ -1,4 +1,5 @@
 pub mod Position
+pub mod Allowance
 pub mod Below
 pub mod FeasibleWords
 pub mod FeasibleLetters

@@ -1,13 +1,17 @@
 //! Searches for the best fill of the named lights: the one whose worst new word has the greatest grade.
 mod climb;
 mod grades;
+mod pace;
 mod probe;
 
-ghost use Rattle.std.specs.Prelude.{◌≡◌, replicate, true, OnErr, IfOk, IfErr};
+ghost use Rattle.std.specs.Prelude.{◌≡◌, ℕ, replicate, true, OnErr, IfOk, IfErr};
 ghost use Rattle.xw_fill.specs.NamedFill.{flags, is_named, AreFlags, IsRefusal};
+ghost use Rattle.xw_fill.specs.Allowance.{IsCounted};
 ghost use Rattle.xw_fill.specs.Best.{IsBest};
 
-use crate::best::climb::{Climb, Pace};
+use crate::allowance::Allowance;
+use crate::best::climb::Climb;
+use crate::best::pace::Pace;
 use crate::named_lights::plan::Plan;
 use crate::named_lights::run::Effort;
 use crate::named_lights::{all_lights, flags_of};
@@ -113,16 +117,18 @@ fn best_flagged<E: Searchable>(
     alloc: Global,
     engine: &mut E,
     named: Vec<bool>,
-    limit: u64,
     effort: &mut Effort,
     pace: &mut Pace,
+    allowance: &mut Allowance,
 ) -> Result<Best, AllocError>
+    ensures counted { IsCounted allowance.old allowance.new (E.state engine.old) (E.state engine.new) }
+    ensures limit { (bound : ℕ) → result ≡ Ok (Best.Limit bound) → allowance.new.made ≡ allowance.new.limit }
     ensures ok { IfOk result (IsBest (flags named.items) (E.state engine.old) (E.state engine.new)) }
     ensures unchanged { OnErr result (E.state engine.new ≡ E.state engine.old) }
 {
     let plan = Plan::of(alloc, engine, named)?;
-    let mut climb = Climb::new(alloc, engine, plan, limit)?;
-    climb.run(alloc, engine, effort, pace)?;
+    let mut climb = Climb::new(alloc, engine, plan)?;
+    climb.run(alloc, engine, effort, pace, allowance)?;
     Ok(climb.finish(engine))
 }
 
@@ -131,9 +137,11 @@ fn best_named<E: Searchable>(
     alloc: Global,
     engine: &mut E,
     names: &[LightName],
-    limit: u64,
     hint: &mut BestHint,
+    allowance: &mut Allowance,
 ) -> Result<Best, Refusal>
+    ensures counted { IsCounted allowance.old allowance.new (E.state engine.old) (E.state engine.new) }
+    ensures limit { (bound : ℕ) → result ≡ Ok (Best.Limit bound) → allowance.new.made ≡ allowance.new.limit }
     ensures ok { IfOk result (IsBest (is_named (E.state engine.old) names.now) (E.state engine.old) (E.state engine.new)) }
     ensures refused { IfErr result (IsRefusal (E.state engine.old) names.now) }
     ensures unchanged { OnErr result (E.state engine.new ≡ E.state engine.old) }
@@ -143,9 +151,9 @@ fn best_named<E: Searchable>(
         alloc,
         engine,
         named,
-        limit,
         &mut hint.effort,
         &mut hint.pace,
+        allowance,
     )?)
 }
 
@@ -162,10 +170,11 @@ fn hint_of<'a, E: Feasible>(
     }
 }
 
-/// Fills the named lights, or all lights if the list of names is empty, with a fill whose worst new word has the best
-/// grade that a search with at most `limit` placements of letters finds. It tries no word below the least grade of
-/// active words, and leaves that grade as it was. The seed decides the order of ties. The state changes only for
-/// `Filled`.
+/// Fills the named lights, or all lights if the list of names is empty, with the fill whose worst new word has the best
+/// grade among all that a search finds. It tries no word below the least grade of active words, and leaves that grade
+/// as it was. The seed decides the order of ties. The state changes only for `Filled`.
+///
+/// The search makes no more placements of letters than it may, and all of them before it answers `Limit`.
 ///
 /// A bound is proved, and it holds for all greater grades too (`grade_law`). So if it is one more than `least`, no
 /// fill is better. A search without any placement still finds a bound.
@@ -173,7 +182,7 @@ fn hint_of<'a, E: Feasible>(
 /// A search leaves a hint, unless there is no fill. The next search with the same names and seed continues from it if
 /// it begins with the same entries, but proves its bound anew. So a search can continue after a fill once the letters
 /// of the fill are removed. The least grade may change in between. Pass `None`, or the hint of a search over the same
-/// words and lights: the answer depends on the state, the names, the limit, the seed and the hint alone. An error
+/// words and lights: the answer depends on the state, the names, the allowance, the seed and the hint alone. An error
 /// leaves the hint as it was.
 ///
 /// Returns `NoLight` if one of the names belongs to no light, and `Memory` if an allocation fails.
@@ -181,23 +190,25 @@ pub fn best_fill<E: Searchable>(
     alloc: Global,
     engine: &mut E,
     names: &[LightName],
-    limit: u64,
+    allowance: &mut Allowance,
     seed: u64,
     hint: &mut Option<BestHint>,
 ) -> Result<Best, Refusal>
+    ensures counted { IsCounted allowance.old allowance.new (E.state engine.old) (E.state engine.new) }
+    ensures limit { (bound : ℕ) → result ≡ Ok (Best.Limit bound) → allowance.new.made ≡ allowance.new.limit }
     ensures ok { IfOk result (IsBest (is_named (E.state engine.old) names.now) (E.state engine.old) (E.state engine.new)) }
     ensures refused { IfErr result (IsRefusal (E.state engine.old) names.now) }
     ensures unchanged { OnErr result (E.state engine.new ≡ E.state engine.old) }
 {
     if let Some(begun) = hint_of(hint, engine, names, seed) {
-        let best = best_named(alloc, engine, names, limit, begun)?;
+        let best = best_named(alloc, engine, names, begun, allowance)?;
         if best == Best::NoFill {
             *hint = None;
         }
         return Ok(best);
     }
     let mut begun = BestHint::new(alloc, engine, names, seed)?;
-    let best = best_named(alloc, engine, names, limit, &mut begun)?;
+    let best = best_named(alloc, engine, names, &mut begun, allowance)?;
     *hint = if best == Best::NoFill {
         None
     } else {

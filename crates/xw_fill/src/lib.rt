@@ -2,6 +2,7 @@
 //! it finds. Works over any engine that implements `Feasible`; filling needs one that implements `Searchable`.
 #![tactic(auto)]
 
+pub mod allowance;
 pub mod best;
 pub mod choices;
 pub mod laws;
@@ -17,6 +18,7 @@ mod stack;
 pub mod suggesting;
 mod tries;
 
+pub use allowance::Allowance;
 pub use best::{Best, BestHint, best_fill};
 pub use choices::{fewest_after, fewest_words};
 pub use listing::{Duplicate, duplicates, unlisted};

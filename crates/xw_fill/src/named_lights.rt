@@ -5,13 +5,16 @@ mod frame;
 pub(crate) mod plan;
 pub(crate) mod run;
 
-ghost use Rattle.std.specs.Prelude.{◌≡◌, ◌≤◌, ℕ, length, replicate, true, false, IfOk, IfErr, OnOk, OnErr, ◌<◌};
+ghost use Rattle.std.specs.Prelude.{◌≡◌, ◌≤◌, ◌-◌, ℕ, length, replicate, true, false, IfOk, IfErr, OnOk, OnErr, ◌<◌};
+ghost use Rattle.xw_fill.specs.Allowance.{IsCounted};
+ghost use Rattle.xw_fill.specs.Filling.{IsFilling};
 ghost use Rattle.xw_fill.specs.OfState.{light_count};
 ghost use Rattle.xw_fill.specs.Inner.OfState.{IsPlan, IsOpen};
 ghost use Rattle.xw_fill.specs.Inner.Stack.{IsReady};
 ghost use Rattle.xw_fill.specs.NamedFill.{flags, is_named, AreFlags, IsAutofilled, IsNoLight, IsRefusal, AreFlagged};
 ghost use Rattle.xw_fill.specs.Inner.Progress.{entries_of, HasEntered};
 
+use crate::allowance::Allowance;
 use crate::named_lights::checks::first_dead;
 use crate::named_lights::frame::Frame;
 use crate::named_lights::plan::Plan;
@@ -67,17 +70,21 @@ fn run_again<E: Searchable>(
     stack: &mut Stack<E, Frame>,
     plan: &Plan,
     effort: &mut Effort,
+    allowance: &mut Allowance,
 ) -> Result<Filling, AllocError>
     requires plan { IsPlan (E.state engine.old) plan.now }
     requires open { IsOpen (flags plan.now.named.items) (E.state engine.old) (entries_of (E.state engine.old)) }
     requires ready { IsReady E.saved stack.old (E.state engine.old) }
+    ensures counted { IsCounted allowance.old allowance.new (E.state engine.old) (E.state engine.new) }
+    ensures until { allowance.new.until ≡ allowance.old.until }
+    ensures limit { result ≡ Ok Filling.Limit → allowance.new.made ≡ allowance.new.until }
     ensures ok { IfOk result (IsAutofilled (flags plan.now.named.items) (E.state engine.old) (E.state engine.new)) }
     ensures entered { IfOk result (HasEntered (flags plan.now.named.items) (E.state engine.old) (E.state engine.new)) }
     ensures unchanged { OnErr result (E.state engine.new ≡ E.state engine.old) }
 {
     loop {
         let cut = effort.cut;
-        match run(engine, stack, plan, effort, cut) {
+        match run(engine, stack, plan, effort, cut, allowance) {
             Ending::Filled => return Ok(Filling::Filled),
             Ending::NoFill => return Ok(Filling::NoFill),
             Ending::Limit => return Ok(Filling::Limit),
@@ -90,15 +97,18 @@ fn run_again<E: Searchable>(
     }
 }
 
-/// Fills the lights of a plan, with at most `limit` placements of letters. The state changes only for `Filled`.
+/// Fills the lights of a plan by letters. The state changes only for `Filled`.
 pub(crate) fn fill_planned<E: Searchable>(
     alloc: Global,
     engine: &mut E,
     plan: &Plan,
-    limit: u64,
     effort: &mut Effort,
+    allowance: &mut Allowance,
 ) -> Result<Filling, AllocError>
     requires plan { IsPlan (E.state engine.old) plan.now }
+    ensures counted { IsCounted allowance.old allowance.new (E.state engine.old) (E.state engine.new) }
+    ensures until { allowance.new.until ≡ allowance.old.until }
+    ensures limit { result ≡ Ok Filling.Limit → allowance.new.made ≡ allowance.new.until }
     ensures ok { IfOk result (IsAutofilled (flags plan.now.named.items) (E.state engine.old) (E.state engine.new)) }
     ensures entered { IfOk result (HasEntered (flags plan.now.named.items) (E.state engine.old) (E.state engine.new)) }
     ensures unchanged { OnErr result (E.state engine.new ≡ E.state engine.old) }
@@ -112,8 +122,7 @@ pub(crate) fn fill_planned<E: Searchable>(
     }
     let cells = plan.targets.len();
     let mut stack = Stack::new(alloc, engine, cells, MARKS.min(cells))?;
-    effort.left = limit;
-    run_again(engine, &mut stack, plan, effort)
+    run_again(engine, &mut stack, plan, effort, allowance)
 }
 
 /// Fills the lights with a flag.
@@ -121,14 +130,16 @@ fn fill_flagged<E: Searchable>(
     alloc: Global,
     engine: &mut E,
     named: Vec<bool>,
-    limit: u64,
     effort: &mut Effort,
+    allowance: &mut Allowance,
 ) -> Result<Filling, AllocError>
+    ensures counted { IsCounted allowance.old allowance.new (E.state engine.old) (E.state engine.new) }
+    ensures limit { result ≡ Ok Filling.Limit → allowance.new.made ≡ allowance.old.until }
     ensures ok { IfOk result (IsAutofilled (flags named.items) (E.state engine.old) (E.state engine.new)) }
     ensures unchanged { OnErr result (E.state engine.new ≡ E.state engine.old) }
 {
     let plan = Plan::of(alloc, engine, named)?;
-    fill_planned(alloc, engine, &plan, limit, effort)
+    fill_planned(alloc, engine, &plan, effort, allowance)
 }
 
 /// Sets the flag of each named light. Returns `NoLight` if one of the names belongs to no light.
@@ -190,37 +201,61 @@ fn first_share(limit: u64, effort: &Effort) -> u64
 fn all_by_letters<E: Searchable>(
     alloc: Global,
     engine: &mut E,
-    limit: u64,
     effort: &mut Effort,
+    allowance: &mut Allowance,
 ) -> Result<Filling, AllocError>
+    ensures counted { IsCounted allowance.old allowance.new (E.state engine.old) (E.state engine.new) }
+    ensures limit { result ≡ Ok Filling.Limit → allowance.new.made ≡ allowance.old.limit }
     ensures ok { IfOk result (IsAutofilled (λ light. true) (E.state engine.old) (E.state engine.new)) }
     ensures unchanged { OnErr result (E.state engine.new ≡ E.state engine.old) }
 {
     let named = all_lights(alloc, engine)?;
-    fill_flagged(alloc, engine, named, limit, effort)
+    allowance.grant_all();
+    fill_flagged(alloc, engine, named, effort, allowance)
+}
+
+/// Fills all lights by the search of `fill`. All placements that it may make count as made.
+fn fill_by_words<E: Searchable>(
+    alloc: Global,
+    engine: &mut E,
+    allowance: &mut Allowance,
+) -> Result<Filling, Refusal>
+    ensures counted { IsCounted allowance.old allowance.new (E.state engine.old) (E.state engine.new) }
+    ensures until { allowance.new.until ≡ allowance.old.until }
+    ensures made { OnOk result (allowance.new.made ≡ allowance.new.until) }
+    ensures found { IfOk result (IsFilling (allowance.old.until - allowance.old.made) (E.state engine.old) (E.state engine.new)) }
+    ensures ok { IfOk result (IsAutofilled (λ light. true) (E.state engine.old) (E.state engine.new)) }
+    ensures memory { IfErr result (λ refusal. refusal ≡ Refusal.Grid GridFault.Memory) }
+    ensures unchanged { OnErr result (E.state engine.new ≡ E.state engine.old) }
+{
+    let filling = fill(alloc, engine, allowance.share())?;
+    allowance.count_all();
+    Ok(filling)
 }
 
 /// Fills all lights: first by the search of `fill`, then by letters.
 fn fill_all<E: Searchable>(
     alloc: Global,
     engine: &mut E,
-    limit: u64,
     effort: &mut Effort,
+    allowance: &mut Allowance,
 ) -> Result<Filling, Refusal>
+    ensures counted { IsCounted allowance.old allowance.new (E.state engine.old) (E.state engine.new) }
+    ensures limit { result ≡ Ok Filling.Limit → allowance.new.made ≡ allowance.old.limit }
     ensures ok { IfOk result (IsAutofilled (λ light. true) (E.state engine.old) (E.state engine.new)) }
     ensures memory { IfErr result (λ refusal. refusal ≡ Refusal.Grid GridFault.Memory) }
     ensures unchanged { OnErr result (E.state engine.new ≡ E.state engine.old) }
 {
-    let first = first_share(limit, effort);
-    match fill(alloc, engine, first)? {
+    allowance.grant(first_share(allowance.left(), effort));
+    match fill_by_words(alloc, engine, allowance)? {
         Filling::Filled => return Ok(Filling::Filled),
         Filling::NoFill => return Ok(Filling::NoFill),
         Filling::Limit => {}
     }
-    if first == limit {
+    if allowance.left() == 0 {
         return Ok(Filling::Limit);
     }
-    Ok(all_by_letters(alloc, engine, limit - first, effort)?)
+    Ok(all_by_letters(alloc, engine, effort, allowance)?)
 }
 
 /// Fills the named lights, or all lights if the list of names is empty. A search that continues an earlier one tries
@@ -229,23 +264,26 @@ fn fill_named<E: Searchable>(
     alloc: Global,
     engine: &mut E,
     names: &[LightName],
-    limit: u64,
     effort: &mut Effort,
     goes_on: bool,
+    allowance: &mut Allowance,
 ) -> Result<Filling, Refusal>
+    ensures counted { IsCounted allowance.old allowance.new (E.state engine.old) (E.state engine.new) }
+    ensures limit { result ≡ Ok Filling.Limit → allowance.new.made ≡ allowance.old.limit }
     ensures ok { IfOk result (IsAutofilled (is_named (E.state engine.old) names.now) (E.state engine.old) (E.state engine.new)) }
     ensures refused { IfErr result (IsRefusal (E.state engine.old) names.now) }
     ensures unchanged { OnErr result (E.state engine.new ≡ E.state engine.old) }
 {
     if names.is_empty() {
         return Ok(if goes_on {
-            all_by_letters(alloc, engine, limit, effort)?
+            all_by_letters(alloc, engine, effort, allowance)?
         } else {
-            fill_all(alloc, engine, limit, effort)?
+            fill_all(alloc, engine, effort, allowance)?
         });
     }
     let named = flags_of(alloc, engine, names)?;
-    Ok(fill_flagged(alloc, engine, named, limit, effort)?)
+    allowance.grant_all();
+    Ok(fill_flagged(alloc, engine, named, effort, allowance)?)
 }
 
 /// The effort of a hint if it is from a search with these lights and this seed.
@@ -260,37 +298,40 @@ fn effort_of<'a>(
     }
 }
 
-/// Fills the named lights, or all lights if the list of names is empty, with at most `limit` placements of words or
-/// letters. The seed decides the order of ties, so another seed leads to another fill. The state changes only for
-/// `Filled`.
+/// Fills the named lights, or all lights if the list of names is empty. The seed decides the order of ties, so another
+/// seed leads to another fill. The state changes only for `Filled`.
+///
+/// The search makes no more placements of words or letters than it may, and all of them before it answers `Limit`.
 ///
 /// A search that ends with `Limit` leaves a hint: which lights fail, and how long runs are. The next search with the
 /// same names and seed continues with it, from the grid as it stands. So slices that get longer come about as far as a
 /// single search. Pass `None`, or the hint of a search from the same state: the answer
-/// depends on the state, the names, the limit, the seed and the hint alone. An error leaves the hint as it was.
+/// depends on the state, the names, the allowance, the seed and the hint alone. An error leaves the hint as it was.
 ///
 /// Returns `NoLight` if one of the names belongs to no light, and `Memory` if an allocation fails.
 pub fn autofill<E: Searchable>(
     alloc: Global,
     engine: &mut E,
     names: &[LightName],
-    limit: u64,
+    allowance: &mut Allowance,
     seed: u64,
     hint: &mut Option<Hint>,
 ) -> Result<Filling, Refusal>
+    ensures counted { IsCounted allowance.old allowance.new (E.state engine.old) (E.state engine.new) }
+    ensures limit { result ≡ Ok Filling.Limit → allowance.new.made ≡ allowance.new.limit }
     ensures ok { IfOk result (IsAutofilled (is_named (E.state engine.old) names.now) (E.state engine.old) (E.state engine.new)) }
     ensures refused { IfErr result (IsRefusal (E.state engine.old) names.now) }
     ensures unchanged { OnErr result (E.state engine.new ≡ E.state engine.old) }
 {
     if let Some(effort) = effort_of(hint, names, seed) {
-        let filling = fill_named(alloc, engine, names, limit, effort, true)?;
+        let filling = fill_named(alloc, engine, names, effort, true, allowance)?;
         if filling != Filling::Limit {
             *hint = None;
         }
         return Ok(filling);
     }
     let mut begun = Hint::new(alloc, engine, names, seed)?;
-    let filling = fill_named(alloc, engine, names, limit, &mut begun.effort, false)?;
+    let filling = fill_named(alloc, engine, names, &mut begun.effort, false, allowance)?;
     *hint = if filling == Filling::Limit {
         Some(begun)
     } else {

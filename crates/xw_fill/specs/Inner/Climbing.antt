@@ -1,5 +1,5 @@
 -- What a search for the best fill has found so far.
-use Rattle.std.specs.Prelude.{◌≡◌, ℕ, ◌<◌, ◌≤◌, not, Bool, true, List, length, IfSome}
+use Rattle.std.specs.Prelude.{◌≡◌, ℕ, suc, ◌+◌, ◌-◌, ◌<◌, ◌≤◌, nat_le, not, Bool, true, cond, List, length, Option, Some, None, IfSome}
 use Rattle.xw_words.specs.Dictionary.{best_grade, with_least}
 use Rattle.xw_feas.specs.State.{State}
 use Rattle.xw_feas.specs.Snapshot.{IsTwin}
@@ -9,6 +9,9 @@ use Rattle.xw_fill.specs.Fill.{IsActive}
 use Rattle.xw_fill.specs.NamedFill.{flags}
 use Rattle.xw_fill.specs.Best.{at_least, HasNoneAt, IsBound, IsFilledAt}
 use Rattle.xw_fill.specs.Inner.Progress.{IsDead, AreAlive, IsPlan}
+use Rattle.xw_fill.specs.declared.allowance.Allowance.{Allowance}
+use Rattle.xw_fill.specs.declared.best.Best.{Best}
+use Rattle.xw_fill.specs.declared.best.Best.TheVariants as bests
 use Rattle.xw_fill.specs.declared.best.climb.Climb.{Climb}
 use Rattle.xw_fill.specs.declared.best.probe.Probe.{Probe}
 use Rattle.xw_fill.specs.declared.best.probe.Probe.TheVariants.{Filled, NoFill, Limit}
@@ -59,3 +62,43 @@ pub record IsClimbing {E S : Type 0} (saved : S → State) (climb : Climb E S) (
   pub best : IsTwin (saved climb.best) start
   pub found : IfSome climb.found (IsFilledAt (flags climb.plan.named.items) start (saved climb.best))
   pub bound : IsBound (flags climb.plan.named.items) start climb.bound
+
+-- the least grade at which a fill would be new, after one of this grade was found, or none
+abbrev pub grade_above : Option ℕ → ℕ → ℕ
+grade_above None least = least
+grade_above (Some grade) least = suc grade
+
+abbrev pub next_grade : {E S : Type 0} → Climb E S → ℕ
+next_grade climb = grade_above climb.found climb.least
+
+-- if a fill was found, it has the entries of the start
+abbrev pub IsIdle : {E S : Type 0} → (S → State) → Climb E S → Type 0
+IsIdle saved climb = IfSome climb.found (λ grade. saved climb.best ≡ saved climb.start)
+
+-- What every step of a search for the best fill keeps, whichever grades it tries: the fill that it holds gets better or
+-- stays, and so does its bound. It takes no placement back and keeps their limit. A fill that it found without a
+-- placement has the entries of the start.
+pub record HasClimbed {E S : Type 0} (saved : S → State) (before now : Climb E S) (from to : Allowance) : Type 0 where
+  pub plan : now.plan ≡ before.plan
+  pub least : now.least ≡ before.least
+  pub found : next_grade before ≤ next_grade now
+  pub bound : now.bound ≤ before.bound
+  pub made : from.made ≤ to.made
+  pub limit : to.limit ≡ from.limit
+  pub idle : to.made ≡ from.made → IsIdle saved before → IsIdle saved now
+
+-- What a search keeps of a probe: a fill, which is better than the one before; or a bound; or nothing, and then the
+-- probe made all placements that it might make.
+abbrev pub IsTaken : {E S : Type 0} → ℕ → Climb E S → Climb E S → Allowance → Probe → Type 0
+IsTaken grade before now to (Filled least) = (now.found ≡ Some least) × (now.bound ≡ before.bound)
+IsTaken grade before now to NoFill = (now.found ≡ before.found) × (now.bound ≡ grade)
+IsTaken grade before now to Limit = (now.found ≡ before.found) × (now.bound ≡ before.bound) × (to.made ≡ to.until)
+
+-- how much a search may still do: the grades that it has not decided, and the placements that are left
+abbrev pub work_left : {E S : Type 0} → Climb E S → Allowance → ℕ
+work_left climb allowance = (climb.bound - next_grade climb) + (allowance.limit - allowance.made)
+
+-- the answer of a search that found a fill of this grade, or none
+abbrev pub best_of : Option ℕ → ℕ → ℕ → Best
+best_of (Some grade) least bound = bests.Filled grade bound
+best_of None least bound = cond (nat_le bound least) bests.NoFill (bests.Limit bound)

@@ -1,118 +1,21 @@
-//! The search for the best fill: which grades it tries, and what it keeps.
-ghost use Rattle.std.specs.Prelude.{◌≡◌, ◌<◌, ◌≤◌, ◌-◌, IfOk, IfSome};
+//! The search for the best fill: what it keeps of the grades that it tries.
+ghost use Rattle.std.specs.Prelude.{◌≡◌, ◌<◌, ◌≤◌, ◌⊎◌, true, IfOk, OnOk, IfSome};
 ghost use Rattle.xw_words.specs.Dictionary.{best_grade};
 ghost use Rattle.xw_fill.specs.Inner.OfState.{IsPlan};
 ghost use Rattle.xw_fill.specs.NamedFill.{flags};
 ghost use Rattle.xw_fill.specs.Best.{IsBest, IsFilledAt};
-ghost use Rattle.xw_fill.specs.Inner.Climbing.{IsAtLeast, IsClimbing};
+ghost use Rattle.xw_fill.specs.Inner.Pace.{Covers};
+ghost use Rattle.xw_fill.specs.Inner.Climbing.{IsAtLeast, IsClimbing, HasClimbed, IsTaken, IsIdle, next_grade, work_left, best_of};
 
+use crate::allowance::Allowance;
 use crate::best::Best;
 use crate::best::grades::{NO_BOUND, fresh_lights};
+use crate::best::pace::Pace;
 use crate::best::probe::{Probe, bound_of, probe_at};
 use crate::named_lights::plan::Plan;
 use crate::named_lights::run::Effort;
 use std::alloc::{AllocError, Global};
 use xw_feas::searchable::Searchable;
-
-/// How many placements each grade gets in the first two passes. In each later pair of passes it gets twice as many.
-const BUDGET: u64 = 1000;
-
-/// More passes than any search has: before the last of them the budget is greater than every limit.
-const PASSES: u32 = 128;
-
-/// The progress of a search for the best fill. Passes come in pairs, and each pass bisects the grades. If the budget
-/// runs out at a grade, the first pass takes the grade as too great, and so finds fills. The second pass takes it as
-/// too small, and so finds bounds. No proof depends on this.
-/// - `budget`: how many placements each grade gets.
-/// - `spent`: how many of these the current grade has used.
-/// - `is_second`: whether it is the second pass.
-/// - `low`, `high`: the pass still has the grades from `low` to below `high`.
-/// - `ceiling`: the least grade at which this search, or one that it continues, found that there is no fill. Grades
-///   from it on are tried only if no grade below it can have a fill.
-#[derive(Clone, Copy)]
-pub struct Pace {
-    budget: u64,
-    spent: u64,
-    is_second: bool,
-    low: u8,
-    high: u8,
-    ceiling: u8,
-}
-
-impl Pace {
-    /// The pace of a search that has not begun.
-    pub fn new() -> Pace {
-        Pace {
-            budget: BUDGET,
-            spent: 0,
-            is_second: false,
-            low: 0,
-            high: NO_BOUND,
-            ceiling: NO_BOUND,
-        }
-    }
-
-    /// Starts the next pass. `least` is the least grade at which a fill would be new. If it is not below the ceiling,
-    /// which an earlier search found, the pass tries this grade alone.
-    fn turn(&mut self, least: u8) {
-        if self.ceiling <= least {
-            self.ceiling = NO_BOUND;
-            self.low = least;
-            self.high = least.saturating_add(1);
-            return;
-        }
-        if self.is_second {
-            self.budget = self.budget.saturating_mul(2);
-        }
-        self.is_second = !self.is_second;
-        self.low = 0;
-        self.high = NO_BOUND;
-    }
-
-    /// Leaves out grades that are not worth a search.
-    fn keep_within(&mut self, low: u8, high: u8)
-        ensures low { low ≤ self.new.low }
-        ensures high { self.new.high ≤ high }
-    {
-        self.low = self.low.max(low);
-        self.high = self.high.min(high).min(self.ceiling);
-    }
-
-    /// How many placements the current grade still gets.
-    fn share(&self) -> u64 {
-        self.budget.saturating_sub(self.spent)
-    }
-
-    /// Counts placements that decided nothing. Returns whether the budget of the current grade is used up.
-    fn spend(&mut self, placements: u64) -> bool
-        ensures low { self.new.low ≡ self.old.low }
-        ensures high { self.new.high ≡ self.old.high }
-    {
-        self.spent = self.spent.saturating_add(placements);
-        self.spent >= self.budget
-    }
-
-    /// Leaves out the grades that a search at `grade` decided.
-    fn narrow(&mut self, grade: u8, probe: Probe)
-        requires low { self.old.low ≤ grade }
-        requires high { grade < self.old.high }
-        requires found { IsAtLeast grade probe }
-        ensures low { self.old.low ≤ self.new.low }
-        ensures high { self.new.high ≤ self.old.high }
-        ensures fewer { self.new.high - self.new.low < self.old.high - self.old.low }
-    {
-        self.spent = 0;
-        match probe {
-            Probe::Filled(least) => self.low = least + 1,
-            Probe::NoFill => {
-                self.high = grade;
-                self.ceiling = grade;
-            }
-            Probe::Limit if self.is_second => self.low = grade + 1,
-            Probe::Limit => self.high = grade,
-        }
-    }
-}
 
 /// A search for the best fill.
 /// - `fresh`: a flag for each light that was not wholly entered at the start.
@@ -120,7 +23,6 @@ impl Pace {
 /// - `least`: the least grade of active words.
 /// - `found`: the greatest grade at which `best` is a fill, if one was found.
 /// - `bound`: a grade at which no fill exists.
-/// - `left`: how many placements are left.
 #[derive(Drop)]
 pub struct Climb<E: Searchable> {
     plan: Plan,
@@ -130,19 +32,14 @@ pub struct Climb<E: Searchable> {
     least: u8,
     found: Option<u8>,
     bound: u8,
-    left: u64,
 }
 
 impl<E: Searchable> Climb<E> {
     /// A search that has found a bound and nothing else.
-    pub fn new(
-        alloc: Global,
-        engine: &mut E,
-        plan: Plan,
-        limit: u64,
-    ) -> Result<Climb<E>, AllocError>
+    pub fn new(alloc: Global, engine: &mut E, plan: Plan) -> Result<Climb<E>, AllocError>
         requires plan { IsPlan (E.state engine.old) plan }
         ensures climbing { IfOk result (λ climb. IsClimbing E.saved climb (E.state engine.old)) }
+        ensures none { IfOk result (λ climb. climb.found ≡ None) }
         ensures plan { IfOk result (λ climb. climb.plan ≡ plan) }
         ensures unchanged { E.state engine.new ≡ E.state engine.old }
     {
@@ -159,14 +56,13 @@ impl<E: Searchable> Climb<E> {
             least,
             found: None,
             bound,
-            left: limit,
         })
     }
 
     /// The least grade at which a fill would be new.
     fn next_grade(&self) -> u8
         requires { IfSome self.now.found (λ grade. (self.now.least ≤ grade) × (grade ≤ best_grade)) }
-        ensures { self.now.least ≤ result }
+        ensures { result ≡ next_grade self.now }
     {
         match self.found {
             Some(grade) => grade + 1,
@@ -174,13 +70,18 @@ impl<E: Searchable> Climb<E> {
         }
     }
 
-    /// Keeps the fill that the grid holds, and returns to the start.
+    /// Keeps the fill that the grid holds, which is better than the one before, and returns to the start.
     fn keep(&mut self, engine: &mut E, grade: u8)
         requires climbing { IsClimbing E.saved self.old (E.saved self.old.start) }
+        requires better { next_grade self.old ≤ grade }
         requires filled { IsFilledAt (flags self.old.plan.named.items) (E.saved self.old.start) (E.state engine.old) grade }
         ensures climbing { IsClimbing E.saved self.new (E.state engine.new) }
         ensures back { E.state engine.new ≡ E.saved self.old.start }
+        ensures found { self.new.found ≡ Some grade }
+        ensures best { E.saved self.new.best ≡ E.state engine.old }
         ensures plan { self.new.plan ≡ self.old.plan }
+        ensures least { self.new.least ≡ self.old.least }
+        ensures bound { self.new.bound ≡ self.old.bound }
     {
         engine.save(&mut self.best);
         engine.exchange(&mut self.start);
@@ -188,23 +89,25 @@ impl<E: Searchable> Climb<E> {
         self.found = Some(grade);
     }
 
-    /// Looks for a fill with the words of a grade and better, with at most `limit` placements, and keeps what it
-    /// finds.
+    /// Looks for a fill with the words of a grade and better, within the share of the placements that is granted, and
+    /// keeps what it finds.
     fn step(
         &mut self,
         alloc: Global,
         engine: &mut E,
         grade: u8,
-        limit: u64,
         effort: &mut Effort,
+        allowance: &mut Allowance,
     ) -> Result<Probe, AllocError>
         requires climbing { IsClimbing E.saved self.old (E.state engine.old) }
-        requires above { self.old.least ≤ grade }
-        requires graded { grade ≤ best_grade }
+        requires new { next_grade self.old ≤ grade }
+        requires below { grade < self.old.bound }
         ensures climbing { IsClimbing E.saved self.new (E.state engine.new) }
         ensures unchanged { E.state engine.new ≡ E.state engine.old }
-        ensures plan { self.new.plan ≡ self.old.plan }
+        ensures climbed { HasClimbed E.saved self.old self.new allowance.old allowance.new }
+        ensures until { allowance.new.until ≡ allowance.old.until }
         ensures found { IfOk result (IsAtLeast grade) }
+        ensures taken { IfOk result (IsTaken grade self.old self.new allowance.new) }
     {
         let probe = probe_at(
             alloc,
@@ -213,10 +116,9 @@ impl<E: Searchable> Climb<E> {
             &self.fresh,
             self.least,
             grade,
-            limit,
             effort,
+            allowance,
         )?;
-        self.left = self.left.saturating_sub(limit.saturating_sub(effort.left));
         match probe {
             Probe::Filled(found) => self.keep(engine, found),
             Probe::NoFill => self.bound = grade,
@@ -225,27 +127,38 @@ impl<E: Searchable> Climb<E> {
         Ok(probe)
     }
 
-    /// Runs one pass, until it has tried all its grades or no placement is left.
+    /// Whether the search may try a grade: a placement is left, or it needs none, since no cell is to be filled.
+    fn may_try(&self, allowance: &Allowance) -> bool
+        ensures { allowance.now.made < allowance.now.limit → result ≡ true }
+    {
+        allowance.left() > 0 || self.plan.targets.is_empty()
+    }
+
+    /// Runs one pass, until it has tried all its grades or no placement is left. If it has a grade to try, it decides a
+    /// grade or makes a placement.
     fn pass(
         &mut self,
         alloc: Global,
         engine: &mut E,
         effort: &mut Effort,
         pace: &mut Pace,
+        allowance: &mut Allowance,
     ) -> Result<(), AllocError>
         requires climbing { IsClimbing E.saved self.old (E.state engine.old) }
         ensures climbing { IsClimbing E.saved self.new (E.state engine.new) }
         ensures unchanged { E.state engine.new ≡ E.state engine.old }
-        ensures plan { self.new.plan ≡ self.old.plan }
+        ensures climbed { HasClimbed E.saved self.old self.new allowance.old allowance.new }
+        ensures moved { OnOk result (Covers pace.old (next_grade self.old) → next_grade self.old < self.old.bound → allowance.old.made < allowance.old.limit → work_left self.new allowance.new < work_left self.old allowance.old) }
     {
         pace.keep_within(self.next_grade(), self.bound);
-        while pace.low < pace.high && self.left > 0 {
+        while pace.low < pace.high && self.may_try(allowance) {
             let grade = pace.low + (pace.high - pace.low) / 2;
-            let share = pace.share().min(self.left);
+            let share = pace.share().min(allowance.left());
             if pace.spent == 0 {
                 effort.restart();
             }
-            let probe = self.step(alloc, engine, grade, share, effort)?;
+            allowance.grant(share);
+            let probe = self.step(alloc, engine, grade, effort, allowance)?;
             if probe == Probe::Limit && !pace.spend(share) {
                 break;
             }
@@ -261,18 +174,22 @@ impl<E: Searchable> Climb<E> {
         engine: &mut E,
         effort: &mut Effort,
         pace: &mut Pace,
+        allowance: &mut Allowance,
     ) -> Result<(), AllocError>
         requires climbing { IsClimbing E.saved self.old (E.state engine.old) }
         ensures climbing { IsClimbing E.saved self.new (E.state engine.new) }
         ensures unchanged { E.state engine.new ≡ E.state engine.old }
-        ensures plan { self.new.plan ≡ self.old.plan }
+        ensures climbed { HasClimbed E.saved self.old self.new allowance.old allowance.new }
+        ensures ended { OnOk result ((allowance.new.made ≡ allowance.new.limit) ⊎ (self.new.bound ≤ next_grade self.new)) }
     {
-        for _pass in 0..PASSES {
-            self.pass(alloc, engine, effort, pace)?;
-            if self.left == 0 || self.next_grade() >= self.bound {
-                break;
-            }
+        // With no cell to fill, one pass over all grades needs no placement.
+        if self.plan.targets.is_empty() {
+            *pace = Pace::new();
+        }
+        self.pass(alloc, engine, effort, pace, allowance)?;
+        while allowance.left() > 0 && self.next_grade() < self.bound {
             pace.turn(self.next_grade());
+            self.pass(alloc, engine, effort, pace, allowance)?;
         }
         Ok(())
     }
@@ -281,6 +198,8 @@ impl<E: Searchable> Climb<E> {
     pub fn finish(&mut self, engine: &mut E) -> Best
         requires climbing { IsClimbing E.saved self.old (E.state engine.old) }
         ensures best { IsBest (flags self.old.plan.named.items) (E.state engine.old) (E.state engine.new) result }
+        ensures found { result ≡ best_of self.old.found self.old.least self.old.bound }
+        ensures idle { IsIdle E.saved self.old → E.state engine.new ≡ E.state engine.old }
     {
         match self.found {
             Some(least) => {

@@ -1,12 +1,14 @@
 //! A search for a fill with the words of a grade and better.
 ghost use Rattle.std.specs.Prelude.{◌≡◌, ◌⊎◌, ℕ, suc, ◌≤◌, length, IfOk, OnErr};
 ghost use Rattle.xw_words.specs.Dictionary.{best_grade};
+ghost use Rattle.xw_fill.specs.Allowance.{IsCounted};
 ghost use Rattle.xw_fill.specs.OfState.{light_count};
 ghost use Rattle.xw_fill.specs.Inner.OfState.{AreFresh, IsPlan};
 ghost use Rattle.xw_fill.specs.NamedFill.{flags};
 ghost use Rattle.xw_fill.specs.Best.{IsBound};
 ghost use Rattle.xw_fill.specs.Inner.Climbing.{DiffersInLeast, IsDeadAt, AreAliveAt, AreActiveAt, IsProbed};
 
+use crate::allowance::Allowance;
 use crate::best::grades::{NO_BOUND, choose_least, first_deadly, worst_grade};
 use crate::named_lights::fill_planned;
 use crate::named_lights::plan::Plan;
@@ -59,8 +61,8 @@ fn greatest_grade<E: Feasible>(engine: &mut E, watched: &[bool], fresh: &[bool],
     first_deadly(engine, watched, grade + 1, worst + 1) - 1
 }
 
-/// Looks for a fill with the words of a grade and better, with at most `limit` placements. `fresh` flags the lights
-/// that are not wholly entered. The least grade of active words, `least`, stays as it was.
+/// Looks for a fill with the words of a grade and better. `fresh` flags the lights that are not wholly entered. The
+/// least grade of active words, `least`, stays as it was.
 pub fn probe_at<E: Searchable>(
     alloc: Global,
     engine: &mut E,
@@ -68,20 +70,22 @@ pub fn probe_at<E: Searchable>(
     fresh: &[bool],
     least: u8,
     grade: u8,
-    limit: u64,
     effort: &mut Effort,
+    allowance: &mut Allowance,
 ) -> Result<Probe, AllocError>
     requires plan { IsPlan (E.state engine.old) plan.now }
     requires fresh { AreFresh (E.state engine.old) fresh.now }
     requires least { least ≡ (E.state engine.old).words.least }
     requires above { least ≤ grade }
     requires graded { grade ≤ best_grade }
+    ensures counted { IsCounted allowance.old allowance.new (E.state engine.old) (E.state engine.new) }
+    ensures until { allowance.new.until ≡ allowance.old.until }
+    ensures limit { result ≡ Ok Probe.Limit → allowance.new.made ≡ allowance.new.until }
     ensures ok { IfOk result (IsProbed (flags plan.now.named.items) (E.state engine.old) grade (E.state engine.new)) }
     ensures unchanged { OnErr result (E.state engine.new ≡ E.state engine.old) }
 {
     choose_least(engine, grade);
-    effort.left = limit;
-    let filling = fill_planned(alloc, engine, plan, limit, effort);
+    let filling = fill_planned(alloc, engine, plan, effort, allowance);
     let probe = match filling {
         Ok(filling) => Ok(match filling {
             Filling::Filled => Probe::Filled(greatest_grade(engine, &plan.watched, fresh, grade)),

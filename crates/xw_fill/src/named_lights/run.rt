@@ -1,14 +1,16 @@
 //! One run of the search: depth first by letters, until a fill, a cut or the end.
-ghost use Rattle.std.specs.Prelude.{◌≡◌, ◌<◌, ◌≤◌, ℕ, length, true, false, ◌||◌, ◌==◌, [], IfOk};
+ghost use Rattle.std.specs.Prelude.{◌≡◌, ◌<◌, ℕ, suc, length, true, false, ◌||◌, ◌==◌, [], IfOk};
 ghost use Rattle.xw_letters.specs.LetterSet.{has};
 ghost use Rattle.xw_feas.specs.Board.{board_of};
 ghost use Rattle.xw_fill.specs.Position.{DiffersInEntries};
+ghost use Rattle.xw_fill.specs.Allowance.{IsCounted};
 ghost use Rattle.xw_fill.specs.OfState.{light_count, IsFillOf};
 ghost use Rattle.xw_fill.specs.Inner.OfState.{HasNone, IsPlan, IsOpen, IsRefuted, AreAlive, IsApartAt};
 ghost use Rattle.xw_fill.specs.Inner.Stack.{start_of, IsReady, StandsAt};
 ghost use Rattle.xw_fill.specs.NamedFill.{flags};
 ghost use Rattle.xw_fill.specs.Inner.Progress.{entries_of, CanBeEntered, IsLetterEntered, IsTried};
 
+use crate::allowance::Allowance;
 use crate::named_lights::checks::{first_dead, has_repeat_at};
 use crate::named_lights::choice::{next_cell, next_letter};
 use crate::named_lights::frame::Frame;
@@ -43,7 +45,6 @@ const CUT: u64 = 100;
 /// - `graded`: whether words have different grades.
 /// - `weighted`: whether words of better grades count for more in the next run. If words have grades, every other run
 ///   uses plain counts, since the hardest grids fill only that way.
-/// - `left`: how many placements are left.
 #[derive(Drop)]
 pub struct Effort {
     weights: Vec<u64>,
@@ -51,23 +52,22 @@ pub struct Effort {
     pub cut: u64,
     pub graded: bool,
     pub weighted: bool,
-    pub left: u64,
 }
 
 impl Effort {
-    ghost use Rattle.std.specs.Prelude.{IfOk};
-
-    /// The effort of a search that has not begun: each light has the weight 1, and no placement is left.
-    pub fn new(alloc: Global, lights: usize, seed: u64, graded: bool) -> Result<Effort, AllocError>
-        ensures { IfOk result (λ effort. effort.left ≡ 0) }
-    {
+    /// The effort of a search that has not begun: each light has the weight 1.
+    pub fn new(
+        alloc: Global,
+        lights: usize,
+        seed: u64,
+        graded: bool,
+    ) -> Result<Effort, AllocError> {
         Ok(Effort {
             weights: vec![in alloc; 1; lights]?,
             seed,
             cut: CUT,
             graded,
             weighted: graded,
-            left: 0,
         })
     }
 
@@ -108,23 +108,30 @@ fn is_refuted<E: Searchable>(
     has_repeat_at(engine, cell)
 }
 
-/// Tries the letter of a frame. Returns whether the letter stays; if not, the search is back where it was.
+/// Tries the letter of a frame, which is a placement. Returns whether the letter stays; if not, the search is back
+/// where it was.
 fn try_letter<E: Searchable>(
     engine: &mut E,
     stack: &mut Stack<E, Frame>,
     plan: &Plan,
     weights: &mut Vec<u64>,
     frame: Frame,
+    allowance: &mut Allowance,
 ) -> Result<bool, AllocError>
     requires can { CanBeEntered frame (E.state engine.old) }
     requires long { length plan.now.watched.items ≡ light_count (E.state engine.old) }
     requires stands { StandsAt E.saved IsLetterEntered stack.old (E.state engine.old) }
+    requires left { allowance.old.made < allowance.old.until }
+    ensures made { allowance.new.made ≡ suc allowance.old.made }
+    ensures until { allowance.new.until ≡ allowance.old.until }
+    ensures limit { allowance.new.limit ≡ allowance.old.limit }
     ensures stands { StandsAt E.saved IsLetterEntered stack.new (E.state engine.new) }
     ensures start { start_of E.saved stack.new ≡ start_of E.saved stack.old }
     ensures entries { DiffersInEntries (E.state engine.old) (E.state engine.new) }
     ensures tried { IfOk result (λ stands. IsTried (flags plan.now.watched.items) frame stands (E.state engine.old) stack.old.placements.items (E.state engine.new) stack.new.placements.items) }
 {
     let cell = frame.cell;
+    allowance.count();
     let dead = stack.try_place(engine, frame, &plan.watched)?;
     if let Some(light) = dead {
         blame(weights, engine.emptied().unwrap_or(light));
@@ -154,6 +161,7 @@ fn search<E: Searchable>(
     plan: &Plan,
     effort: &mut Effort,
     cut: u64,
+    allowance: &mut Allowance,
 ) -> Ending
     requires plan { IsPlan (E.state engine.old) plan.now }
     requires open { IsOpen (flags plan.now.named.items) (E.state engine.old) (entries_of (E.state engine.old)) }
@@ -162,8 +170,10 @@ fn search<E: Searchable>(
     ensures ready { IsReady E.saved stack.new (E.state engine.new) }
     ensures start { start_of E.saved stack.new ≡ start_of E.saved stack.old }
     ensures entries { DiffersInEntries (E.state engine.old) (E.state engine.new) }
-    ensures left { effort.new.left ≤ effort.old.left }
-    ensures cut { result ≡ Ending.Cut → effort.new.left < effort.old.left }
+    ensures counted { IsCounted allowance.old allowance.new (E.state engine.old) (E.state engine.new) }
+    ensures until { allowance.new.until ≡ allowance.old.until }
+    ensures limit { result ≡ Ending.Limit → allowance.new.made ≡ allowance.new.until }
+    ensures cut { result ≡ Ending.Cut → allowance.old.made < allowance.new.made }
     ensures filled { result ≡ Ending.Filled → IsFillOf (flags plan.now.named.items) (E.state engine.old) (entries_of (E.state engine.new)) }
     ensures no_fill { result ≡ Ending.NoFill → HasNone (flags plan.now.named.items) (E.state engine.old) (entries_of (E.state engine.old)) }
 {
@@ -183,16 +193,16 @@ fn search<E: Searchable>(
             fails = fails.saturating_add(1);
             continue;
         };
-        if effort.left == 0 {
+        if allowance.is_spent() {
             return Ending::Limit;
         }
-        effort.left -= 1;
         let frame = Frame {
             cell,
             letter,
             tried,
         };
-        let Ok(stands) = try_letter(engine, stack, plan, &mut effort.weights, frame) else {
+        let Ok(stands) = try_letter(engine, stack, plan, &mut effort.weights, frame, allowance)
+        else {
             return Ending::Memory;
         };
         if !stands {
@@ -218,20 +228,23 @@ pub fn run<E: Searchable>(
     plan: &Plan,
     effort: &mut Effort,
     cut: u64,
+    allowance: &mut Allowance,
 ) -> Ending
     requires plan { IsPlan (E.state engine.old) plan.now }
     requires open { IsOpen (flags plan.now.named.items) (E.state engine.old) (entries_of (E.state engine.old)) }
     requires ready { IsReady E.saved stack.old (E.state engine.old) }
     ensures ready { IsReady E.saved stack.new (E.state engine.new) }
-    ensures left { effort.new.left ≤ effort.old.left }
-    ensures cut { result ≡ Ending.Cut → effort.new.left < effort.old.left }
+    ensures counted { IsCounted allowance.old allowance.new (E.state engine.old) (E.state engine.new) }
+    ensures until { allowance.new.until ≡ allowance.old.until }
+    ensures limit { result ≡ Ending.Limit → allowance.new.made ≡ allowance.new.until }
+    ensures cut { result ≡ Ending.Cut → allowance.old.made < allowance.new.made }
     ensures filled { result ≡ Ending.Filled → IsFillOf (flags plan.now.named.items) (E.state engine.old) (entries_of (E.state engine.new)) }
     ensures entries { result ≡ Ending.Filled → DiffersInEntries (E.state engine.old) (E.state engine.new) }
     ensures no_fill { result ≡ Ending.NoFill → HasNone (flags plan.now.named.items) (E.state engine.old) (entries_of (E.state engine.old)) }
     ensures same { (result ≡ Ending.Filled → ⊥) → E.state engine.new ≡ E.state engine.old }
 {
     stack.begin(engine);
-    let ending = search(engine, stack, plan, effort, cut);
+    let ending = search(engine, stack, plan, effort, cut, allowance);
     if ending != Ending::Filled {
         stack.reset(engine);
     }

@@ -16,6 +16,7 @@ use xw_commands::lights::LightArgs;
 use xw_feas::edit::Refusal as EditRefusal;
 use xw_feas::feasible::Feasible;
 use xw_feas::searchable::Searchable;
+use xw_fill::allowance::Allowance;
 use xw_fill::named_lights::{Hint, autofill};
 use xw_fill::search::Filling;
 use xw_grid::{GridFault, LightName};
@@ -83,9 +84,11 @@ fn filled<E: Searchable>(
     ensures ok { IfOk result (IsAutofilled (is_named (E.state engine.old) (names_of_lights lights.entry)) (E.state engine.old) (E.state engine.new)) }
     ensures refused { IfErr result (IsRefusal (E.state engine.old) (names_of_lights lights.entry)) }
     ensures unchanged { OnErr result (E.state engine.new ≡ E.state engine.old) }
+    ensures idle { limit ≡ 0 → E.state engine.new ≡ E.state engine.old }
 {
     let names = names_of(alloc, engine, lights)?;
-    autofill(alloc, engine, names.as_slice(), limit, seed, hint)
+    let mut allowance = Allowance::new(limit);
+    autofill(alloc, engine, names.as_slice(), &mut allowance, seed, hint)
 }
 
 impl<E: Searchable> Session<E> {

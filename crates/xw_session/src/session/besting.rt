@@ -18,6 +18,7 @@ use xw_answers::text;
 use xw_commands::lights::LightArgs;
 use xw_feas::edit::Refusal as EditRefusal;
 use xw_feas::searchable::Searchable;
+use xw_fill::allowance::Allowance;
 use xw_fill::best::{Best, BestHint, best_fill};
 use xw_fill::search::Filling;
 use xw_lines::device::{Sink, WriteFailed};
@@ -36,9 +37,11 @@ fn best_filled<E: Searchable>(
     ensures ok { IfOk result (IsBest (is_named (E.state engine.old) (names_of_lights lights.entry)) (E.state engine.old) (E.state engine.new)) }
     ensures refused { IfErr result (IsRefusal (E.state engine.old) (names_of_lights lights.entry)) }
     ensures unchanged { OnErr result (E.state engine.new ≡ E.state engine.old) }
+    ensures idle { limit ≡ 0 → E.state engine.new ≡ E.state engine.old }
 {
     let names = names_of(alloc, engine, lights)?;
-    best_fill(alloc, engine, names.as_slice(), limit, seed, hint)
+    let mut allowance = Allowance::new(limit);
+    best_fill(alloc, engine, names.as_slice(), &mut allowance, seed, hint)
 }
 
 /// Writes a name and a grade.

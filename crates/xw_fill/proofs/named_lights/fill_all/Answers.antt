@@ -1,28 +1,32 @@
 use Rattle.std.proofs.Common.{true, subst}
 use Rattle.xw_feas.specs.State.{State}
-use Rattle.xw_fill.specs.Filling.{IsFilling}
 use Rattle.xw_fill.specs.NamedFill.{IsAutofilled}
-use Rattle.xw_fill.proofs.Naming.{filled_all}
+use Rattle.xw_fill.proofs.AllowanceLemmas.{counted_granted, counted-then}
 use Rattle.xw_fill.proofs.named_lights.fill_all.Goals as goal
 
-pub returns-in-Filled-clause-ok : goal.returns-in-Filled-clause-ok
-returns-in-Filled-clause-ok g c =
-    let before = g.E.Feasible.state c.args.engine.now in
-    let after = g.E.Feasible.state c.fill.new.engine in
-    subst (IsAutofilled (λ light. true) before after) c.in-Filled.is
-    (filled_all c.first_share-first.result before after c.in_ok-fill.field-0 (g.met.E.Feasible.well_formed c.args.engine.now).board c.in_ok-fill.ensures.found c.in_ok-fill.ensures.fill)
+pub returns-in-Filled-clause-counted : goal.returns-in-Filled-clause-counted
+returns-in-Filled-clause-counted g c =
+    counted_granted c.args.allowance.now c.grant.new.self c.fill_by_words.new.allowance (g.E.Feasible.state c.args.engine.now) (g.E.Feasible.state c.fill_by_words.new.engine) c.grant.ensures.made c.grant.ensures.limit c.fill_by_words.ensures.counted
 
-pub returns-in-NoFill-clause-ok : goal.returns-in-NoFill-clause-ok
-returns-in-NoFill-clause-ok g c =
+pub returns-in-NoFill-clause-counted : goal.returns-in-NoFill-clause-counted
+returns-in-NoFill-clause-counted g c =
+    counted_granted c.args.allowance.now c.grant.new.self c.fill_by_words.new.allowance (g.E.Feasible.state c.args.engine.now) (g.E.Feasible.state c.fill_by_words.new.engine) c.grant.ensures.made c.grant.ensures.limit c.fill_by_words.ensures.counted
+
+pub returns-then-left-eq0-clause-counted : goal.returns-then-left-eq0-clause-counted
+returns-then-left-eq0-clause-counted g c =
+    counted_granted c.args.allowance.now c.grant.new.self c.fill_by_words.new.allowance (g.E.Feasible.state c.args.engine.now) (g.E.Feasible.state c.fill_by_words.new.engine) c.grant.ensures.made c.grant.ensures.limit c.fill_by_words.ensures.counted
+
+pub returns-clause-counted : goal.returns-clause-counted
+returns-clause-counted g c =
     let before = g.E.Feasible.state c.args.engine.now in
-    let after = g.E.Feasible.state c.fill.new.engine in
-    subst (IsAutofilled (λ light. true) before after) c.in-NoFill.is
-    (filled_all c.first_share-first.result before after c.in_ok-fill.field-0 (g.met.E.Feasible.well_formed c.args.engine.now).board c.in_ok-fill.ensures.found c.in_ok-fill.ensures.fill)
+    let between = g.E.Feasible.state c.fill_by_words.new.engine in
+    let after = g.E.Feasible.state c.all_by_letters.new.engine in
+    counted-then c.args.allowance.now c.fill_by_words.new.allowance c.all_by_letters.new.allowance before between after
+    (counted_granted c.args.allowance.now c.grant.new.self c.fill_by_words.new.allowance before between c.grant.ensures.made c.grant.ensures.limit c.fill_by_words.ensures.counted) c.all_by_letters.ensures.counted
 
 pub returns-clause-ok : goal.returns-clause-ok
 returns-clause-ok g c =
     let before = g.E.Feasible.state c.args.engine.now in
-    let begun = g.E.Feasible.state c.fill.new.engine in
     let after = g.E.Feasible.state c.all_by_letters.new.engine in
-    let same = (subst (IsFilling c.first_share-first.result before begun) c.in-Limit.is c.in_ok-fill.ensures.found).1 in
+    let same = subst (IsAutofilled (λ light. true) before (g.E.Feasible.state c.fill_by_words.new.engine)) c.in-Limit.is c.in_ok-fill_by_words.ensures.ok in
     subst (λ (s : State). IsAutofilled (λ light. true) s after c.in_ok-all_by_letters.field-0) same c.in_ok-all_by_letters.ensures.ok

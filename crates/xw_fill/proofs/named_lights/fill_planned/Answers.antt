@@ -6,6 +6,7 @@ use Rattle.xw_fill.proofs.CheckLemmas.{repeated_from}
 use Rattle.xw_fill.proofs.NamedFills.{entered_start}
 use Rattle.xw_fill.proofs.LetterSearch.{refuted_has_none}
 use Rattle.xw_fill.proofs.Naming.{open_start, some_found, none_found}
+use Rattle.xw_fill.proofs.AllowanceLemmas.{counted-none}
 use Rattle.xw_fill.proofs.named_lights.fill_planned.Goals as goal
 
 pub returns-then-is_some-clause-ok : goal.returns-then-is_some-clause-ok
@@ -41,3 +42,9 @@ run_again-requires-clause-open g c =
     open_start start c.args.plan.now c.deref.result.now letters c.requires.plan c.deref.ensures.value
     (none_found (AreAlive (flags c.deref.result.now) position) c.first_dead.result (sym c.is_some.ensures ∙ c.if-is_some.false) c.first_dead.ensures.alive)
     (sym is ∙ c.if-repeats.false)
+
+pub returns-then-is_some-clause-counted : goal.returns-then-is_some-clause-counted
+returns-then-is_some-clause-counted g c = counted-none c.args.allowance.now (g.E.Feasible.state c.args.engine.now)
+
+pub returns-then-repeats-clause-counted : goal.returns-then-repeats-clause-counted
+returns-then-repeats-clause-counted g c = counted-none c.args.allowance.now (g.E.Feasible.state c.args.engine.now)

@@ -1,10 +1,11 @@
-use Rattle.std.proofs.Common.{refl, sym, ◌∙◌, subst}
+use Rattle.std.proofs.Common.{refl, sym, ◌∙◌, subst, arith}
 use Rattle.xw_feas.specs.State.{State}
 use Rattle.xw_fill.specs.Position.{position_of, DiffersInEntries}
 use Rattle.xw_fill.specs.NamedFill.{flags, IsFillOf}
 use Rattle.xw_fill.specs.Inner.Progress.{entries_of, HasNone, IsOpen, IsPlan}
 use Rattle.xw_fill.specs.declared.named_lights.run.Ending.{Ending}
 use Rattle.xw_fill.specs.declared.named_lights.run.Ending.TheVariants as endings
+use Rattle.xw_fill.proofs.AllowanceLemmas.{counted_same, counted-then}
 use Rattle.xw_fill.proofs.named_lights.run_again.Goals as goal
 
 -- an ending that is not Filled
@@ -13,7 +14,7 @@ is_filled endings.Filled = Unit {0}
 is_filled other = ⊥
 
 pub loop-effort-init : goal.loop-effort-init
-loop-effort-init g c = record { same = refl; ready = c.requires.ready }
+loop-effort-init g c = record { same = refl; made = omega arith; until = refl; limit = refl; ready = c.requires.ready }
 
 pub run-requires-clause-plan : goal.run-requires-clause-plan
 run-requires-clause-plan g c = subst (λ (s : State). IsPlan (position_of s) c.args.plan.now) (sym c.loop-effort.invariant.same) c.requires.plan
@@ -47,11 +48,14 @@ pub returns-in-Memory-clause-unchanged : goal.returns-in-Memory-clause-unchanged
 returns-in-Memory-clause-unchanged g c = c.in-Memory.ensures.same (λ e. subst is_filled (sym e) tt) ∙ c.loop-effort.invariant.same
 
 pub loop-effort-smaller : goal.loop-effort-smaller
-loop-effort-smaller g c = c.in-Cut.ensures.cut refl
+loop-effort-smaller g c = omega (arith, c.in-Cut.ensures.cut refl, c.run.ensures.until, c.run.new.allowance.within)
 
 pub loop-effort-preserved : goal.loop-effort-preserved
 loop-effort-preserved g c = record {
   same = c.in-Cut.ensures.same (λ e. subst is_filled (sym e) tt) ∙ c.loop-effort.invariant.same;
+  made = omega (arith, c.loop-effort.invariant.made, c.run.ensures.counted.made);
+  until = c.run.ensures.until ∙ c.loop-effort.invariant.until;
+  limit = c.run.ensures.counted.limit ∙ c.loop-effort.invariant.limit;
   ready = c.in-Cut.ensures.ready;
 }
 
@@ -62,3 +66,24 @@ returns-in-Filled-clause-entered g c =
       subst (λ (s : State). IsFillOf (flags c.args.plan.now.named.items) (position_of s) (entries_of now)) same (c.in-Filled.ensures.filled refl),
       subst (λ (s : State). DiffersInEntries s now) same (c.in-Filled.ensures.entries refl),
     )
+
+pub returns-in-Filled-clause-counted : goal.returns-in-Filled-clause-counted
+returns-in-Filled-clause-counted g c =
+    counted-then c.args.allowance.now c.loop-effort.allowance c.run.new.allowance (g.E.Feasible.state c.args.engine.now) (g.E.Feasible.state c.loop-effort.engine) (g.E.Feasible.state c.run.new.engine)
+    (counted_same c.args.allowance.now c.loop-effort.allowance (g.E.Feasible.state c.args.engine.now) (g.E.Feasible.state c.loop-effort.engine) c.loop-effort.invariant.made c.loop-effort.invariant.limit c.loop-effort.invariant.same)
+    c.run.ensures.counted
+
+pub returns-in-NoFill-clause-counted : goal.returns-in-NoFill-clause-counted
+returns-in-NoFill-clause-counted g c =
+    counted_same c.args.allowance.now c.run.new.allowance (g.E.Feasible.state c.args.engine.now) (g.E.Feasible.state c.run.new.engine) (omega (arith, c.loop-effort.invariant.made, c.run.ensures.counted.made)) (c.run.ensures.counted.limit ∙ c.loop-effort.invariant.limit)
+    (c.in-NoFill.ensures.same (λ e. subst is_filled (sym e) tt) ∙ c.loop-effort.invariant.same)
+
+pub returns-in-Limit-clause-counted : goal.returns-in-Limit-clause-counted
+returns-in-Limit-clause-counted g c =
+    counted_same c.args.allowance.now c.run.new.allowance (g.E.Feasible.state c.args.engine.now) (g.E.Feasible.state c.run.new.engine) (omega (arith, c.loop-effort.invariant.made, c.run.ensures.counted.made)) (c.run.ensures.counted.limit ∙ c.loop-effort.invariant.limit)
+    (c.in-Limit.ensures.same (λ e. subst is_filled (sym e) tt) ∙ c.loop-effort.invariant.same)
+
+pub returns-in-Memory-clause-counted : goal.returns-in-Memory-clause-counted
+returns-in-Memory-clause-counted g c =
+    counted_same c.args.allowance.now c.run.new.allowance (g.E.Feasible.state c.args.engine.now) (g.E.Feasible.state c.run.new.engine) (omega (arith, c.loop-effort.invariant.made, c.run.ensures.counted.made)) (c.run.ensures.counted.limit ∙ c.loop-effort.invariant.limit)
+    (c.in-Memory.ensures.same (λ e. subst is_filled (sym e) tt) ∙ c.loop-effort.invariant.same)

@@ -1,12 +1,15 @@
-use Rattle.std.proofs.Common.{◌≡◌}
+use Rattle.std.proofs.Common.{◌≡◌, ◌-◌, ◌≤◌}
 use Rattle.xw_fill.specs.Inner.Stack.{IsReady}
 use Rattle.xw_fill.proofs.named_lights.run_again.Given as goal
 
 abbrev pub invariant-loop-effort : goal.invariant-loop-effort
 invariant-loop-effort g l = record {
   same : g.E.Feasible.state l.engine ≡ g.E.Feasible.state l.initial.engine;
+  made : l.initial.allowance.made ≤ l.allowance.made;
+  until : l.allowance.until ≡ l.initial.allowance.until;
+  limit : l.allowance.limit ≡ l.initial.allowance.limit;
   ready : IsReady g.E.Searchable.saved l.stack (g.E.Feasible.state l.engine);
 }
 
 abbrev pub decreases-loop-effort : goal.decreases-loop-effort
-decreases-loop-effort g l = l.effort.left
+decreases-loop-effort g l = l.allowance.until - l.allowance.made

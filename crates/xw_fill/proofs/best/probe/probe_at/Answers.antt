@@ -99,3 +99,33 @@ returns-clause-unchanged g c =
           let kept : now ≡ made = subst (λ (r : Result Filling AllocError). OnErr r (now ≡ made)) w.in-Err.is c.fill_planned-filling.ensures.unchanged in
           subst same (sym w.probe-is) (back_at before now after c.args.grade c.args.least formed c.requires.least (kept ∙ c.choose_least.ensures) (c.choose_least-2.ensures ∙ ap (λ e. at_least (g.E.Feasible.state e) c.args.least) w.engine-is))
     ]
+
+pub returns-clause-counted : goal.returns-clause-counted
+returns-clause-counted g c =
+    let before = g.E.Feasible.state c.args.engine.now in
+    let now = g.E.Feasible.state c.fill_planned-filling.new.engine in
+    let after = g.E.Feasible.state c.choose_least-2.new.engine in
+    let formed = g.met.E.Feasible.well_formed c.args.engine.now in
+    let counted = c.fill_planned-filling.ensures.counted in
+    let least = c.args.least in
+    record {
+      made = counted.made;
+      limit = counted.limit;
+      idle = λ none.
+          let kept : now ≡ at_least before c.args.grade = counted.idle none ∙ c.choose_least.ensures in
+          elim c.match-filling.branch [
+            | in-Ok+in-Filled w ↦ back_at before now after c.args.grade least formed c.requires.least kept (c.choose_least-2.ensures ∙ ap (λ e. at_least (g.E.Feasible.state e) least) w.engine-is ∙ w.greatest_grade.ensures.state least)
+            | in-Ok+in-NoFill w ↦ back_at before now after c.args.grade least formed c.requires.least kept (c.choose_least-2.ensures ∙ ap (λ e. at_least (g.E.Feasible.state e) least) w.engine-is)
+            | in-Ok+in-Limit w ↦ back_at before now after c.args.grade least formed c.requires.least kept (c.choose_least-2.ensures ∙ ap (λ e. at_least (g.E.Feasible.state e) least) w.engine-is)
+            | in-Err w ↦ back_at before now after c.args.grade least formed c.requires.least kept (c.choose_least-2.ensures ∙ ap (λ e. at_least (g.E.Feasible.state e) least) w.engine-is)
+          ];
+    }
+
+pub returns-clause-limit : goal.returns-clause-limit
+returns-clause-limit g c is =
+    elim c.match-filling.branch [
+      | in-Ok+in-Filled w ↦ let e = sym w.probe-is ∙ is in cc
+      | in-Ok+in-NoFill w ↦ let e = sym w.probe-is ∙ is in cc
+      | in-Ok+in-Limit w ↦ c.fill_planned-filling.ensures.limit (w.in-Ok.is ∙ ap Ok w.in-Limit.is)
+      | in-Err w ↦ let e = sym w.probe-is ∙ is in cc
+    ]

@@ -3,10 +3,12 @@ use Rattle.std.proofs.lemmas.List.{length-append}
 use Rattle.xw_letters.proofs.LetterSetLemmas.{has-none}
 use Rattle.xw_feas.specs.Board.{board_of}
 use Rattle.xw_fill.specs.Position.{Position, position_of}
+use Rattle.xw_fill.specs.Allowance.{IsCounted}
 use Rattle.xw_fill.specs.Search.{light_count}
 use Rattle.xw_fill.specs.NamedFill.{flags, entry_in}
 use Rattle.xw_fill.specs.Inner.Progress.{entries_of, end_of, HasNone, IsOpen, IsTried}
 use Rattle.xw_fill.specs.declared.named_lights.frame.Frame.{Frame}
+use Rattle.xw_fill.proofs.AllowanceLemmas.{counted-none, counted_letters, counted_some}
 use Rattle.xw_fill.proofs.Shaped.{shaped}
 use Rattle.xw_fill.proofs.StateLemmas.{DiffersInEntries-itself, DiffersInEntries-then}
 use Rattle.xw_fill.proofs.NamedFills.{open_is_fill}
@@ -39,7 +41,9 @@ loop-letter-init g c =
       stands = c.requires.stands;
       root = refl;
       underway = subst (λ items. IsUnderway named start items c.in-Some.first c.new-tried.result start) (sym c.requires.empty) (underway_at named start is [] c.in-Some.first c.new-tried.result start tt c.requires.open (DiffersInEntries-itself start, refl) target chosen.1 c.new-tried.ensures has-none);
-      left = omega arith;
+      stand = omega (arith, ap length c.requires.empty);
+      until = refl;
+      limit = refl;
     }
 
 pub next_letter-requires : goal.next_letter-requires
@@ -58,9 +62,6 @@ returns-in_default-back-clause-start g c = c.back.ensures.start ∙ c.loop-lette
 pub returns-in_default-back-clause-entries : goal.returns-in_default-back-clause-entries
 returns-in_default-back-clause-entries g c =
     DiffersInEntries-then (g.E.Feasible.state c.args.engine.now) (g.E.Feasible.state c.loop-letter.engine) (g.E.Feasible.state c.back.new.engine) c.loop-letter.invariant.underway.at.0 c.back.ensures.entries
-
-pub returns-in_default-back-clause-left : goal.returns-in_default-back-clause-left
-returns-in_default-back-clause-left g c = c.loop-letter.invariant.left
 
 pub returns-in_default-back-clause-no_fill : goal.returns-in_default-back-clause-no_fill
 returns-in_default-back-clause-no_fill g c is_none =
@@ -85,17 +86,19 @@ loop-letter-preserved-in_default-next_letter g c =
       root = c.back.ensures.start ∙ inv.root;
       underway = underway_back named start is c.loop-letter.stack.placements.items c.back.new.self.placements.items c.in-Some-back.below c.loop-letter.cell c.loop-letter.tried c.with_letter-tried.result
           (g.E.Feasible.state c.loop-letter.engine) (g.E.Feasible.state c.back.new.engine) inv.underway c.in-Some-back.ensures.placements c.in_default-next_letter.ensures.none c.with_letter-tried.ensures c.in-Some-back.ensures.back c.back.ensures.entries;
-      left = inv.left;
+      stand = omega (arith, inv.stand, ap length c.in-Some-back.ensures.placements, length-append c.back.new.self.placements.items (c.in-Some-back.below ∷ []));
+      until = inv.until;
+      limit = inv.limit;
     }
 
-pub returns-then-effort-eq0-clause-ready : goal.returns-then-effort-eq0-clause-ready
-returns-then-effort-eq0-clause-ready g c = c.loop-letter.invariant.stands.ready
+pub returns-then-is_spent-clause-ready : goal.returns-then-is_spent-clause-ready
+returns-then-is_spent-clause-ready g c = c.loop-letter.invariant.stands.ready
 
-pub returns-then-effort-eq0-clause-start : goal.returns-then-effort-eq0-clause-start
-returns-then-effort-eq0-clause-start g c = c.loop-letter.invariant.root
+pub returns-then-is_spent-clause-start : goal.returns-then-is_spent-clause-start
+returns-then-is_spent-clause-start g c = c.loop-letter.invariant.root
 
-pub returns-then-effort-eq0-clause-entries : goal.returns-then-effort-eq0-clause-entries
-returns-then-effort-eq0-clause-entries g c = c.loop-letter.invariant.underway.at.0
+pub returns-then-is_spent-clause-entries : goal.returns-then-is_spent-clause-entries
+returns-then-is_spent-clause-entries g c = c.loop-letter.invariant.underway.at.0
 
 pub try_letter-requires-clause-can : goal.try_letter-requires-clause-can
 try_letter-requires-clause-can g c =
@@ -121,9 +124,6 @@ pub returns-in_default-try_letter-clause-entries : goal.returns-in_default-try_l
 returns-in_default-try_letter-clause-entries g c =
     DiffersInEntries-then (g.E.Feasible.state c.args.engine.now) (g.E.Feasible.state c.loop-letter.engine) (g.E.Feasible.state c.try_letter.new.engine) c.loop-letter.invariant.underway.at.0 c.try_letter.ensures.entries
 
-pub returns-in_default-try_letter-clause-left : goal.returns-in_default-try_letter-clause-left
-returns-in_default-try_letter-clause-left g c = omega (arith, c.loop-letter.invariant.left)
-
 pub returns-then-fails-cut-clause-start : goal.returns-then-fails-cut-clause-start
 returns-then-fails-cut-clause-start g c = c.try_letter.ensures.start ∙ c.loop-letter.invariant.root
 
@@ -131,18 +131,12 @@ pub returns-then-fails-cut-clause-entries : goal.returns-then-fails-cut-clause-e
 returns-then-fails-cut-clause-entries g c =
     DiffersInEntries-then (g.E.Feasible.state c.args.engine.now) (g.E.Feasible.state c.loop-letter.engine) (g.E.Feasible.state c.try_letter.new.engine) c.loop-letter.invariant.underway.at.0 c.try_letter.ensures.entries
 
-pub returns-then-fails-cut-clause-left : goal.returns-then-fails-cut-clause-left
-returns-then-fails-cut-clause-left g c = omega (arith, c.loop-letter.invariant.left)
-
-pub returns-then-fails-cut-clause-cut : goal.returns-then-fails-cut-clause-cut
-returns-then-fails-cut-clause-cut g c is_cut = omega (arith, c.loop-letter.invariant.left, c.if-effort-eq0.false)
-
 pub loop-letter-smaller-then-not-stands : goal.loop-letter-smaller-then-not-stands
 loop-letter-smaller-then-not-stands g c =
     let stack = c.loop-letter.stack.placements.items in
     let frame : Frame = record { cell = c.loop-letter.cell; letter = c.in-Some-next_letter.letter; tried = c.loop-letter.tried } in
     let led = subst (λ b. IsTried (flags c.args.plan.now.watched.items) frame b (g.E.Feasible.state c.loop-letter.engine) stack (g.E.Feasible.state c.try_letter.new.engine) c.try_letter.new.stack.placements.items) c.if-not-stands.true c.in-Ok.ensures.tried in
-    omega (arith, c.if-effort-eq0.false, ap length led.0)
+    omega (arith, c.try_letter.ensures.made, c.try_letter.ensures.until, c.is_spent.ensures.left c.if-is_spent.false, ap length led.0)
 
 pub loop-letter-preserved-then-not-stands : goal.loop-letter-preserved-then-not-stands
 loop-letter-preserved-then-not-stands g c =
@@ -161,7 +155,9 @@ loop-letter-preserved-then-not-stands g c =
       root = c.try_letter.ensures.start ∙ c.loop-letter.invariant.root;
       underway = subst (λ items. IsUnderway named start items c.loop-letter.cell c.with_letter-tried-then-not-stands.result after) (sym led.0)
           (underway_tried named start is stack frame c.with_letter-tried-then-not-stands.result now led.2.0 after c.args.plan.now.watched.items underway may c.requires.plan.watched.are led.2.1 led.2.2 led.1 c.with_letter-tried-then-not-stands.ensures);
-      left = omega (arith, c.loop-letter.invariant.left);
+      stand = omega (arith, c.loop-letter.invariant.stand, c.try_letter.ensures.made, ap length led.0);
+      until = c.try_letter.ensures.until ∙ c.loop-letter.invariant.until;
+      limit = c.try_letter.ensures.limit ∙ c.loop-letter.invariant.limit;
     }
 
 pub next_cell-requires-in-loop-letter : goal.next_cell-requires-in-loop-letter
@@ -178,9 +174,6 @@ returns-in_default-next_cell-clause-start g c = c.try_letter.ensures.start ∙ c
 pub returns-in_default-next_cell-clause-entries : goal.returns-in_default-next_cell-clause-entries
 returns-in_default-next_cell-clause-entries g c =
     DiffersInEntries-then (g.E.Feasible.state c.args.engine.now) (g.E.Feasible.state c.loop-letter.engine) (g.E.Feasible.state c.try_letter.new.engine) c.loop-letter.invariant.underway.at.0 c.try_letter.ensures.entries
-
-pub returns-in_default-next_cell-clause-left : goal.returns-in_default-next_cell-clause-left
-returns-in_default-next_cell-clause-left g c = omega (arith, c.loop-letter.invariant.left)
 
 pub returns-in_default-next_cell-clause-filled : goal.returns-in_default-next_cell-clause-filled
 returns-in_default-next_cell-clause-filled g c is_filled =
@@ -203,7 +196,7 @@ loop-letter-smaller g c =
     let stack = c.loop-letter.stack.placements.items in
     let frame : Frame = record { cell = c.loop-letter.cell; letter = c.in-Some-next_letter.letter; tried = c.loop-letter.tried } in
     let led = subst (λ b. IsTried (flags c.args.plan.now.watched.items) frame b (g.E.Feasible.state c.loop-letter.engine) stack (g.E.Feasible.state c.try_letter.new.engine) c.try_letter.new.stack.placements.items) c.if-not-stands.false c.in-Ok.ensures.tried in
-    omega (arith, c.if-effort-eq0.false, ap length led.0, length-append stack (frame ∷ []))
+    omega (arith, c.try_letter.ensures.made, c.try_letter.ensures.until, c.is_spent.ensures.left c.if-is_spent.false, ap length led.0, length-append stack (frame ∷ []))
 
 pub loop-letter-preserved : goal.loop-letter-preserved
 loop-letter-preserved g c =
@@ -226,5 +219,37 @@ loop-letter-preserved g c =
       root = c.try_letter.ensures.start ∙ c.loop-letter.invariant.root;
       underway = subst (λ items. IsUnderway named start items cell c.new-tried-in-loop-letter.result after) (sym led.0)
           (underway_at named start is (stack ++ frame ∷ []) cell c.new-tried-in-loop-letter.result after on.1 on.0 on.2 target chosen.1 c.new-tried-in-loop-letter.ensures has-none);
-      left = omega (arith, c.loop-letter.invariant.left);
+      stand = omega (arith, c.loop-letter.invariant.stand, c.try_letter.ensures.made, ap length led.0, length-append stack (frame ∷ []));
+      until = c.try_letter.ensures.until ∙ c.loop-letter.invariant.until;
+      limit = c.try_letter.ensures.limit ∙ c.loop-letter.invariant.limit;
     }
+
+pub returns-in_default-clause-counted : goal.returns-in_default-clause-counted
+returns-in_default-clause-counted g c = counted-none c.args.allowance.now (g.E.Feasible.state c.args.engine.now)
+
+pub returns-in_default-back-clause-counted : goal.returns-in_default-back-clause-counted
+returns-in_default-back-clause-counted g c =
+    let start = g.E.Feasible.state c.args.engine.now in
+    let at = c.loop-letter.invariant.underway.at in
+    subst (λ engine. IsCounted c.args.allowance.now c.loop-letter.allowance start (g.E.Feasible.state engine)) (sym c.in_default-back.ensures.same)
+    (counted_letters c.args.allowance.now c.loop-letter.allowance start (g.E.Feasible.state c.loop-letter.engine) c.loop-letter.stack.placements.items at.0 at.1 c.loop-letter.invariant.stand c.loop-letter.invariant.limit)
+
+pub returns-then-is_spent-clause-counted : goal.returns-then-is_spent-clause-counted
+returns-then-is_spent-clause-counted g c =
+    let at = c.loop-letter.invariant.underway.at in
+    counted_letters c.args.allowance.now c.loop-letter.allowance (g.E.Feasible.state c.args.engine.now) (g.E.Feasible.state c.loop-letter.engine) c.loop-letter.stack.placements.items at.0 at.1 c.loop-letter.invariant.stand c.loop-letter.invariant.limit
+
+pub returns-in_default-try_letter-clause-counted : goal.returns-in_default-try_letter-clause-counted
+returns-in_default-try_letter-clause-counted g c =
+    counted_some c.args.allowance.now c.try_letter.new.allowance (g.E.Feasible.state c.args.engine.now) (g.E.Feasible.state c.try_letter.new.engine) (omega (arith, c.loop-letter.invariant.stand, c.try_letter.ensures.made)) (c.try_letter.ensures.limit ∙ c.loop-letter.invariant.limit)
+
+pub returns-then-fails-cut-clause-counted : goal.returns-then-fails-cut-clause-counted
+returns-then-fails-cut-clause-counted g c =
+    counted_some c.args.allowance.now c.try_letter.new.allowance (g.E.Feasible.state c.args.engine.now) (g.E.Feasible.state c.try_letter.new.engine) (omega (arith, c.loop-letter.invariant.stand, c.try_letter.ensures.made)) (c.try_letter.ensures.limit ∙ c.loop-letter.invariant.limit)
+
+pub returns-in_default-next_cell-clause-counted : goal.returns-in_default-next_cell-clause-counted
+returns-in_default-next_cell-clause-counted g c =
+    counted_some c.args.allowance.now c.try_letter.new.allowance (g.E.Feasible.state c.args.engine.now) (g.E.Feasible.state c.try_letter.new.engine) (omega (arith, c.loop-letter.invariant.stand, c.try_letter.ensures.made)) (c.try_letter.ensures.limit ∙ c.loop-letter.invariant.limit)
+
+pub returns-then-fails-cut-clause-cut : goal.returns-then-fails-cut-clause-cut
+returns-then-fails-cut-clause-cut g c is_cut = omega (arith, c.loop-letter.invariant.stand, c.try_letter.ensures.made)

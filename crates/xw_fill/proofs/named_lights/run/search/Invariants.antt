@@ -1,4 +1,4 @@
-use Rattle.std.proofs.Common.{◌≡◌, ◌≤◌, ◌+◌, ◌*◌, length}
+use Rattle.std.proofs.Common.{◌≡◌, ◌≤◌, ◌+◌, ◌-◌, ◌*◌, length}
 use Rattle.xw_fill.specs.NamedFill.{flags}
 use Rattle.xw_fill.specs.Inner.Progress.{IsLetterEntered}
 use Rattle.xw_fill.specs.Inner.Stack.{start_of, StandsAt}
@@ -13,8 +13,10 @@ invariant-loop-letter g l =
       stands : StandsAt g.E.Searchable.saved IsLetterEntered l.stack now;
       root : start_of g.E.Searchable.saved l.stack ≡ start_of g.E.Searchable.saved l.initial.stack;
       underway : IsUnderway (flags l.plan.named.items) start l.stack.placements.items l.cell l.tried now;
-      left : l.effort.left ≤ l.initial.effort.left;
+      stand : l.initial.allowance.made + length l.stack.placements.items ≤ l.allowance.made;
+      until : l.allowance.until ≡ l.initial.allowance.until;
+      limit : l.allowance.limit ≡ l.initial.allowance.limit;
     }
 
 abbrev pub decreases-loop-letter : goal.decreases-loop-letter
-decreases-loop-letter g l = 2 * l.effort.left + length l.stack.placements.items
+decreases-loop-letter g l = 2 * (l.allowance.until - l.allowance.made) + length l.stack.placements.items

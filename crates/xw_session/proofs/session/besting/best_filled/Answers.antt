@@ -1,4 +1,4 @@
-use Rattle.std.proofs.Common.{List, ◌∙◌, subst}
+use Rattle.std.proofs.Common.{List, ◌∙◌, subst, arith}
 use Rattle.std.specs.Prelude.{IfOk}
 use Rattle.xw_grid.specs.declared.cell.LightName.{LightName}
 use Rattle.xw_fill.specs.NamedFill.{is_named}
@@ -9,3 +9,8 @@ pub returns-clause-ok : goal.returns-clause-ok
 returns-clause-ok g c =
     let before = g.E.Feasible.state c.args.engine.now in
     subst (λ (names : List LightName). IfOk c.best_fill.result (IsBest (is_named before names) before (g.E.Feasible.state c.best_fill.new.engine))) (c.as_slice.ensures.value ∙ c.in_ok-names.ensures.ok) c.best_fill.ensures.ok
+
+pub returns-clause-idle : goal.returns-clause-idle
+returns-clause-idle g c none =
+    let made = c.best_fill.new.allowance in
+    c.best_fill.ensures.counted.idle (omega (arith, none, c.best_fill.ensures.counted.limit, c.new-allowance.ensures.made, c.new-allowance.ensures.limit, made.within, made.shared))

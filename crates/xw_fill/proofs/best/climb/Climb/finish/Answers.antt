@@ -3,13 +3,10 @@ use Rattle.xw_fill.specs.NamedFill.{flags}
 use Rattle.xw_fill.proofs.ClimbLemmas.{none_left}
 use Rattle.xw_fill.proofs.best.climb.Climb.finish.Goals as goal
 
-pub returns-in-None : goal.returns-in-None
-returns-in-None g c =
+pub returns-in-None-clause-best : goal.returns-in-None-clause-best
+returns-in-None-clause-best g c =
     let state = g.E.Feasible.state c.args.engine.now in
-    let climb = c.args.self.now in
-    record {
-      best = (
-        none_left (flags climb.plan.named.items) state climb.bound (g.met.E.Feasible.well_formed c.args.engine.now) c.requires.climbing.bound (subst (λ n. climb.bound ≤ n) c.requires.climbing.least c.if-self.true),
-        refl,
-      );
-    }
+    let climb = c.args.self.now in (
+      none_left (flags climb.plan.named.items) state climb.bound (g.met.E.Feasible.well_formed c.args.engine.now) c.requires.climbing.bound (subst (λ n. climb.bound ≤ n) c.requires.climbing.least c.if-self.true),
+      refl,
+    )

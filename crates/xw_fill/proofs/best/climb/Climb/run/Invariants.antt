@@ -1,10 +1,13 @@
 use Rattle.std.proofs.Common.{◌≡◌}
-use Rattle.xw_fill.specs.Inner.Climbing.{IsClimbing}
+use Rattle.xw_fill.specs.Inner.Climbing.{IsClimbing, HasClimbed, work_left}
 use Rattle.xw_fill.proofs.best.climb.Climb.run.Given as goal
 
-abbrev pub invariant-loop-pass : goal.invariant-loop-pass
-invariant-loop-pass g l = record {
+abbrev pub invariant-loop-self : goal.invariant-loop-self
+invariant-loop-self g l = record {
   climbing : IsClimbing g.E.Searchable.saved l.self (g.E.Feasible.state l.engine);
   same : g.E.Feasible.state l.engine ≡ g.E.Feasible.state l.initial.engine;
-  plan : l.self.plan ≡ l.initial.self.plan;
+  climbed : HasClimbed g.E.Searchable.saved l.initial.self l.self l.initial.allowance l.allowance;
 }
+
+abbrev pub decreases-loop-self : goal.decreases-loop-self
+decreases-loop-self g l = work_left l.self l.allowance

@@ -1,0 +1,27 @@
+use Rattle.std.proofs.Common.{◌≡◌, ◌-◌, arith, subst}
+use Rattle.xw_feas.specs.Board.{board_of}
+use Rattle.xw_fill.specs.Filling.{IsFilling}
+use Rattle.xw_fill.proofs.Shaped.{shaped}
+use Rattle.xw_fill.proofs.LawLemmas.{filling_idle}
+use Rattle.xw_fill.proofs.Naming.{filled_all}
+use Rattle.xw_fill.proofs.named_lights.fill_by_words.Goals as goal
+
+pub returns-clause-counted : goal.returns-clause-counted
+returns-clause-counted g c =
+    let before = g.E.Feasible.state c.args.engine.now in
+    let after = g.E.Feasible.state c.fill.new.engine in
+    let formed = g.met.E.Feasible.well_formed c.args.engine.now in
+    record {
+      made = omega (arith, c.count_all.ensures.made, c.args.allowance.now.within);
+      limit = c.count_all.ensures.limit;
+      idle = λ none. filling_idle c.share.result before after c.in_ok-filling.filling (shaped (board_of before.grid) formed.board) (omega (arith, none, c.count_all.ensures.made, c.share.ensures)) c.in_ok-filling.ensures.found;
+    }
+
+pub returns-clause-found : goal.returns-clause-found
+returns-clause-found g c =
+    let share : c.share.result ≡ c.args.allowance.now.until - c.args.allowance.now.made = omega (arith, c.share.ensures) in
+    subst (λ n. IsFilling n (g.E.Feasible.state c.args.engine.now) (g.E.Feasible.state c.fill.new.engine) c.in_ok-filling.filling) share c.in_ok-filling.ensures.found
+
+pub returns-clause-ok : goal.returns-clause-ok
+returns-clause-ok g c =
+    filled_all c.share.result (g.E.Feasible.state c.args.engine.now) (g.E.Feasible.state c.fill.new.engine) c.in_ok-filling.filling (g.met.E.Feasible.well_formed c.args.engine.now).board c.in_ok-filling.ensures.found c.in_ok-filling.ensures.fill
