@@ -5,7 +5,7 @@ import subprocess
 import time
 
 from samples import PLAIN
-from steps import FAILED, SECONDS, absent, compare, differs, end, exists, holds, run, write
+from steps import FAILED, FORMAT, SECONDS, absent, compare, differs, end, exists, holds, run, write
 
 
 def wait_until(is_so, what):
@@ -89,6 +89,20 @@ CASES = {
         holds("kept.puz", b"old"),
     ],
     "input_fault_of_a_session": [*FILLED, cannot_read("edit --from plain --save saved.xw --to kept.puz", "input fault"), exists("saved.xw"), holds("kept.puz", b"old")],
+    # A device without an end is refused, and one that ends is read.
+    "endless_device": [
+        run("check /dev/zero", errors=b"xw: /dev/zero: cannot read\n", status=FAILED),
+        run("check --explain /dev/full", errors=b"xw: /dev/full: cannot read\nxw: File too large\n", status=FAILED),
+        run("edit --dict /dev/zero", errors=b"xw: /dev/zero: cannot read\n", status=FAILED),
+        run("edit --resume /dev/zero", errors=b"xw: /dev/zero: cannot read\n", status=FAILED),
+        run("edit --journal /dev/full", errors=b"xw: /dev/full: cannot write\n", status=FAILED),
+    ],
+    "device_that_ends": [
+        run("check /dev/null", errors=b"xw: /dev/null: Header\n", status=FORMAT),
+        run("edit --dict /dev/null", errors=b"xw: /dev/null: 0 added, 0 skipped\n"),
+        run("edit --dict /dev/stdin", b"cat\n", errors=b"xw: /dev/stdin: 1 added, 0 skipped\n"),
+        run("check /dev/stdin", PLAIN, output=b"puz 2x2 4 lights\n"),
+    ],
     # A fault after lines that were answered.
     "input_fault, after answers": [*FILLED, breaks_off, holds("kept.puz", b"old")],
 }

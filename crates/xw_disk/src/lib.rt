@@ -8,6 +8,7 @@ pub mod identity;
 pub mod locks;
 pub mod log;
 mod opening;
+mod reading;
 pub mod replacing;
 pub mod system;
 

@@ -10,9 +10,9 @@ use crate::identity::is_one_file;
 use crate::locks::{Held, Locks, System, hold};
 use crate::log::DiskLog;
 use crate::opening::{self, Failed, in_use, unreadable, unwritable};
+use crate::reading;
 use crate::replacing::{replace, replace_like};
 use std::alloc::AllocError;
-use std::fs;
 use std::io::{self, ErrorKind};
 
 /// The name that stands for standard input.
@@ -65,7 +65,7 @@ fn bytes_of<R: System + AllocGlobal>(rt: &R, name: &str) -> io::Result<Vec<u8>> 
     if name == INPUT {
         rt.read_input()
     } else {
-        fs::read(rt, name)
+        reading::read(rt, name)
     }
 }
 
