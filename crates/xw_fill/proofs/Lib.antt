@@ -17,6 +17,7 @@ pub mod Trail
 pub mod Searching
 pub mod SuggestingLemmas
 pub mod ChoiceLemmas
+pub mod Uncrossed
 pub mod ListingLemmas
 pub mod LawLemmas
 pub mod Frames
