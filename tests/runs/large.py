@@ -50,7 +50,36 @@ LARGE = b"".join(
     ]
 )
 
+# Blocks of a grid of 255 by 255, each with a title and a clue after it.
+SPOTS = [(row, column) for row in range(3, 255, 2) for column in range(5, 255, 60)]
+TOLD = b"size 255 255\n" + b"".join(
+    b"block %d %d\ntitle T%d\nclue 1 across C%d\n" % (row, column, index, index) for index, (row, column) in enumerate(SPOTS)
+)
+
 CASES = {
+    "blocks_between_clues_resumed": [
+        write("told.xw", TOLD),
+        run(
+            "edit --resume told.xw",
+            b"texts\nshow\n",
+            output=b"title T%d\nclue 1 across C%d\nok\n" % (len(SPOTS) - 1, len(SPOTS) - 1)
+            + b"".join(b" ".join(b"#" if (row, column) in SPOTS else b"-" for column in range(1, 256)) + b"\n" for row in range(1, 256))
+            + b"ok\n",
+        ),
+    ],
+    # Two lights that no other light crosses: all words of one leave the same to the other.
+    "many_choices_uncrossed": [
+        write("words", words(17576)),
+        run(
+            "edit --dict words",
+            b"size 5 3\n" + cells("block", [2], range(1, 6)) + b"choices 1 across 999999\nset 3 1 A\nset 3 3 B\nchoices 1 across 2\nset 3 2 B\n"
+            + b"set 3 4 C\nset 3 5 D\nchoices 1 across 2 ABAAC\nsize 6 5\nchoices 1 across 9\n",
+            output=times(6)
+            + words(17576).replace(b"\n", b" 17576\n")
+            + b"ok\nok\nok\nABAAA 676\nABAAB 676\nok\nok\nok\nok\nABAAC done\nABAAD done\nok\nok\nok\n",
+            errors=b"xw: words: 17576 added, 0 skipped\n",
+        ),
+    ],
     # A grid of 21 by 21 with 102 lights: four in each row, and one in each column without blocks. A bar is set and
     # removed, a search runs, and the grid is replaced. No word is known, so the grid has no fill.
     "many_lights": [

@@ -67,13 +67,32 @@ EDITS = (
 )
 
 
+def mixed():
+    """Returns edits of the grid with other lines between them: each with the name of its refusal, if it is refused."""
+    yield from [(b"size 7 7", None), (b"# a note", None)]
+    for row in (1, 2, 3, 5, 6, 7):
+        yield from [(b"block %d 4" % row, None), (b"title Turn %d" % row, None), (b"clue 1 across Told %d" % row, None), (b"", None)]
+        yield from [(b"set %d 1 A" % row, None), (b"lights", None), (b"circle %d 2" % row, None), (b"bar %d 5 right" % row, None)]
+        yield from [(b"text clue %d 1 down One\\nTwo" % row, None), (b"place 1 across C%cT" % (64 + row), None), (b"dups", None)]
+        if row == 5:
+            yield from [(b"set 9 9 A", b"OutOfGrid"), (b"clue 99 down No", b"NoLight"), (b"circle 5 4", b"OnBlock"), (b"set 1 1 7", b"BadLetter")]
+            yield from [(b"place 1 across FOUR", b"PlaceLength"), (b"title \0", b"NulByte"), (b"text clue 8 1 down No", b"OutOfGrid")]
+            yield from [(b"letters 5 4", b"OnBlock"), (b"words 99 down", b"NoLight")]
+    yield from [(b"set 4 %d %c" % (column, 64 + column), None) for column in range(1, 8)]
+    yield from [(b"erase 1 across", None), (b"clue 1 down Last", None), (b"clear 4 7", None), (b"watch on", None)]
+
+
+MIXED = list(mixed())
+
+
 def replayed_as_typed(lines, errors):
-    """Checks that a session that is resumed from lines is the same as one in which they were typed. Each line has one answer."""
+    """Checks that a session that is resumed from lines is the same as one in which their changes were typed, which have one answer each."""
 
     def step(room, program):
-        typed = call(room, program, "edit", lines + b"show\nrecord\n").stdout
+        typed = [line + b"\n" for line in lines.split(b"\n") if line and not line.startswith((b"#", b"lights", b"dups", b"letters", b"words"))]
+        answers = call(room, program, "edit", b"".join(typed) + b"show\nrecord\n").stdout
         (room / "mine.xw").write_bytes(lines)
-        output = typed.split(b"\n", lines.count(b"\n"))[-1]
+        output = answers.split(b"\n", len(typed))[-1]
         run("edit --resume mine.xw", b"show\nrecord\n", output, errors, REFUSED)(room, program)
 
     return [step]
@@ -92,6 +111,10 @@ CASES = {
     ),
     "lines_resumed, many edits of the grid": replayed_as_typed(
         EDITS, b"xw: mine.xw: line 20: Occupied\nxw: mine.xw: line 42: OutOfGrid\n"
+    ),
+    "lines_resumed, edits of the grid between other lines": replayed_as_typed(
+        b"".join(line + b"\n" for line, _ in MIXED),
+        b"".join(b"xw: mine.xw: line %d: %s\n" % (number, name) for number, (_, name) in enumerate(MIXED, 1) if name),
     ),
     "lines_resumed, none refused": resumed(b"size 2 1\n\nwatch on\n", b"show\n", output=b"- -\nok\n"),
     # The first line of a saved session is a note.

@@ -2,6 +2,7 @@
 use Rattle.std.specs.Prelude.{ℕ, Bool, List}
 use Rattle.xw_grid.specs.declared.cell.Cell.{Cell}
 use Rattle.xw_grid.specs.Clue.{ClueMap}
+use Rattle.xw_grid.specs.Grid.{Grid}
 use Rattle.xw_feas.specs.State.{State as EngineState}
 use Rattle.xw_grid.specs.Puzzle.{TextsShown}
 use Rattle.xw_commands.specs.declared.command.CellArg.{CellArg}
@@ -28,3 +29,7 @@ with_text_in texts Title text = record texts { title = text }
 with_text_in texts Author text = record texts { author = text }
 with_text_in texts Copyright text = record texts { copyright = text }
 with_text_in texts Notes text = record texts { notes = text }
+
+-- the state with another grid
+abbrev pub drawn : State → Grid → State
+drawn state grid = record state { engine = record state.engine { grid = grid } }

@@ -3,7 +3,6 @@
 
 mod lookup;
 pub mod opening;
-mod redrawing;
 pub mod resuming;
 pub mod saving;
 pub mod session;

@@ -83,7 +83,7 @@ fn redo<F: Searchable>(
 }
 
 /// Writes a text. Write errors are ignored.
-fn tell<E: Sink>(errors: &mut E, text: &[u8])
+pub fn tell<E: Sink>(errors: &mut E, text: &[u8])
     ensures { Tells E.transcript E.failures errors.old errors.new text.now }
 {
     let _ = device::write_all(errors, text);
@@ -134,7 +134,8 @@ fn resume_line<F: Searchable, E: Sink>(
 
 /// Executes the lines of a session file without writing their answers. Reports each refused line on `errors`, in the
 /// form `xw: FILE: line N: NAME`. Returns the number of refused lines. Stops at the first line that is not a command,
-/// and if an allocation fails. Lines in a row that edit nothing but the grid update the engine once.
+/// and if an allocation fails. Lines in a row that are not refused, and that neither ask the engine nor edit the
+/// dictionary, update the engine once.
 pub fn resume<F: Searchable, E: Sink>(
     alloc: Global,
     session: &mut Session<F>,
@@ -147,8 +148,9 @@ pub fn resume<F: Searchable, E: Sink>(
     let mut rest = text;
     let mut number = 0;
     let mut refused = 0;
+    let mut singly = 0;
     while !rest.is_empty() {
-        if let Some((taken, after)) = session.redraw(rest) {
+        if let Some((taken, after)) = session.redraw_if_many(rest, &mut singly) {
             number += taken;
             rest = after;
             continue;

@@ -11,6 +11,7 @@ mod putting;
 mod queries;
 mod reasoning;
 mod recording;
+mod redrawing;
 mod tallying;
 mod telling;
 
@@ -148,6 +149,22 @@ fn copy_texts(texts: &Texts) -> Result<Texts, GridFault>
     })
 }
 
+/// Returns the cell of a grid at a row and column. Returns `OutOfGrid` if it is not in the grid.
+pub(crate) fn cell_in(grid: &Grid, spot: CellArg) -> Result<Cell, Refusal>
+    ensures ok { IfOk result (λ cell. (cell ≡ cell_of spot) × (is_inside grid.now cell ≡ true)) }
+    ensures refused { IfErr result (λ refusal. (refusal ≡ Refusal.Grid GridFault.OutOfGrid) × (is_inside grid.now (cell_of spot) ≡ false)) }
+{
+    let rows = 1..=u64::from(grid.height());
+    let cols = 1..=u64::from(grid.width());
+    if !rows.contains(&spot.row) || !cols.contains(&spot.col) {
+        return Err(Refusal::Grid(GridFault::OutOfGrid));
+    }
+    Ok(Cell {
+        row: spot.row as u32,
+        col: spot.col as u32,
+    })
+}
+
 impl<E: Feasible> Session<E> {
     ghost use Rattle.xw_commands.specs.declared.command.Command.TheVariants as commands;
 
@@ -241,16 +258,7 @@ impl<E: Feasible> Session<E> {
         ensures ok { IfOk result (λ cell. (cell ≡ cell_of spot) × (is_inside self.now.engine.grid cell ≡ true)) }
         ensures refused { IfErr result (λ refusal. (refusal ≡ Refusal.Grid GridFault.OutOfGrid) × (is_inside self.now.engine.grid (cell_of spot) ≡ false)) }
     {
-        let grid = self.engine.grid();
-        let rows = 1..=u64::from(grid.height());
-        let cols = 1..=u64::from(grid.width());
-        if !rows.contains(&spot.row) || !cols.contains(&spot.col) {
-            return Err(Refusal::Grid(GridFault::OutOfGrid));
-        }
-        Ok(Cell {
-            row: spot.row as u32,
-            col: spot.col as u32,
-        })
+        cell_in(self.engine.grid(), spot)
     }
 }
 

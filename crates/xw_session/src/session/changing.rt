@@ -1,18 +1,20 @@
 //! Commands that change the grid's size, texts, clues, circles or the watch.
-ghost use Rattle.std.specs.Prelude.{◌≡◌, IfOk, IsOk, IsOkUnless, [], true, false};
+ghost use Rattle.std.specs.Prelude.{◌≡◌, IfOk, IfErr, OnOk, OnErr, IsOk, IsOkUnless, [], Some, Err, true, false, not};
+ghost use Rattle.xw_grid.specs.Grid.{Grid as AnyGrid, is_inside, is_open as is_open_cell};
+ghost use Rattle.xw_grid.specs.Clue.{is_circled, with_circle};
 ghost use Rattle.xw_answers.specs.Escape.{has_nul as has_nul_byte};
-ghost use Rattle.xw_session.specs.Reply.{light_named as light_named_so};
-ghost use Rattle.xw_session.specs.State.{with_text_in};
+ghost use Rattle.xw_session.specs.Reply.{light_named as light_named_so, circle_toggled};
+ghost use Rattle.xw_session.specs.State.{State as AnyState, cell_of, drawn, with_text_in};
 ghost use Rattle.xw_session.specs.Answer.{Edits};
 
 use crate::lookup::light_name;
-use crate::session::Session;
+use crate::session::{Session, cell_in};
 use std::alloc::Global;
 use xw_answers::lookup::light_named;
 use xw_answers::refusal::Refusal;
 use xw_commands::command::{CellArg, LightArg, TextField};
 use xw_feas::feasible::Feasible;
-use xw_grid::{Circles, Clues, Grid, GridFault, Light};
+use xw_grid::{Cell, Circles, Clues, Grid, GridFault, Light};
 
 /// Returns whether a text has a NUL.
 pub(crate) fn has_nul(text: &[u8]) -> bool
@@ -31,6 +33,18 @@ fn kept(alloc: Global, text: &[u8]) -> Result<Vec<u8>, GridFault>
         return Ok(Vec::new(alloc));
     }
     Ok(Vec::from_slice(alloc, text)?)
+}
+
+/// Returns the cell at a row and column, which must be an open one. Returns `OutOfGrid`, then `OnBlock`.
+pub(crate) fn circle_cell(grid: &Grid, spot: CellArg) -> Result<Cell, Refusal>
+    ensures ok { IfOk result (λ cell. (cell ≡ cell_of spot) × (is_inside grid.now (cell_of spot) ≡ true) × (is_open_cell grid.now (cell_of spot) ≡ true)) }
+    ensures refused { (state : AnyState) → state.engine.grid ≡ grid.now → IfErr result (λ refusal. circle_toggled state (cell_of spot) ≡ Err refusal) }
+{
+    let cell = cell_in(grid, spot)?;
+    if !grid.is_open(cell) {
+        return Err(Refusal::Grid(GridFault::OnBlock));
+    }
+    Ok(cell)
 }
 
 impl<E: Feasible> Session<E> {
@@ -63,9 +77,18 @@ impl<E: Feasible> Session<E> {
     pub(crate) fn set_clue(&mut self, named: LightArg, text: &[u8]) -> Result<(), Refusal>
         ensures { Edits self.old (commands.Clue named text.now) result self.new }
     {
-        let Some(light) = self.light(named) else {
-            return Err(Refusal::NoLight);
-        };
+        match self.light(named) {
+            Some(light) => self.keep_clue(light, text),
+            None => Err(Refusal::NoLight),
+        }
+    }
+
+    /// Replaces the clue of a light, which a grid other than the engine's may have.
+    pub(crate) fn keep_clue(&mut self, light: Light, text: &[u8]) -> Result<(), Refusal>
+        ensures done { (grid : AnyGrid) (named : LightArg) → light_named_so grid named ≡ Some light → Edits (drawn self.old grid) (commands.Clue named text.now) result (drawn self.new grid) }
+        ensures engine { self.new.engine ≡ self.old.engine }
+        ensures begun { self.new.begun ≡ self.old.begun }
+    {
         if has_nul(text) {
             return Err(Refusal::NulByte);
         }
@@ -76,13 +99,19 @@ impl<E: Feasible> Session<E> {
     pub(crate) fn toggle_circle(&mut self, spot: CellArg) -> Result<(), Refusal>
         ensures { Edits self.old (commands.Circle spot) result self.new }
     {
-        let cell = self.cell(spot)?;
-        if !self.engine.grid().is_open(cell) {
-            return Err(Refusal::Grid(GridFault::OnBlock));
-        }
-        let circled = self.circles.has(cell);
-        self.circles.set(cell, !circled)?;
+        let cell = circle_cell(self.engine.grid(), spot)?;
+        self.flip_circle(cell)?;
         Ok(())
+    }
+
+    /// Toggles the circle of a cell. Fails only if an allocation fails, and then changes nothing.
+    pub(crate) fn flip_circle(&mut self, cell: Cell) -> Result<(), GridFault>
+        ensures ok { OnOk result (self.new ≡ record self.old { circles = with_circle self.old.circles cell (not (is_circled self.old.circles cell)) }) }
+        ensures err { OnErr result (self.new ≡ self.old) }
+        ensures memory { IfErr result (λ fault. (fault ≡ GridFault.Memory) × (is_circled self.old.circles cell ≡ false)) }
+    {
+        let circled = self.circles.has(cell);
+        self.circles.set(cell, !circled)
     }
 
     /// Replaces a text of the puzzle.

@@ -1,6 +1,7 @@
 //! Answers `choices`.
-ghost use Rattle.std.specs.Prelude.{◌≡◌, ◌<◌, true, false, length, slice_index_or, [], ◌∷◌, Some, None};
+ghost use Rattle.std.specs.Prelude.{◌≡◌, ◌<◌, ℕ, true, false, length, slice_index_or, [], ◌∷◌, Some, None, IfSome};
 ghost use Rattle.xw_grid.specs.Light.{lights_of, index_named};
+ghost use Rattle.xw_fill.specs.Choices.{fewest_after as fewest_words_after};
 ghost use Rattle.xw_fill.specs.OfState.{light_count, is_entered as is_entered_light, IsTriedAt, spellings_at};
 ghost use Rattle.xw_lines.specs.Sends.{Sends};
 ghost use Rattle.xw_answers.specs.Text.{line_of};
@@ -16,7 +17,7 @@ use xw_answers::refusal::Refusal;
 use xw_answers::text::Pattern;
 use xw_commands::command::{LightArg, Text};
 use xw_feas::feasible::Feasible;
-use xw_fill::choices::{fewest_after, fewest_words};
+use xw_fill::choices::{fewest_after, fewest_after_any, fewest_words};
 use xw_fill::scan::{is_entered, light_at, name_at, next_word_index, word_count};
 use xw_letters::Letter;
 use xw_lines::device::{Sink, WriteFailed};
@@ -66,24 +67,77 @@ fn known_word<E: Feasible>(engine: &E, light: usize, index: usize) -> &[Letter]
     engine.bank().word(size, index)
 }
 
-/// Writes a feasible word with what it leaves. The word is placed and taken back before anything is written.
+/// Returns what a feasible word leaves. That is `any`, if all feasible words leave the same. Otherwise the word is placed
+/// and taken back.
+fn fewest_at<E: Feasible>(
+    engine: &mut E,
+    light: usize,
+    index: usize,
+    any: Option<Option<usize>>,
+) -> Option<usize>
+    requires tried { IsTriedAt (E.state engine.old) light index }
+    requires any { IfSome any (λ fewest. (index : ℕ) → IsTriedAt (E.state engine.old) light index
+        → fewest ≡ fewest_words_after (E.state engine.old) light (slice_index_or (spellings_at (E.state engine.old) light) index [])) }
+    ensures fewest { result ≡ fewest_words_after (E.state engine.old) light (slice_index_or (spellings_at (E.state engine.old) light) index []) }
+    ensures unchanged { E.state engine.new ≡ E.state engine.old }
+{
+    match any {
+        Some(fewest) => fewest,
+        None => fewest_after(engine, light, index),
+    }
+}
+
+/// Writes a feasible word with what it leaves, which is `any` if all feasible words leave the same.
 fn write_choice_at<E: Feasible, W: Sink>(
     sink: &mut W,
     engine: &mut E,
     light: usize,
     index: usize,
+    any: Option<Option<usize>>,
 ) -> Result<(), WriteFailed>
     requires tried { IsTriedAt (E.state engine.old) light index }
+    requires any { IfSome any (λ fewest. (index : ℕ) → IsTriedAt (E.state engine.old) light index
+        → fewest ≡ fewest_words_after (E.state engine.old) light (slice_index_or (spellings_at (E.state engine.old) light) index [])) }
     ensures sends { Sends W.transcript W.failures sink.old sink.new result (choice_line (E.state engine.old) light (slice_index_or (spellings_at (E.state engine.old) light) index [])) }
     ensures unchanged { E.state engine.new ≡ E.state engine.old }
 {
-    let fewest = fewest_after(engine, light, index);
+    let fewest = fewest_at(engine, light, index, any);
     write_choice(sink, known_word(engine, light, index), fewest)
+}
+
+/// Writes the first feasible words from an index on, at most `most`, of a light that is not wholly entered. `any` is
+/// what each of them leaves, if all leave the same. Leaves the engine's state as it was.
+fn write_choices<E: Feasible, W: Sink>(
+    sink: &mut W,
+    engine: &mut E,
+    light: usize,
+    first: Option<usize>,
+    most: u64,
+    any: Option<Option<usize>>,
+) -> Result<(), WriteFailed>
+    requires light { light < light_count (E.state engine.old) }
+    requires not_entered { is_entered_light (E.state engine.old) light ≡ false }
+    requires any { IfSome any (λ fewest. (index : ℕ) → IsTriedAt (E.state engine.old) light index
+        → fewest ≡ fewest_words_after (E.state engine.old) light (slice_index_or (spellings_at (E.state engine.old) light) index [])) }
+    ensures sends { Sends W.transcript W.failures sink.old sink.new result (choice_lines (E.state engine.old) light first most) }
+    ensures unchanged { E.state engine.new ≡ E.state engine.old }
+{
+    let mut from = first.unwrap_or(0);
+    let mut left = most;
+    while left > 0 {
+        let Some(index) = next_word_index(engine, light, from) else {
+            return Ok(());
+        };
+        write_choice_at(sink, engine, light, index, any)?;
+        from = index + 1;
+        left -= 1;
+    }
+    Ok(())
 }
 
 /// Writes the first feasible words from an index on, at most `most`, of a light that is not wholly entered. Leaves the
 /// engine's state as it was.
-fn write_choices<E: Feasible, W: Sink>(
+fn write_unentered<E: Feasible, W: Sink>(
     sink: &mut W,
     engine: &mut E,
     light: usize,
@@ -95,17 +149,8 @@ fn write_choices<E: Feasible, W: Sink>(
     ensures sends { Sends W.transcript W.failures sink.old sink.new result (choice_lines (E.state engine.old) light first most) }
     ensures unchanged { E.state engine.new ≡ E.state engine.old }
 {
-    let mut from = first.unwrap_or(0);
-    let mut left = most;
-    while left > 0 {
-        let Some(index) = next_word_index(engine, light, from) else {
-            return Ok(());
-        };
-        write_choice_at(sink, engine, light, index)?;
-        from = index + 1;
-        left -= 1;
-    }
-    Ok(())
+    let any = fewest_after_any(engine, light);
+    write_choices(sink, engine, light, first, most, any)
 }
 
 /// Writes the word of a wholly entered light, if it is feasible and at least one word is asked for.
@@ -142,7 +187,7 @@ fn write_weighed<E: Feasible, W: Sink>(
     if is_entered(engine, light) {
         write_entered(sink, engine, light, most)
     } else {
-        write_choices(sink, engine, light, first, most)
+        write_unentered(sink, engine, light, first, most)
     }
 }
 

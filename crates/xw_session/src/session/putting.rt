@@ -4,14 +4,14 @@ ghost use Rattle.xw_answers.specs.Escape.{text_spelled};
 ghost use Rattle.xw_session.specs.Put.{target_of, has_target, text_at as text_at_target, with_text_at, with_piece};
 ghost use Rattle.xw_session.specs.Answer.{Edits};
 
-use crate::session::Session;
 use crate::session::changing::has_nul;
+use crate::session::{Session, cell_in};
 use std::alloc::{AllocError, Global};
 use xw_answers::escape;
 use xw_answers::refusal::Refusal;
 use xw_commands::command::{Field, TextField, TextMode};
 use xw_feas::feasible::Feasible;
-use xw_grid::{Cell, Direction, GridFault};
+use xw_grid::{Cell, Direction, Grid, GridFault};
 
 /// A text that a field names: a text of the puzzle, or the clue at a cell and direction.
 #[derive(Clone, Copy)]
@@ -34,18 +34,19 @@ fn spelled(alloc: Global, spelling: &[u8]) -> Result<Vec<u8>, GridFault>
     Ok(text)
 }
 
+/// Returns the target of a field. Returns `OutOfGrid` if the grid does not have it.
+pub(crate) fn field_target(grid: &Grid, field: Field) -> Result<Target, Refusal>
+    ensures ok { IfOk result (λ target. (target ≡ target_of field) × (has_target grid.now (target_of field) ≡ true)) }
+    ensures refused { IfErr result (λ refusal. (refusal ≡ Refusal.Grid GridFault.OutOfGrid) × (has_target grid.now (target_of field) ≡ false)) }
+{
+    match field {
+        Field::Text(name) => Ok(Target::Text(name)),
+        Field::Clue(spot, direction) => Ok(Target::Clue(cell_in(grid, spot)?, direction)),
+    }
+}
+
 impl<E: Feasible> Session<E> {
     ghost use Rattle.xw_commands.specs.declared.command.Command.TheVariants as commands;
-
-    fn field_target(&self, field: Field) -> Result<Target, Refusal>
-        ensures ok { IfOk result (λ target. (target ≡ target_of field) × (has_target self.now.engine.grid (target_of field) ≡ true)) }
-        ensures refused { IfErr result (λ refusal. (refusal ≡ Refusal.Grid GridFault.OutOfGrid) × (has_target self.now.engine.grid (target_of field) ≡ false)) }
-    {
-        match field {
-            Field::Text(name) => Ok(Target::Text(name)),
-            Field::Clue(spot, direction) => Ok(Target::Clue(self.cell(spot)?, direction)),
-        }
-    }
 
     pub(crate) fn text_at(&self, target: Target) -> &[u8]
         ensures { result.now ≡ text_at_target self.now target }
@@ -88,7 +89,7 @@ impl<E: Feasible> Session<E> {
         if !escape::is_spelling(spelling) {
             return Err(Refusal::Escape);
         }
-        let target = self.field_target(field)?;
+        let target = field_target(self.engine.grid(), field)?;
         if has_nul(spelling) {
             return Err(Refusal::NulByte);
         }
@@ -96,7 +97,7 @@ impl<E: Feasible> Session<E> {
         Ok(())
     }
 
-    fn put_text(
+    pub(crate) fn put_text(
         &mut self,
         putting: TextMode,
         target: Target,

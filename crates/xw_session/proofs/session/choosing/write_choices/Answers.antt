@@ -1,10 +1,12 @@
-use Rattle.std.proofs.Common.{◌≡◌, ◌++◌, ◌∷◌, [], ◌+◌, ◌-◌, get_or, take, refl, sym, ◌∙◌, ap, subst, append_assoc, append-nil}
-use Rattle.std.specs.Prelude.{flat_map}
+use Rattle.std.proofs.Common.{◌≡◌, ℕ, ◌++◌, ◌∷◌, [], ◌+◌, ◌-◌, get_or, take, refl, sym, ◌∙◌, ap, subst, append_assoc, append-nil}
+use Rattle.std.specs.Prelude.{flat_map, IfSome}
 use Rattle.std.proofs.lemmas.Result.{err_from_is_err_and}
 use Rattle.xw_feas.specs.State.{State}
 use Rattle.xw_fill.specs.Position.{position_of}
 use Rattle.xw_fill.specs.FeasibleWords.{feasible_words}
 use Rattle.xw_fill.specs.Words.{spellings_at, words_left, IsNextWord, HasNoMore}
+use Rattle.xw_fill.specs.Choices.{fewest_after}
+use Rattle.xw_fill.specs.Suggesting.{IsTriedAt}
 use Rattle.xw_fill.proofs.Shaped.{distinct_words}
 use Rattle.xw_fill.proofs.WordsLemmas.{feasible_known_words}
 use Rattle.xw_lines.specs.Device.{Begins, HasFailed}
@@ -71,3 +73,9 @@ returns-in_err-write_choice_at-clause-sends g c =
     ap (take c.loop-left.left) (next_left (position_of start) light c.loop-left.from index next) ∙ take_next c.loop-left.left word (words_left (position_of start) light (index + 1)) c.loop-left-test.true in
     let stops = subst (λ (s : State). Begins (g.W.Sink.transcript c.loop-left.sink) (g.W.Sink.transcript c.write_choice_at.new.sink) (choice_line s light (get_or (spellings_at (position_of s) light) index [])) × HasFailed (g.W.Sink.failures c.loop-left.sink) (g.W.Sink.failures c.write_choice_at.new.sink)) so_far.same c.in_err-write_choice_at.ensures.sends in
     rw e.1 (next_stops g.W.Sink.transcript g.W.Sink.failures (choice_line start light) c.args.sink.now c.loop-left.sink c.write_choice_at.new.sink c.loop-left.invariant.0 (choice_lines start light c.args.first c.args.most) _ _ word so_far.transcript so_far.quiet so_far.left left stops)
+
+pub write_choice_at-requires-clause-any : goal.write_choice_at-requires-clause-any
+write_choice_at-requires-clause-any g c =
+    let light = c.args.light in
+    subst (λ (s : State). IfSome c.args.any (λ fewest. (index : ℕ) → IsTriedAt (position_of s) light index → fewest ≡ fewest_after s light (get_or (spellings_at (position_of s) light) index [])))
+    (sym c.loop-left.invariant.1.same) c.requires.any

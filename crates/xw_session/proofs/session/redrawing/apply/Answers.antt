@@ -2,7 +2,7 @@ use Rattle.std.proofs.Common.{sym, ◌∙◌, subst}
 use Rattle.xw_commands.specs.declared.command.Command.{Command}
 use Rattle.xw_session.specs.Redrawn.{Redraws}
 use Rattle.xw_session.proofs.DrawnLines.{redraws-symmetry}
-use Rattle.xw_session.proofs.redrawing.apply.Goals as goal
+use Rattle.xw_session.proofs.session.redrawing.apply.Goals as goal
 
 pub returns-in-Symmetry-clause-done : goal.returns-in-Symmetry-clause-done
 returns-in-Symmetry-clause-done c done =
