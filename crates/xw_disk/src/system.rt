@@ -156,7 +156,8 @@ impl<'a, R: System + AllocGlobal + Clone + Drop> Disk for SystemDisk<'a, R> {
             }
             Err(failed) => {
                 let fault = self.failed(failed);
-                self.log.note(&Asked::Begin(name, start, is_synced, Err(fault)));
+                self.log
+                    .note(&Asked::Begin(name, start, is_synced, Err(fault)));
                 Err(fault)
             }
         }
