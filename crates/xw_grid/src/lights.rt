@@ -1,5 +1,5 @@
 //! The lights of a grid and their numbers.
-ghost use Rattle.std.specs.Prelude.{◌≡◌, ℕ, ◌+◌, ◌++◌, ◌<◌, ◌≤◌, ◌^◌, true, List, Some, None, slice_get, slice_index_or, IfOk, OnOk, IsOkUnless, length, if◌then◌else◌, ◌&&◌, ◌==◌};
+ghost use Rattle.std.specs.Prelude.{◌≡◌, ℕ, ◌+◌, ◌++◌, ◌<◌, ◌≤◌, ◌^◌, true, List, Some, None, slice_get, slice_index_or, IfOk, OnOk, IsOkUnless, length, if◌then◌else◌, ◌&&◌, ◌||◌, ◌==◌};
 ghost use Rattle.xw_grid.specs.Grid.{is_inside, same_cell};
 ghost use Rattle.xw_grid.specs.Light.{is_joined as is_joined_to_next, begins as begins_light, previous as cell_before, begins_some as begins_some_light, step as cell_after, run_from, light_from, lights_at, lights_of, number_at, same_name, index_named, index_through, index_with_cells, number_in, same_name, name_before, no_light};
 ghost use Rattle.xw_grid.specs.LightLaws.{LightsAreLights, LightsAreAll, LightsBegin, LightsAreOrdered, LightsAreApart, LightsAreFew, LightsMeetOnce};
@@ -294,12 +294,6 @@ pub fn begins(grid: &Grid, direction: Direction, cell: Cell) -> bool
     is_joined(grid, direction, cell) && !is_joined(grid, direction, previous(direction, cell))
 }
 
-fn begins_some(grid: &Grid, cell: Cell) -> bool
-    ensures { result ≡ begins_some_light grid.now cell }
-{
-    begins(grid, Direction::Across, cell) || begins(grid, Direction::Down, cell)
-}
-
 /// The cell `count` steps further on.
 fn step(direction: Direction, first: Cell, count: u32) -> Cell
     requires { (first.row ≤ 255) × (first.col ≤ 255) × (count ≤ 255) }
@@ -349,35 +343,41 @@ fn add_lights(
     ensures begun { IfOk result (λ now. now ≡ begun + (if begins_some_light grid.now cell then 1 else 0)) }
 {
     let number = begun + 1;
-    add_light(lights, grid, number, Direction::Across, cell)?;
-    add_light(lights, grid, number, Direction::Down, cell)?;
-    Ok(if begins_some(grid, cell) {
-        number
-    } else {
-        begun
-    })
+    let across = add_light(lights, grid, number, Direction::Across, cell)?;
+    let down = add_light(lights, grid, number, Direction::Down, cell)?;
+    Ok(counted(begun, across, down))
 }
 
-/// Appends the light that begins at a cell in a direction, if one does.
+/// Counts a cell if a light begins there across or down.
+fn counted(begun: u16, across: bool, down: bool) -> u16
+    requires { begun < 65025 }
+    ensures { result ≡ begun + (if across || down then 1 else 0) }
+{
+    if across || down { begun + 1 } else { begun }
+}
+
+/// Appends the light that begins at a cell in a direction, if one does. Returns whether one does.
 fn add_light(
     lights: &mut Vec<Light>,
     grid: &Grid,
     number: u16,
     direction: Direction,
     start: Cell,
-) -> Result<(), AllocError>
+) -> Result<bool, AllocError>
     requires inside { is_inside grid.now start ≡ true }
     requires number { number ≡ number_at grid.now start }
-    ensures { OnOk result (lights.new.items ≡ lights.old.items ++ light_from grid.now start direction) }
+    ensures lights { OnOk result (lights.new.items ≡ lights.old.items ++ light_from grid.now start direction) }
+    ensures begins { IfOk result (λ here. here ≡ begins_light grid.now direction start) }
 {
-    if begins(grid, direction, start) {
+    let here = begins(grid, direction, start);
+    if here {
         lights.push(Light {
             name: LightName { number, direction },
             start,
             size: run(grid, direction, start),
         })?;
     }
-    Ok(())
+    Ok(here)
 }
 
 /// Each light in a grid's list is a light: at least two open cells, each joined to the one before,

@@ -1,5 +1,5 @@
 -- Lemmas about sets of letters.
-use Rattle.std.proofs.Common.{◌≡◌, ◌≢◌, ℕ, ◌+◌, ◌-◌, ◌*◌, ◌%◌, ◌^◌, ◌<◌, ◌≤◌, Bool, true, false, not, ◌||◌, cond, eqb, [], ◌∷◌, length, get_or, take, length-append, refl, ap, sym, ◌∙◌, arith, inl, inr, zero, suc, min, leb, ◌&&◌, List, ◌⊎◌}
+use Rattle.std.proofs.Common.{◌≡◌, ◌≢◌, ℕ, ◌+◌, ◌-◌, ◌*◌, ◌%◌, ◌^◌, ◌<◌, ◌≤◌, Bool, true, false, not, ◌||◌, cond, eqb, [], ◌∷◌, length, get_or, take, length-append, refl, ap, sym, ◌∙◌, arith, inl, inr, zero, suc, min, max, leb, ◌&&◌, List, ◌⊎◌}
 use Rattle.std.specs.Prelude.{bit_or, bit_and, filter, bytes_eq}
 use Rattle.std.specs.List.{list_any}
 use Rattle.std.proofs.lemmas.Bool.{cases_Bool, and_parts, eqb-true, both_ways, eq-eqb, false_from_ne_true, false≢true}
@@ -8,13 +8,13 @@ use Rattle.std.specs.Int.{bit_at, bit_not, w32}
 use Rattle.std.proofs.lemmas.Bool.Decides.{nat_tests}
 use Rattle.std.proofs.Math.Pow.{pow-lt}
 use Rattle.std.proofs.Math.Nat.{mod-le}
-use Rattle.std.proofs.lemmas.Nat.{and_le_l}
+use Rattle.std.proofs.lemmas.Nat.{and_le_l, or_lt}
 use Rattle.std.proofs.lemmas.List.{drop_more, drop_all}
 use Rattle.std.proofs.lemmas.List.FromFn.{get_or-map-range_with_len}
 use Rattle.std.proofs.lemmas.List.Elements.{filter_more}
 use Rattle.std.proofs.lemmas.List.Folds.{list_any_at}
 use Rattle.std.proofs.lemmas.List.Sums.{length-filter, count_by-le-length}
-use Rattle.std.proofs.lemmas.Nat.Bits.{bit_at_set_same, bit_at_set_other, bit_at_clear_same, bit_at_clear_other, bit_at_ones, bit_at_and, bit_at-lt, bit_at-zero, same_from_bits_below}
+use Rattle.std.proofs.lemmas.Nat.Bits.{bit_at_set_same, bit_at_set_other, bit_at_clear_same, bit_at_clear_other, bit_at_ones, bit_at_and, bit_at_or, bit_at-lt, bit_at-zero, same_from_bits_below}
 use Rattle.xw_letters.specs.Letter.{IsLetter, alphabet, is_capital}
 use Rattle.xw_letters.specs.LetterSet.{has, letters_in, letters_from}
 
@@ -140,6 +140,22 @@ has-common a b letter =
       | inr none ↦ rw none refl
     ]
 
+max_of_bits : (m n : ℕ) → m < 2 → n < 2 → eqb (max m n) 1 ≡ (eqb m 1 || eqb n 1)
+max_of_bits m n hm hn = elim (bit_is_one m hm) [
+  | inl e ↦ elim (bit_is_one n hn) [ inl f ↦ rw (e, f) refl | inr f ↦ rw (e, f) refl ]
+  | inr e ↦ elim (bit_is_one n hn) [ inl f ↦ rw (e, f) refl | inr f ↦ rw (e, f) refl ]
+]
+
+pub has-with : (a b letter : ℕ) → has (bit_or a b) letter ≡ (has a letter || has b letter)
+has-with a b letter =
+    elim (cases_Bool (is_capital letter)) [
+      | inl is ↦ rw is (ap (λ n. eqb n 1) (bit_at_or a b (letter - 65)) ∙ max_of_bits (bit_at a (letter - 65)) (bit_at b (letter - 65)) (bit_at-lt a (letter - 65)) (bit_at-lt b (letter - 65)))
+      | inr none ↦ rw none refl
+    ]
+
+pub with-small : (a b : ℕ) → a < 2 ^ 26 → b < 2 ^ 26 → bit_or a b < 2 ^ 26
+with-small a b small_a small_b = or_lt 26 a b small_a small_b
+
 pub has-none : (letter : ℕ) → has 0 letter ≡ false
 has-none letter =
     elim (cases_Bool (is_capital letter)) [
@@ -259,7 +275,7 @@ letters_from-end set index past = ap (filter (has set)) (drop_all index alphabet
 
 pub ruleset walking_steps = (letters_from-next, letters_from-other, letters_from-end)
 
-pub ruleset set_steps = (letter_is_capital, has-all, has-common, has-none, is_same-letters)
+pub ruleset set_steps = (letter_is_capital, has-all, has-common, has-with, with-small, has-none, is_same-letters)
 
 -- a set has at most 26 letters
 pub few_letters : (set : ℕ) → length (letters_in set) ≤ 26

@@ -91,6 +91,16 @@ impl LetterSet {
         }
     }
 
+    /// The union of the two sets.
+    #[tactic(auto, using(crate::proofs::LetterSetLemmas::set_steps))]
+    pub fn with(self, other: LetterSet) -> LetterSet
+        ensures { (letter : ℕ) → has result letter ≡ (has self letter || has other letter) }
+    {
+        LetterSet {
+            bits: self.bits | other.bits,
+        }
+    }
+
     /// Whether the two sets have the same letters.
     #[tactic(auto, using(crate::proofs::LetterSetLemmas::set_steps))]
     pub fn is_same(self, other: LetterSet) -> bool

@@ -55,19 +55,6 @@ pub struct Net {
     pub(crate) emptied: usize,
 }
 
-/// The letters of two sets.
-fn with_all(set: LetterSet, more: LetterSet) -> LetterSet
-    ensures { (letter : ℕ) → has result letter ≡ (has set letter || has more letter) }
-{
-    let mut all = set;
-    let mut from = 0;
-    while let Some(number) = more.next_index(from) {
-        all.insert(Letter::at(number));
-        from = number + 1;
-    }
-    all
-}
-
 impl Net {
     ghost use Rattle.std.specs.Prelude.{◌≡◌, ℕ, ◌+◌, ◌-◌, ◌*◌, ◌<◌, ◌≤◌, true, false, not, ◌||◌, ◌&&◌, ◌==◌, length, slice_index, slice_index_or, IfSome, IfNone};
     ghost use Rattle.xw_letters.specs.Letter.{IsLetter};
@@ -195,7 +182,7 @@ impl Net {
     {
         let slot = 2 * cell + side(&board.light(light));
         let pending = self.pending[slot];
-        self.pending[slot] = with_all(pending, gone);
+        self.pending[slot] = pending.with(gone);
         self.queue.insert(light);
     }
 

@@ -31,10 +31,10 @@ returns-clause-pending c slot other =
     let at = 2 * c.args.cell + c.side.result in
     let in_slots : at < length c.args.self.now.pending.items = omega (arith, c.requires.cell, c.side.ensures.small, c.requires.shaped.pending) in
     let side : c.side.result ≡ side_of (light_at c.args.board.now c.args.light) = c.side.ensures.side ∙ ap side_of c.light.ensures.cells in
-    let gathered : (other : ℕ) → has c.with_all.result other ≡ (set_has c.args.self.now.pending.items (2 * c.args.cell + c.side.result) other || has c.args.gone other) = λ other.
-    c.with_all.ensures other
+    let gathered : (other : ℕ) → has c.with.result other ≡ (set_has c.args.self.now.pending.items (2 * c.args.cell + c.side.result) other || has c.args.gone other) = λ other.
+    c.with.ensures other
     ∙ ap (λ s. has s other || has c.args.gone other) (c.index-pending.ensures ∙ get_or_default c.args.self.now.pending.items (2 * c.args.cell + c.side.result) c.index-pending.result.now 0 in_slots) in
-    with_letters c.args.self.now.pending.items at c.with_all.result c.args.gone in_slots gathered slot other
+    with_letters c.args.self.now.pending.items at c.with.result c.args.gone in_slots gathered slot other
     ∙ ap (λ n. set_has c.args.self.now.pending.items slot other || (eqb slot (2 * c.args.cell + n) && has c.args.gone other)) side
 
 pub returns-clause-queued : goal.returns-clause-queued
