@@ -1,9 +1,4 @@
 //! The net, and its stripping: removing words and letters without support.
-ghost use Rattle.std.specs.Prelude.{◌≡◌, ℕ, ◌+◌, ◌<◌, ◌≤◌, true, false, ◌||◌};
-ghost use Rattle.xw_letters.specs.Letter.{IsLetter};
-ghost use Rattle.xw_letters.specs.LetterSet.{has};
-ghost use Rattle.xw_feas.specs.Board.{light_at};
-
 use crate::position::{Position, position_of, side};
 use crate::room::{NOWHERE, Spare};
 use crate::support::{find_support, next_lost, strike_row};
