@@ -305,7 +305,12 @@ CASES = {
         holds("mine.xw", A_B),
         has_mode("mine.xw", 0o600),
     ],
-    "first_line_added, to no command": [write("mine.xw", b"\n# a note\n"), grows((b"circles", b"ok\n", b""), begun=FIRST + b"\n# a note\n")],
+    "first_line_added, to no command": [write("mine.xw", b"\n \t\n"), grows((b"circles", b"ok\n", b""), begun=FIRST + b"\n \t\n")],
+    # The end of a journal would lose the comments.
+    "no_journal, comments alone": [
+        *stops(b"\n# a note\n", b"xw: mine.xw: line 1: Command\n"),
+        *stops(b" # a note\r\n\t# another\r\n", b"xw: mine.xw: line 1: Command\n"),
+    ],
     # The new file is locked as well.
     "first_line_added, in use": [link("mine.link", "mine.xw"), write("mine.xw", b"size 2 1\n"), is_locked_by_another(), absent("mine.new")],
     "first_line_added, without room for it": [

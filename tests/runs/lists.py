@@ -15,6 +15,24 @@ def is_loaded(data, added, skipped, typed=b"", output=b""):
     return [write("list", data), run("edit --dict list", typed, output, f"xw: list: {added} added, {skipped} skipped\n".encode())]
 
 
+def is_noted(data, added, skipped, *notes):
+    """Starts a session with a list, without and with notes on it."""
+    counts = f"xw: list: {added} added, {skipped} skipped\n"
+    return [
+        write("list", data),
+        run("edit --dict list", errors=counts.encode()),
+        run("edit --explain --dict list", errors=(counts + "".join(f"xw: {note}\n" for note in notes)).encode()),
+    ]
+
+
+def graded(count, lines):
+    return f"{count} of {lines} lines have a grade"
+
+
+def misplaced(separator):
+    return f"a number follows {separator}; a grade must follow a semicolon, as in cat;70"
+
+
 def pairs(count):
     return [LETTERS[index // 26] + LETTERS[index % 26] for index in range(count)]
 
@@ -62,6 +80,17 @@ def in_any_order(step):
 SIXTY_FOUR = [three_letters(index) for index in range(64)]
 
 CASES = {
+    # Notes on a list: how many lines have a grade, and what it may be instead of a list.
+    "noted, grades": is_noted(b"CAT;50\r\nco-t\n\nx; 7 ;8\ndog;-1\nowl;1x\nhen;1234567890\n", 5, 2, graded(3, 7)),
+    "noted, no lines": is_noted(b"", 0, 0, graded(0, 0)),
+    "noted, comma": is_noted(b"cat,70\ndog,60\n", 2, 0, graded(0, 2), misplaced("a comma")),
+    "noted, tab": is_noted(b"cat\ndog\t60\r\n", 2, 0, graded(0, 2), misplaced("a tab")),
+    "noted, space": is_noted(b"cat 70", 1, 0, graded(0, 1), misplaced("a space")),
+    "noted, colon": is_noted(b"cat:70\n", 1, 0, graded(0, 1), misplaced("a colon")),
+    "noted, other lines": is_noted(b"cat, 70 lives\n70,cat\nno. 1\n", 3, 0, graded(0, 3)),
+    "noted, UTF-16": is_noted("cat\n".encode("utf-16"), 0, 2, graded(0, 2), "the list looks like UTF-16; save it as UTF-8"),
+    "noted, UTF-16 without a mark": is_noted("cat".encode("utf-16-be"), 1, 0, graded(0, 1), "the list looks like UTF-16; save it as UTF-8"),
+    "noted, carriage returns": is_noted(b"cat\rdog\r", 1, 0, graded(0, 1), "the lines end in carriage returns alone; end them in line feeds"),
     "grades": is_loaded(
         b"cat;70\r\ncot ;\t250 ; 9\nCAT;3\nbat;-4\nhat;7.5\nmat\n",
         5,

@@ -42,16 +42,17 @@ def tells(words, messages, status=0):
     return step
 
 
+NOTED = b"xw: 0 of 1000001 lines have a grade\n"
 LONG = [write("long.txt", b"\n" * (MOST + 1))]
 COUNTED = b"xw: long.txt: 0 added, 1000001 skipped\n"
 
 CASES = {
-    "a long list is loading": [*LONG, tells("edit --dict long.txt", b"xw: long.txt: loading\n" + COUNTED)],
+    "a long list is loading": [*LONG, tells("edit --dict long.txt", b"xw: long.txt: loading\n" + COUNTED + NOTED)],
     "a long list, without a terminal": [*LONG, run("edit --dict long.txt", errors=COUNTED)],
     # The last line has no line feed.
     "a list that is not long": [
         write("short.txt", b"\n" * MOST + b"cat"),
-        tells("edit --dict short.txt", b"xw: short.txt: 1 added, 1000000 skipped\n"),
+        tells("edit --dict short.txt", b"xw: short.txt: 1 added, 1000000 skipped\n" + NOTED),
     ],
     "a grid with empty cells": [
         tells(
@@ -77,6 +78,6 @@ CASES = {
     "a long list before another fault": [
         *LONG,
         write("bad.puz", PLAIN[:60]),
-        tells("edit --dict long.txt --from bad.puz", b"xw: long.txt: loading\n" + COUNTED + b"xw: bad.puz: NoNul\nxw: title\nxw: the file is cut off\n", FORMAT),
+        tells("edit --dict long.txt --from bad.puz", b"xw: long.txt: loading\n" + COUNTED + NOTED + b"xw: bad.puz: NoNul\nxw: title\nxw: the file is cut off\n", FORMAT),
     ],
 }

@@ -42,12 +42,16 @@ pub record IsNotOpened (name : List ℕ) (failure : Failure) (old new : List Eve
   pub told : IsFaultOf fault name failure
   pub asks : Asks (open_ name (Err fault)) old new
 
--- The journal with this name was opened, and its file stays as it is: the replay stopped at a line, the last line is
--- cut, or an allocation failed.
+-- why a file without the first line begins no journal: its last line is cut, or it has only comments, as run cases show
+abbrev pub IsNoJournal : List ℕ → List ℕ → Failure → Type 0
+IsNoJournal name bytes failure = ((number : ℕ) × (form_of bytes ≡ forms.Cut) × IsLineFault name number (codes "Cut") failure) ⊎ ((form_of bytes ≡ forms.Whole) × IsLineFault name 1 (codes "Command") failure)
+
+-- The journal with this name was opened, and its file stays as it is: the replay stopped at a line, the file begins no
+-- journal, or an allocation failed.
 pub record IsLeft (name : List ℕ) (failure : Failure) (old new : List Event) : Type 0 where
   pub bytes : List ℕ
   pub asks : Asks (open_ name (Ok bytes)) old new
-  pub why : (failure ≡ failures.Memory) ⊎ (((stop : Stop) × IsStopped name stop failure) ⊎ ((number : ℕ) × (form_of bytes ≡ forms.Cut) × IsLineFault name number (codes "Cut") failure))
+  pub why : (failure ≡ failures.Memory) ⊎ (((stop : Stop) × IsStopped name stop failure) ⊎ IsNoJournal name bytes failure)
 
 -- The journal with this name was opened, and could not be begun.
 pub record IsNotBegun (name : List ℕ) (is_synced : Bool) (failure : Failure) (old new : List Event) : Type 0 where

@@ -1,6 +1,6 @@
 -- The word list of a session, and the commands that it resumes: what is read, what is reported, and which failure ends
 -- it.
-use Rattle.std.specs.Prelude.{◌≡◌, ◌⊎◌, ◌-◌, ◌++◌, ◌&&◌, ℕ, nat_lt, Bool, true, false, IsTrue, List, None, Result, Ok, Err, codes, count_by, decimal, length}
+use Rattle.std.specs.Prelude.{◌≡◌, ◌⊎◌, ◌-◌, ◌++◌, ◌&&◌, ℕ, nat_lt, Bool, true, false, IsTrue, List, None, Result, Ok, Err, codes, count_by, decimal, length, []}
 use Rattle.xw_text.specs.Lines.{is_line_feed}
 use Rattle.xw_words.specs.Dictionary.{Dictionary}
 use Rattle.xw_words.specs.WordList.{IsTooLong, listed_in, results_of, words_among}
@@ -36,6 +36,15 @@ loaded_line name bytes = counts_line name (added_in bytes) (length (results_of b
 -- whether the bytes of a word list have more than 1,000,000 line feeds
 abbrev pub is_long : List ℕ → Bool
 is_long bytes = nat_lt 1000000 (count_by is_line_feed bytes)
+
+-- The notes on a word list, if they are due. What they say is shown by run cases.
+abbrev pub AreNotes : Bool → List ℕ → Type 0
+AreNotes true notes = Unit {0}
+AreNotes false notes = notes ≡ []
+
+-- the counts of a word list were written with its notes, or a write failed
+abbrev pub IsLoadedTold : {S : Type 0} → (S → List ℕ) → (S → ℕ) → Bool → List ℕ → List ℕ → S → S → Type 0
+IsLoadedTold transcript failures explain name bytes old new = (notes : List ℕ) × AreNotes explain notes × GoesOut transcript failures old new (loaded_line name bytes ++ notes)
 
 -- the report that a word list is loading
 abbrev pub loading_line : List ℕ → List ℕ

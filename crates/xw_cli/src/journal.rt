@@ -4,7 +4,7 @@ ghost use Rattle.xw_journal.specs.File.{form_of as form_of_bytes};
 ghost use Rattle.xw_journal.specs.declared.file.Form.TheVariants as forms;
 ghost use Rattle.xw_disk.specs.Disk.{open_, started};
 ghost use Rattle.xw_puzzle_files.specs.Files.{Asks, IsLineFault};
-ghost use Rattle.xw_cli.specs.Journals.{Begins, HasReplayed, IsEnded, IsNotOpened, IsUnended, IsUnreplayed};
+ghost use Rattle.xw_cli.specs.Journals.{Begins, HasReplayed, IsEnded, IsNoJournal, IsNotOpened, IsUnended, IsUnreplayed};
 
 use crate::session_files::{resume_text, tell_cut};
 use std::alloc::Global;
@@ -18,8 +18,8 @@ use xw_puzzle_files::files::line_fault;
 use xw_session::Session;
 
 /// Opens the journal, or creates it, replays the lines that count, and cuts it to these. Returns the journal, which
-/// then has the first line, and the number of refused lines. If a line is no command, or if the last line is cut in a
-/// file without the first line, the file stays as it was.
+/// then has the first line, and the number of refused lines. If a line is no command, or if a file without the first
+/// line has a cut last line or only comments, the file stays as it was.
 pub fn resume_journal<'a, D: Disk, F: Searchable, E: Sink>(
     alloc: Global,
     disk: &mut D,
@@ -64,14 +64,34 @@ fn open_journal<'a, D: Disk>(
 /// Returns how a file with these bytes becomes a journal that lines can be appended to.
 fn start_of<'a, 'b>(file: &'a str, bytes: &'b [u8]) -> Result<Start<'b>, Failure<'a>>
     ensures ok { IfOk result (λ start. Begins (form_of_bytes bytes.entry.now) bytes.entry.now (started start)) }
-    ensures err { IfErr result (λ failure. (number : ℕ) × (form_of_bytes bytes.entry.now ≡ forms.Cut) × IsLineFault file.entry.now number (codes "Cut") failure) }
+    ensures err { IfErr result (λ failure. IsNoJournal file.entry.now bytes.entry.now failure) }
 {
     match form_of(bytes) {
         Form::Begun => Ok(Start::Anew(FIRST_LINE)),
         Form::Named => Ok(Start::Cut(kept(bytes))),
+        Form::Whole if is_comments(bytes) => Err(line_fault(file, 1, "Command")),
         Form::Whole => Ok(Start::Put(FIRST_LINE, bytes)),
         Form::Cut => Err(cut_fault(file, bytes)),
     }
+}
+
+/// Returns whether there are comments, and otherwise only blank lines. The end of a journal would lose them.
+fn is_comments(bytes: &[u8]) -> bool {
+    let mut is_start = true;
+    let mut is_found = false;
+    for byte in bytes {
+        match *byte {
+            b'\n' => is_start = true,
+            b' ' | b'\t' | b'\r' => {}
+            b'#' if is_start => {
+                is_start = false;
+                is_found = true;
+            }
+            _ if is_start => return false,
+            _ => {}
+        }
+    }
+    is_found
 }
 
 /// Returns whether some of these bytes are dropped when a journal begins with them.

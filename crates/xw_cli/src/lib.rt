@@ -2,6 +2,7 @@
 #![tactic(auto)]
 
 pub mod journal;
+mod lists;
 mod perform;
 mod session_files;
 pub mod start;

@@ -259,7 +259,7 @@ fn open<'a, F: Feasible, D: Disk, E: Messages>(
     ensures ok { IfOk result (λ session. IsOpened named.entry session (D.log disk.old) (D.log disk.new)) }
     ensures err { IfErr result (λ failure. IsUnopened named.entry explain failure (D.log disk.old) (D.log disk.new)) }
 {
-    let bank = dictionary(alloc, disk, named.dict, errors)?;
+    let bank = dictionary(alloc, disk, named.dict, explain, errors)?;
     match named.from_file {
         Some(file) => open_puzzle(alloc, disk, bank, file, explain, errors),
         None => open_empty(alloc, bank),
@@ -271,13 +271,14 @@ fn dictionary<'a, D: Disk, E: Messages>(
     alloc: Global,
     disk: &mut D,
     named: Option<&'a str>,
+    explain: bool,
     errors: &mut E,
 ) -> Result<Bank, Failure<'a>>
     ensures ok { IfOk result (λ bank. HasWords named.entry bank.words (D.log disk.old) (D.log disk.new)) }
     ensures err { IfErr result (λ failure. HasNoWords named.entry failure (D.log disk.old) (D.log disk.new)) }
 {
     match named {
-        Some(file) => read_dictionary(alloc, disk, file, errors),
+        Some(file) => read_dictionary(alloc, disk, file, explain, errors),
         None => Bank::new(alloc).map_err(|_| Failure::Memory),
     }
 }

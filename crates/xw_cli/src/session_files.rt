@@ -1,14 +1,15 @@
 //! The files of a session other than its puzzle: the word list, the commands to replay, and the record.
-ghost use Rattle.std.specs.Prelude.{◌≡◌, ◌⊎◌, ℕ, List, Ok, IfOk, IfErr, OnOk, OnErr, IsOkUnless};
+ghost use Rattle.std.specs.Prelude.{◌≡◌, ◌⊎◌, ◌++◌, ℕ, List, Ok, IfOk, IfErr, OnOk, OnErr, IsOkUnless};
 ghost use Rattle.xw_words.specs.WordList.{listed_in};
 ghost use Rattle.xw_answers.specs.Text.{name_of};
 ghost use Rattle.xw_puzzle_files.specs.declared.failure.Failure.TheVariants.{Memory};
 ghost use Rattle.xw_puzzle_files.specs.Explained.{GoesOut};
 ghost use Rattle.xw_puzzle_files.specs.Files.{Asks, IsFileFault};
 ghost use Rattle.xw_disk.specs.Disk.{read, replace};
-ghost use Rattle.xw_cli.specs.SessionFiles.{counts_line, cut_line, file_of, is_long, loaded_line, loading_line, old_line, Copies, IsLoaded, IsLoadingTold, MayTellLoading, IsNotKept, IsOverfull, IsUnloaded, IsStopped, Replays, IsResumed, IsUnsaved};
+ghost use Rattle.xw_cli.specs.SessionFiles.{counts_line, cut_line, file_of, is_long, loading_line, IsLoadedTold, old_line, Copies, IsLoaded, IsLoadingTold, MayTellLoading, IsNotKept, IsOverfull, IsUnloaded, IsStopped, Replays, IsResumed, IsUnsaved};
 ghost use Rattle.xw_lines.specs.Cut.{lines_of};
 
+use crate::lists::notes_of;
 use memchr::memchr_iter;
 use std::alloc::Global;
 use xw_answers::refusal::{self, Refusal};
@@ -27,26 +28,27 @@ use xw_words::{Bank, Loaded, WordFault};
 /// A word list with more line feeds than this takes a while to load.
 const LONG: usize = 1_000_000;
 
-/// Loads a word list into a dictionary, and prints how many lines were added and skipped. On a terminal it first
-/// prints that a long list is loading.
+/// Loads a word list into a dictionary, and prints how many lines were added and skipped, with notes on the list if
+/// `explain` is set. On a terminal it first prints that a long list is loading.
 pub fn read_dictionary<'a, D: Disk, E: Messages>(
     alloc: Global,
     disk: &mut D,
     file: &'a str,
+    explain: bool,
     errors: &mut E,
 ) -> Result<Bank, Failure<'a>>
     // The dictionary is the one that the bytes of the file list, and a report counts their lines.
     ensures ok { IfOk result (λ bank. IsLoaded file.entry.now bank.words (D.log disk.old) (D.log disk.new)) }
     ensures told { OnOk result ((bytes : List ℕ) × (mid : E) × Asks (read file.entry.now (Ok bytes)) (D.log disk.old) (D.log disk.new)
         × IsLoadingTold E.transcript E.failures (E.is_terminal errors.old) file.entry.now bytes errors.old mid
-        × GoesOut E.transcript E.failures mid errors.new (loaded_line file.entry.now bytes)) }
+        × IsLoadedTold E.transcript E.failures explain file.entry.now bytes mid errors.new) }
     ensures err { IfErr result (λ failure. IsUnloaded file.entry.now failure (D.log disk.old) (D.log disk.new)) }
     ensures untold { OnErr result (MayTellLoading E.transcript E.failures (E.is_terminal errors.old) file.entry.now errors.old errors.new) }
 {
     let bytes = read_file(disk, file)?;
     let list = bytes.as_slice();
     tell_loading(alloc, file, list, errors)?;
-    dictionary_of(alloc, file, list, errors)
+    dictionary_of(alloc, file, list, explain, errors)
 }
 
 /// Returns whether a word list takes a while to load.
@@ -81,16 +83,18 @@ fn dictionary_of<'a, E: Sink>(
     alloc: Global,
     file: &'a str,
     bytes: &[u8],
+    explain: bool,
     errors: &mut E,
 ) -> Result<Bank, Failure<'a>>
     ensures words { IfOk result (λ bank. bank.words ≡ listed_in bytes.now) }
-    ensures told { OnOk result (GoesOut E.transcript E.failures errors.old errors.new (loaded_line file.entry.now bytes.now)) }
+    ensures told { OnOk result (IsLoadedTold E.transcript E.failures explain file.entry.now bytes.now errors.old errors.new) }
     ensures err { IfErr result (λ failure. (failure ≡ Memory) ⊎ IsOverfull file.entry.now bytes.now failure) }
     ensures untold { OnErr result (errors.new ≡ errors.old) }
 {
+    let notes = notes_of(alloc, bytes, explain)?;
     match Bank::load_list(alloc, bytes) {
         Ok((bank, loaded)) => {
-            tell_loaded(alloc, file, loaded, errors)?;
+            tell_loaded(alloc, file, loaded, notes.as_str(), errors)?;
             Ok(bank)
         }
         Err(fault) => Err(unloaded(file, fault)),
@@ -108,19 +112,20 @@ fn unloaded<'a>(file: &'a str, fault: WordFault) -> Failure<'a>
     }
 }
 
-/// Prints how many lines of a word list were added and skipped. Write errors are ignored.
+/// Prints how many lines of a word list were added and skipped, and then the notes. Write errors are ignored.
 fn tell_loaded<'a, E: Sink>(
     alloc: Global,
     file: &'a str,
     loaded: Loaded,
+    notes: &str,
     errors: &mut E,
 ) -> Result<(), Failure<'a>>
-    ensures told { OnOk result (GoesOut E.transcript E.failures errors.old errors.new (counts_line file.entry.now loaded.added loaded.skipped)) }
+    ensures told { OnOk result (GoesOut E.transcript E.failures errors.old errors.new (counts_line file.entry.now loaded.added loaded.skipped ++ notes.now)) }
     ensures memory { IsOkUnless result Memory }
     ensures untold { OnErr result (errors.new ≡ errors.old) }
 {
     let (added, skipped) = (loaded.added, loaded.skipped);
-    let text = format!(in alloc; "xw: {file}: {added} added, {skipped} skipped\n")?;
+    let text = format!(in alloc; "xw: {file}: {added} added, {skipped} skipped\n{notes}")?;
     let _ = device::write_all(errors, text.as_bytes());
     Ok(())
 }
