@@ -97,7 +97,10 @@ enum xw_status {
     XW_BARRED = 26,
     XW_NOT_FILLED = 27,
     XW_FIELD = 28,
-    XW_CIRCLED = 29
+    XW_CIRCLED = 29,
+
+    /* the end of a record was cut off, and was dropped */
+    XW_CUT = 30
 };
 
 /*
@@ -122,9 +125,14 @@ uint32_t xw_open(struct xw *xw, const uint8_t *list, size_t list_length, const u
  * Replays the lines of a record, such as xw_record makes and `xw edit --save` writes. It stops after the first line that is not a command.
  * The answer has a line "xw: record: line N: NAME" for each refused line, and for the line that is not a command.
  *
+ * A record that begins with the line "# xw session 1", such as a file of `xw edit`, may have been cut off while it was written. As in `xw edit`,
+ * a last line without a line feed and a search without its line "# xw end" are dropped. The answer then begins with the line "xw: record: a cut
+ * line was dropped". Write that line before what xw_record makes, if a kill may cut your file.
+ *
  * Returns
  *   XW_ACCEPTED       all lines were accepted
  *   XW_REFUSED        some were refused, and have no effect: show the answer
+ *   XW_CUT            the end of the record was cut off, and was dropped: show the answer, which also names each refused line
  *   XW_NO_COMMAND     a line is not a command, so this is not a record. The lines before it were executed: close the session
  *   XW_CLOSED         there is no open session
  *   XW_MEMORY         an allocation failed. Some lines may have been executed: close the session and start again
@@ -215,7 +223,7 @@ static inline const char *xw_status_name(uint32_t status) {
     static const char *const names[] = {
         "Accepted", "Refused", "Silent", "Closed", "Open", "Memory", "NoCommand", "Full", "Short", "Magic", "Version",
         "Scrambled", "Size", "NoNul", "BadSum", "BadCell", "ClueCount", "Header", "Tag", "SizeLine", "GridLine", "AcrossCount",
-        "DownCount", "NulByte", "GextSize", "GextSum", "Barred", "NotFilled", "Field", "Circled"};
+        "DownCount", "NulByte", "GextSize", "GextSum", "Barred", "NotFilled", "Field", "Circled", "Cut"};
     return status < sizeof names / sizeof *names ? names[status] : "Unknown";
 }
 

@@ -8,7 +8,7 @@ export type Status =
   | 'Accepted' | 'Refused' | 'Silent' | 'Closed' | 'Open' | 'Memory' | 'NoCommand' | 'Full'
   | 'Short' | 'Magic' | 'Version' | 'Scrambled' | 'Size' | 'NoNul' | 'BadSum' | 'BadCell' | 'ClueCount'
   | 'Header' | 'Tag' | 'SizeLine' | 'GridLine' | 'AcrossCount' | 'DownCount' | 'NulByte' | 'GextSize' | 'GextSum'
-  | 'Barred' | 'NotFilled' | 'Field' | 'Circled';
+  | 'Barred' | 'NotFilled' | 'Field' | 'Circled' | 'Cut';
 
 /** The statuses, in the order of their numbers. */
 export const STATUSES: readonly Status[];
@@ -70,7 +70,10 @@ export class Xw {
    */
   static open(module: WebAssembly.Module, beginning?: Beginning): Xw;
 
-  /** The lines of the record that were refused, as `xw: record: line N: NAME`, each with a line feed after it. */
+  /**
+   * What was not taken from the record, each with a line feed after it: `xw: record: a cut line was dropped` if its end was cut off, and then
+   * `xw: record: line N: NAME` for each line that was refused.
+   */
   readonly reports: string;
 
   /** Answers a line. Throws a `Fault` with the status `Character` before anything is sent, or with `Memory` or `Closed`. */

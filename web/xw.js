@@ -10,7 +10,7 @@
 export const STATUSES = [
   'Accepted', 'Refused', 'Silent', 'Closed', 'Open', 'Memory', 'NoCommand', 'Full', 'Short', 'Magic', 'Version', 'Scrambled', 'Size', 'NoNul',
   'BadSum', 'BadCell', 'ClueCount', 'Header', 'Tag', 'SizeLine', 'GridLine', 'AcrossCount', 'DownCount', 'NulByte', 'GextSize', 'GextSum',
-  'Barred', 'NotFilled', 'Field', 'Circled',
+  'Barred', 'NotFilled', 'Field', 'Circled', 'Cut',
 ];
 
 // A call that was not done. `status` is one of STATUSES, and `answer` has the lines that were written, if any. Or `status` is `Character`,
@@ -225,8 +225,8 @@ export class Xw {
   #output = { at: 0, length: 0 };
 
   // Opens a session over a word list, on a puzzle (a .puz or text file), and replays a record. Each is a Uint8Array, an ArrayBuffer or a
-  // string in Windows-1252, and may be left out. `record` may have lines that are refused: `reports` then names them. Throws a Fault if it
-  // cannot, and a TypeError for options that are no object or have another name.
+  // string in Windows-1252, and may be left out. `record` may have lines that are refused, and its end may have been cut off: `reports` then
+  // says so. Throws a Fault if it cannot, and a TypeError for options that are no object or have another name.
   static open(module, options = {}) {
     expectOptions(options);
     const { list = '', puzzle = '', record = '' } = options;
@@ -269,7 +269,7 @@ export class Xw {
   #resume(record) {
     const status = this.#send('xw_resume', record);
     const reports = toText(this.#answer());
-    if (status !== 'Accepted' && status !== 'Refused') throw new Fault(status, reports);
+    if (!['Accepted', 'Refused', 'Cut'].includes(status)) throw new Fault(status, reports);
     return reports;
   }
 

@@ -136,6 +136,17 @@ static void open_session(struct xw *xw, const char *dict, const char *from) {
     free(puzzle.at);
 }
 
+/* Whether the answer to a replay names a refused line. */
+static bool has_refused(struct xw *xw) {
+    static const char line[] = "xw: record: line ";
+    struct bytes answer = answer_of(xw);
+    bool is_found = false;
+    for (size_t at = 0; at + sizeof line <= answer.length; at++)
+        is_found |= !memcmp(answer.at + at, line, sizeof line - 1);
+    free(answer.at);
+    return is_found;
+}
+
 /* Replays a file, and returns whether a line was refused. */
 static bool resume(struct xw *xw, const char *file) {
     struct bytes lines = file_of(file);
@@ -144,9 +155,9 @@ static bool resume(struct xw *xw, const char *file) {
     put(xw, stderr);
     if (status == XW_NO_COMMAND)
         exit(FORMAT);
-    if (status != XW_REFUSED)
+    if (status != XW_REFUSED && status != XW_CUT)
         expect_done(status, file);
-    return status == XW_REFUSED;
+    return has_refused(xw);
 }
 
 /* Answers the lines, and returns whether one was refused. */

@@ -1,5 +1,5 @@
 """Journals that were cut while they were written: the next start has each command whole or not at all."""
-from steps import ACCEPTED, FIRST, call, compare, holds, run, write
+from steps import ACCEPTED, FIRST, REFUSED, call, compare, holds, run, write
 
 from runs.journals import CUT, SEARCHED, grows, record
 
@@ -57,6 +57,9 @@ def drops(left, dropped, output):
         grows((b"show", output, b""), (b"title One", b"ok\n", b"title One\n"), begun=left),
         write("mine.xw", left + dropped),
         run("edit --journal mine.xw", b"show\n", output, errors=CUT),
+        write("mine.xw", left + dropped),
+        run("edit --resume mine.xw", b"show\n", output, errors=CUT),
+        holds("mine.xw", left + dropped),
     ]
 
 
@@ -79,6 +82,16 @@ CASES = {
         holds("mine.xw", record(b"set 1 1 A\n", b"set 1 2 B\n")),
     ],
     "search, whole, before a cut line": drops(TWO + b"# xw begin\nset 1 1 A\nset 1 2 B\n# xw end\n", b"clear 1 1", b"A B\nok\n"),
+    # A refused line before the cut one.
+    "refused, before a cut line": [
+        write("mine.xw", TWO + b"set 9 9 A\nset 1 1 A"),
+        run("edit --resume mine.xw", b"show\n", b"- -\nok\n", errors=CUT + b"xw: mine.xw: line 3: OutOfGrid\n", status=REFUSED),
+    ],
+    # Without the first line each line counts.
+    "not cut, without the first line": [
+        write("mine.xw", b"size 2 1\n# xw begin\nset 1 1 A"),
+        run("edit --resume mine.xw", b"show\n", b"A -\nok\n"),
+    ],
     # A journal can be resumed, too.
     "search, resumed": [
         write("mine.xw", TWO + b"# xw begin\nset 1 1 A\nset 1 2 B\n# xw end\n"),

@@ -117,6 +117,19 @@ const CASES = {
     // a line with an accent is skipped
     same(Xw.open(module, { list: 'caf\u00e9\ncat\n' }).line('match ...').lines, ['CAT']);
   },
+  'the end of a record that was cut off is dropped': () => {
+    const [first, dropped] = ['# xw session 1\n', 'xw: record: a cut line was dropped\n'];
+    for (const cut of ['title Two', '# xw begin\nset 1 1 A\n', '# xw begin\nset 1 1 A\n# xw end']) {
+      const xw = Xw.open(module, { record: `${first}size 2 1\ntitle One\n${cut}` });
+      same([xw.reports, xw.line('show').lines, xw.line('texts').lines], [dropped, ['- -'], ['title One']]);
+    }
+    same(Xw.open(module, { record: `${first}size 2 1\nset 9 9 A\nset 1 1 A` }).reports, `${dropped}xw: record: line 3: OutOfGrid\n`);
+    const whole = Xw.open(module, { record: `${first}size 2 1\n# xw begin\nset 1 1 A\n# xw end\n` });
+    same([whole.reports, whole.line('show').lines], ['', ['A -']]);
+    // without the first line each line counts
+    const other = Xw.open(module, { record: 'size 2 1\n# xw begin\nset 1 1 A' });
+    same([other.reports, other.line('show').lines], ['', ['A -']]);
+  },
   'a character outside is named, and nothing is sent': () => {
     const xw = filled();
     throws(() => xw.line('title a\u0416'), isStrange('\u0416', 'U+0416'));

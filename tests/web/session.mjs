@@ -67,7 +67,7 @@ function session(module, words, typed, answers, messages) {
   const sources = { list: bytesOf(files.dict), puzzle: bytesOf(files.from), record: bytesOf(files.resume) };
   const xw = done((status) => (status === 'Full' ? files.dict : files.from), () => Xw.open(module, sources));
   messages.push(xw.reports);
-  let isRefused = xw.reports !== '';
+  let isRefused = xw.reports.includes('xw: record: line ');
   isRefused = converse(xw, typed(), answers) || isRefused;
   if (files.save !== undefined) write(files.save, done(files.save, () => xw.record()));
   if (files.to !== undefined) write(files.to, done(files.to, () => (/\.puz$/i.test(files.to) ? xw.puz() : xw.text())));

@@ -1,12 +1,12 @@
 -- What the calls of an engine do.
-use Rattle.std.specs.Prelude.{◌≡◌, ◌≢◌, ◌⊎◌, ℕ, List, [], ◌∷◌, ◌++◌, ◌==◌, codes, Result, Ok, Err, if◌then◌else◌}
+use Rattle.std.specs.Prelude.{◌≡◌, ◌≢◌, ◌⊎◌, ℕ, Bool, List, [], ◌∷◌, ◌++◌, ◌==◌, codes, Result, Ok, Err, if◌then◌else◌}
 use Rattle.xw_words.specs.WordList.{IsTooLong, listed_in}
 use Rattle.xw_grid.specs.Puzzle.{PuzzleShown}
 use Rattle.xw_files.specs.declared.fault.ReadFault.{ReadFault}
 use Rattle.xw_files.specs.declared.fault.ReadFault.TheVariants as reads
 use Rattle.xw_files.specs.declared.fault.WriteFault.TheVariants as writes
 use Rattle.xw_files.specs.declared.kind.Kind.{Kind}
-use Rattle.xw_lines.specs.Cut.{lines_of}
+use Rattle.xw_journal.specs.File.{is_cut, kept_lines}
 use Rattle.xw_lines.specs.declared.outcome.Step.{Step}
 use Rattle.xw_session.specs.Answer.{Answers}
 use Rattle.xw_session.specs.Record.{record_lines}
@@ -18,7 +18,7 @@ use Rattle.xw_files.specs.Formats.{HasFormat, IsFirstFault, IsRead, written_as}
 use Rattle.xw_session.specs.Opening.{empty_puzzle, opened_on, puzzle_of}
 use Rattle.xw_engine.specs.Status.{step_status}
 use Rattle.xw_engine.specs.declared.status.Status.{Status}
-use Rattle.xw_engine.specs.declared.status.Status.TheVariants.{Accepted, Refused, Memory, NoCommand, Full, Unread, Unwritten}
+use Rattle.xw_engine.specs.declared.status.Status.TheVariants.{Accepted, Refused, Memory, NoCommand, Full, Unread, Unwritten, Cut}
 
 -- a session and the answer to the last call
 pub record Shown : Type 0 where
@@ -88,19 +88,27 @@ IsRecordMade old status new =
 abbrev pub record_name : List ℕ
 record_name = codes "record"
 
--- the status of a replay in which this many lines were refused
-abbrev pub replay_status : ℕ → Status
-replay_status refused = if refused == 0 then Accepted else Refused
+-- the report of a record whose end was cut off
+abbrev pub cut_line : List ℕ
+cut_line = codes "xw: record: a cut line was dropped\n"
 
--- the status of a replay, and its answer: the reports of refused lines, and a last one for a line that is not a
--- command
-abbrev pub IsReplayAnswer : Result ℕ Stop → List ℕ → Status → List ℕ → Type 0
-IsReplayAnswer (Ok refused) told status answer = (status ≡ replay_status refused) × (answer ≡ told)
-IsReplayAnswer (Err (stops.NoCommand number refusal)) told status answer = (status ≡ NoCommand) × (answer ≡ told ++ refused_line record_name number refusal)
-IsReplayAnswer (Err stops.Memory) told status answer = ⊥
+abbrev pub cut_report : Bool → List ℕ
+cut_report is_cut = if is_cut then cut_line else []
 
--- The lines of the record are replayed, up to the first that is not a command. If an allocation fails, the answer is
--- empty, and the effect of the lines that were executed remains.
+-- the status of a replay of a record, which may have been cut, in which this many lines were refused
+abbrev pub replay_status : Bool → ℕ → Status
+replay_status is_cut refused = if is_cut then Cut else if refused == 0 then Accepted else Refused
+
+-- the status of a replay, and its answer: the reports, and a last one for a line that is not a command
+abbrev pub IsReplayAnswer : Bool → Result ℕ Stop → List ℕ → Status → List ℕ → Type 0
+IsReplayAnswer is_cut (Ok refused) told status answer = (status ≡ replay_status is_cut refused) × (answer ≡ told)
+IsReplayAnswer is_cut (Err (stops.NoCommand number refusal)) told status answer = (status ≡ NoCommand) × (answer ≡ told ++ refused_line record_name number refusal)
+IsReplayAnswer is_cut (Err stops.Memory) told status answer = ⊥
+
+-- The lines of the record that count, as in a file of the program, are replayed, up to the first that is not a command.
+-- The answer begins with a report if others were cut. If an allocation fails, the answer is empty, and the effect of
+-- the lines that were executed remains.
 abbrev pub IsResumed : List ℕ → Shown → Status → Shown → Type 0
 IsResumed text old status new =
-    (ended : Result ℕ Stop) × (told : List ℕ) × Resumes record_name old.state (lines_of text) ended told new.state × (IsReplayAnswer ended told status new.answer ⊎ ((status ≡ Memory) × (new.answer ≡ [])))
+    (ended : Result ℕ Stop) × (told : List ℕ) × Resumes record_name old.state (kept_lines text) ended told new.state
+    × (IsReplayAnswer (is_cut text) ended (cut_report (is_cut text) ++ told) status new.answer ⊎ ((status ≡ Memory) × (new.answer ≡ [])))

@@ -7,7 +7,7 @@ use Rattle.xw_files.specs.declared.fault.WriteFault.TheVariants as writes
 use Rattle.xw_lines.specs.declared.outcome.Step.{Step}
 use Rattle.xw_lines.specs.declared.outcome.Step.TheVariants as steps
 use Rattle.xw_engine.specs.declared.status.Status.{Status}
-use Rattle.xw_engine.specs.declared.status.Status.TheVariants.{Accepted, Refused, Silent, Closed, Open, Memory, NoCommand, Full, Unread, Unwritten}
+use Rattle.xw_engine.specs.declared.status.Status.TheVariants.{Accepted, Refused, Silent, Closed, Open, Memory, NoCommand, Full, Unread, Unwritten, Cut}
 
 -- the status of a line with this outcome
 abbrev pub step_status : Step → Status
@@ -56,3 +56,4 @@ code_of NoCommand = 6
 code_of Full = 7
 code_of (Unread fault) = read_code fault
 code_of (Unwritten fault) = write_code fault
+code_of Cut = 30

@@ -5,13 +5,14 @@ ghost use Rattle.xw_grid.specs.Puzzle.{PuzzleShown, puzzle_view};
 ghost use Rattle.xw_session.specs.Resuming.{refused_line};
 ghost use Rattle.xw_files.specs.Formats.{IsRead, written_as};
 ghost use Rattle.xw_session.specs.Opening.{opened_on, puzzle_of};
-ghost use Rattle.xw_engine.specs.Engine.{Shown, HasPuzzle, IsOpened, IsMisread, IsUnread, IsUnopened, IsLineDone, IsFileMade, IsRecordMade, IsReplayAnswer, IsResumed, record_name, replay_status};
+ghost use Rattle.xw_engine.specs.Engine.{Shown, HasPuzzle, IsOpened, IsMisread, IsUnread, IsUnopened, IsLineDone, IsFileMade, IsRecordMade, IsReplayAnswer, IsResumed, cut_report, record_name, replay_status};
 
 use crate::status::Status;
 use std::alloc::{AllocError, Global};
 use std::marker::Model;
 use xw_answers::refusal::{self, Refusal};
 use xw_files::{Kind, Puzzle, ReadFault, WriteFault, kind_of, read_as, write_as};
+use xw_journal::file::{is_cut, kept};
 use xw_live::Live;
 use xw_session::opening::{open_empty, open_puzzle};
 use xw_session::resuming::{self, Stop};
@@ -20,6 +21,9 @@ use xw_words::{Bank, WordFault};
 
 /// The name of a record in the reports of its lines.
 const RECORD: &str = "record";
+
+/// The report of a record whose end was cut off.
+const CUT: &[u8] = b"xw: record: a cut line was dropped\n";
 
 /// A session over a word list, and the answer to the last call.
 #[derive(Drop)]
@@ -80,11 +84,20 @@ fn written(alloc: Global, session: &Session<Live>, kind: Kind) -> Result<Vec<u8>
     }
 }
 
-/// The status of a replay in which this many lines were refused.
-fn replayed(refused: usize) -> Status
-    ensures { result ≡ replay_status refused }
+/// The report of a record whose end was cut off, and nothing for another.
+fn report_of(is_cut: bool) -> &'static [u8]
+    ensures { result.now ≡ cut_report is_cut }
 {
-    if refused == 0 {
+    if is_cut { CUT } else { b"" }
+}
+
+/// The status of a replay of a record, which may have been cut, in which this many lines were refused.
+fn replayed(is_cut: bool, refused: usize) -> Status
+    ensures { result ≡ replay_status is_cut refused }
+{
+    if is_cut {
+        Status::Cut
+    } else if refused == 0 {
         Status::Accepted
     } else {
         Status::Refused
@@ -101,15 +114,20 @@ fn stop_line(alloc: Global, number: usize, refusal: Refusal) -> Result<String, A
 
 /// The status and the answer of a replay. `told` has the reports of refused lines. Returns `None` if an allocation
 /// fails or failed during the replay.
-fn report(alloc: Global, ended: Result<usize, Stop>, told: VecSink) -> Option<(Status, Vec<u8>)>
-    ensures { IfSome result (λ told_so. (told.failures ≡ 0) × IsReplayAnswer ended told.bytes.items told_so.0 told_so.1.items) }
+fn report(
+    alloc: Global,
+    is_cut: bool,
+    ended: Result<usize, Stop>,
+    told: VecSink,
+) -> Option<(Status, Vec<u8>)>
+    ensures { IfSome result (λ told_so. (told.failures ≡ 0) × IsReplayAnswer is_cut ended told.bytes.items told_so.0 told_so.1.items) }
 {
     if told.failures() > 0 {
         return None;
     }
     let mut answer = told.into_bytes();
     match ended {
-        Ok(refused) => Some((replayed(refused), answer)),
+        Ok(refused) => Some((replayed(is_cut, refused), answer)),
         Err(Stop::NoCommand { number, refusal }) => {
             let line = stop_line(alloc, number, refusal).ok()?;
             answer.extend_from_slice(line.as_bytes()).ok()?;
@@ -156,16 +174,20 @@ impl Engine {
         }
     }
 
-    /// Replays the lines of a record, up to the first that is not a command. The answer has a line `xw: record: line
-    /// N: NAME` for each line that is refused, and for the one that is not a command. Returns `Accepted`, `Refused` if
-    /// lines were refused, or `NoCommand`. Returns `Memory` if an allocation fails; the answer is then empty, and some
-    /// lines may have been executed.
+    /// Replays the lines of a record that count, up to the first that is not a command. The answer begins with a
+    /// report if the end of the record was cut off. It has a line `xw: record: line N: NAME` for each line that is
+    /// refused, and for the one that is not a command. Returns `NoCommand` if there is one, and otherwise `Cut` if the
+    /// end was cut off, `Refused` if lines were refused, or `Accepted`. Returns `Memory` if an allocation fails; the
+    /// answer is then empty, and some lines may have been executed.
     pub fn resume(&mut self, record: &[u8]) -> Status
         ensures { IsResumed record.now self.old result self.new }
     {
+        let is_cut = is_cut(record);
         let mut told = VecSink::new(self.alloc);
-        let ended = resuming::resume(self.alloc, &mut self.session, RECORD, record, &mut told);
-        match report(self.alloc, ended, told) {
+        resuming::tell(&mut told, report_of(is_cut));
+        let lines = kept(record);
+        let ended = resuming::resume(self.alloc, &mut self.session, RECORD, lines, &mut told);
+        match report(self.alloc, is_cut, ended, told) {
             Some((status, answer)) => {
                 self.answer = answer;
                 status

@@ -28,6 +28,8 @@ pub enum Status {
     Unread(ReadFault),
     /// The puzzle cannot be written in this format.
     Unwritten(WriteFault),
+    /// The end of a record was cut off, and the lines there were not executed.
+    Cut,
 }
 
 impl Status {
@@ -59,6 +61,7 @@ impl Status {
             Status::Full => 7,
             Status::Unread(fault) => read_code(fault),
             Status::Unwritten(fault) => write_code(fault),
+            Status::Cut => 30,
         }
     }
 }

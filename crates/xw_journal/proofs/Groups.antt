@@ -167,6 +167,15 @@ module _ (bytes : List ℕ) (from : ℕ) (no_lf : HasNoLf (drop from bytes)) whe
   kept_by lines there plain (Some at) begun =
       whole_lines_of bytes at begun.before begun.there begun.plain ∙ sym (open_dropped begun.before begun.inside begun.closed begun.unended) ∙ ap complete (sym begun.parts)
 
+  kept_text : (lines : List (List ℕ)) → take from bytes ≡ with_lfs lines [] → (unended : Option ℕ) → IsOpenAt bytes unended lines → take (unwrap_or unended from) bytes ≡ with_lfs (complete lines) []
+  kept_text lines there None closed = there ∙ ap (λ ls. with_lfs ls []) (sym (closed_kept lines closed))
+  kept_text lines there (Some at) begun =
+      begun.there ∙ ap (λ ls. with_lfs ls []) (sym (open_dropped begun.before begun.inside begun.closed begun.unended) ∙ ap complete (sym begun.parts))
+
+  pub scanned-bytes : (unended : Option ℕ) → IsScanned bytes from unended → take (unwrap_or unended from) bytes ≡ with_lfs (complete (ended_lines bytes)) []
+  scanned-bytes unended scanned =
+      kept_text scanned.lines scanned.there unended scanned.is_open ∙ ap (λ ls. with_lfs (complete ls) []) (sym (ended_are scanned.lines scanned.there scanned.plain))
+
   pub scanned-kept : (unended : Option ℕ) → IsScanned bytes from unended → lines_of (take (unwrap_or unended from) bytes) ≡ complete (ended_lines bytes)
   scanned-kept unended scanned =
       kept_by scanned.lines scanned.there scanned.plain unended scanned.is_open ∙ ap complete (sym (ended_are scanned.lines scanned.there scanned.plain))

@@ -1,7 +1,7 @@
 -- The file of a session, which is a journal or a saved record: its first line, and which of its lines are executed.
-use Rattle.std.specs.Prelude.{ℕ, Bool, ◌&&◌, List, length, codes, if◌then◌else◌, nat_eq, nat_lt}
+use Rattle.std.specs.Prelude.{ℕ, Bool, ◌&&◌, List, [], length, codes, if◌then◌else◌, nat_eq, nat_lt}
 use Rattle.std.specs.List.{starts_with}
-use Rattle.xw_lines.specs.Cut.{ended_lines, last_piece, lines_of}
+use Rattle.xw_lines.specs.Cut.{ended_lines, last_piece, lines_of, with_lfs}
 use Rattle.xw_journal.specs.Group.{complete}
 use Rattle.xw_journal.specs.declared.file.Form.{Form}
 use Rattle.xw_journal.specs.declared.file.Form.TheVariants.{Begun, Named, Whole, Cut}
@@ -28,3 +28,11 @@ form_of bytes = if is_part bytes then Begun else if has_first_line bytes then Na
 -- line without an LF and a last group without an end do not count. Any other file has all its lines.
 abbrev pub kept_lines : List ℕ → List (List ℕ)
 kept_lines bytes = if has_first_line bytes then complete (ended_lines bytes) else lines_of bytes
+
+-- the bytes of these lines
+abbrev pub kept_bytes : List ℕ → List ℕ
+kept_bytes bytes = if has_first_line bytes then with_lfs (complete (ended_lines bytes)) [] else bytes
+
+-- whether a file was cut while it was written, so that the bytes at its end do not count
+abbrev pub is_cut : List ℕ → Bool
+is_cut bytes = nat_lt (length (kept_bytes bytes)) (length bytes)

@@ -2,7 +2,7 @@
 ghost use Rattle.std.specs.Prelude.{◌≡◌, ◌++◌, ℕ, List, IfOk};
 ghost use Rattle.xw_lines.specs.Cut.{ended_lines, last_piece, lines_of};
 ghost use Rattle.xw_session.specs.Record.{record_lines};
-ghost use Rattle.xw_journal.specs.File.{first_line, form_of as form_of_bytes, is_part as is_part_of_line, is_whole as has_whole_lines, kept_lines};
+ghost use Rattle.xw_journal.specs.File.{first_line, form_of as form_of_bytes, is_cut as is_cut_file, is_part as is_part_of_line, is_whole as has_whole_lines, kept_bytes, kept_lines};
 
 use crate::group::complete;
 use std::alloc::{AllocError, Global};
@@ -70,6 +70,7 @@ fn whole_lines(bytes: &[u8]) -> &[u8]
 /// Returns the lines of a file that are executed.
 pub fn kept(bytes: &[u8]) -> &[u8]
     ensures lines { lines_of result.now ≡ kept_lines bytes.now }
+    ensures bytes { result.now ≡ kept_bytes bytes.now }
     ensures front { (rest : List ℕ) × (bytes.now ≡ result.now ++ rest) }
 {
     if bytes.starts_with(FIRST_LINE) {
@@ -77,6 +78,13 @@ pub fn kept(bytes: &[u8]) -> &[u8]
     } else {
         bytes
     }
+}
+
+/// Returns whether a file was cut while it was written, so that the bytes at its end do not count.
+pub fn is_cut(bytes: &[u8]) -> bool
+    ensures { result ≡ is_cut_file bytes.now }
+{
+    kept(bytes).len() < bytes.len()
 }
 
 /// Returns the file of a session: the first line and the record.

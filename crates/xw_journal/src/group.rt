@@ -1,6 +1,6 @@
 //! Groups of lines: a comment, commands, and another comment. A group that was cut is not executed at all.
-ghost use Rattle.std.specs.Prelude.{◌≡◌, ℕ, List, ◌++◌};
-ghost use Rattle.xw_lines.specs.Cut.{ended_lines, lines_of};
+ghost use Rattle.std.specs.Prelude.{◌≡◌, ℕ, List, [], ◌++◌};
+ghost use Rattle.xw_lines.specs.Cut.{ended_lines, lines_of, with_lfs};
 ghost use Rattle.xw_journal.specs.Group.{complete as complete_lines, open_after as open_behind};
 
 use xw_lines::run::next_lf;
@@ -28,6 +28,7 @@ fn open_after(begun: Option<usize>, from: usize, line: &[u8]) -> Option<usize>
 /// Returns the bytes before a last line without an LF, and before the first group without an end.
 pub fn complete(bytes: &[u8]) -> &[u8]
     ensures lines { lines_of result.now ≡ complete_lines (ended_lines bytes.now) }
+    ensures bytes { result.now ≡ with_lfs (complete_lines (ended_lines bytes.now)) [] }
     ensures front { (rest : List ℕ) × (bytes.now ≡ result.now ++ rest) }
 {
     let mut open = None;
