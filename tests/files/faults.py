@@ -1,17 +1,17 @@
 """The faults of puzzle files, each with its location, and which of several is reported."""
-from samples import BAD_CELL, BAD_CELL_AND_COUNT, CLUE_COUNT, MORE_CLUES, PLAIN, TEXT
+from samples import BAD_CELL, BAD_CELL_AND_COUNT, CLUE_COUNT, MORE_CLUES, PLAIN, TEXT, explained
 from steps import FORMAT, run, write
 
 from files.text import ACROSS, DOWN, ROWS, SIZE, TOP
 
 
 def told(*files):
-    """Checks all files in one call: the fault of each and its location, or neither if it can be read."""
+    """Checks all files in one call: what is told of the fault of each, or nothing if it can be read."""
     names = [f"file-{index}" for index in range(len(files))]
     output, errors = b"", b""
     for name, (data, fault, location) in zip(names, files):
         if fault:
-            errors += f"xw: {name}: {fault}\n".encode() + (f"xw: {location}\n".encode() if location else b"")
+            errors += explained(name, fault, location).encode()
         else:
             output += f"{name}: {'puz' if data[13:14] == PLAIN[13:14] else 'text'} 2x2 4 lights\n".encode()
     steps = [write(name, data) for name, (data, _, _) in zip(names, files)]

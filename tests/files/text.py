@@ -1,5 +1,5 @@
 """Text files: reading, and the line of each fault."""
-from samples import TEXT
+from samples import TEXT, explained
 from steps import CLUES, FORMAT, holds, is_read_as, run, write
 
 # The sample text in parts.
@@ -49,7 +49,7 @@ def leaves_at(*texts):
     def step(room, program):
         for data, fault, location in texts:
             (room / "file").write_bytes(data)
-            run("check --explain file", errors=f"xw: file: {fault}\nxw: {location}\n".encode(), status=FORMAT)(room, program)
+            run("check --explain file", errors=explained("file", fault, location).encode(), status=FORMAT)(room, program)
 
     return [step]
 

@@ -1,5 +1,5 @@
 """Writing puzzles: the bytes of each format, and which fault of a puzzle is reported."""
-from samples import BLOCKED, CIRCLED, CIRCLED_LAST, CIRCLED_TWICE, NO_CLUE, PLAIN, TEXT, TITLED, WITH_NOTES
+from samples import BLOCKED, CIRCLED, CIRCLED_LAST, CIRCLED_TWICE, NO_CLUE, PLAIN, TEXT, TITLED, WITH_NOTES, explained
 from steps import FORMAT, holds, run, write
 
 from files.text import WITH_TEXTS
@@ -16,8 +16,8 @@ def written(name, typed, data):
 
 def unwritten(name, typed, fault, location=None):
     """Changes the plain puzzle by some commands, and checks why it is not written."""
-    errors = f"xw: {name}: {fault}\n" + (f"xw: {location}\n" if location else "")
-    return [write("plain", PLAIN), run(f"edit --explain --from plain --to {name}", typed, b"ok\n" * typed.count(b"\n"), errors.encode(), FORMAT)]
+    errors = explained(name, fault, location).encode()
+    return [write("plain", PLAIN), run(f"edit --explain --from plain --to {name}", typed, b"ok\n" * typed.count(b"\n"), errors, FORMAT)]
 
 
 def in_order(name, data, *faults):

@@ -142,7 +142,7 @@ WRONG = {
     "edit mine.puz": tipped("mine.puz", "to start with this puzzle, use '--from mine.puz'"),
     "edit -dict words.txt": tipped("-d", "a similar argument exists: '--dict'"),
     "edit --dict words.txt -journal mine.xw": tipped("-j", "a similar argument exists: '--journal'"),
-    "edit --dict a -x b": extra("-x", "edit [OPTIONS]"),
+    "edit --dict a -x b": tipped("-x", LIST.format("b")),
     "edit --frob": wrong("unexpected argument '--frob' found\n\n  tip: a similar argument exists: '--from'", "edit --from <FILE>"),
     "edit -x": extra("-x", "edit [OPTIONS]"),
     "edit --version": extra("--version", "edit [OPTIONS]"),

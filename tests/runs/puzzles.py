@@ -25,7 +25,8 @@ CASES = {
         run(
             "check gone monday.puz sum.puz --explain monday.txt",
             output=b"monday.puz: puz 2x2 4 lights\nmonday.txt: text 2x2 4 lights\n",
-            errors=b"xw: gone: cannot read\nxw: No such file or directory\nxw: sum.puz: BadSum\nxw: file checksum\n",
+            errors=b"xw: gone: cannot read\nxw: No such file or directory\nxw: sum.puz: BadSum\nxw: file checksum\n"
+            b"xw: the file is damaged: a checksum is wrong\n",
             status=FAILED,
         ),
         run(

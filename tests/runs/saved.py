@@ -51,9 +51,9 @@ def goes_on_as_saved(room, program):
         compare("goes.xw", (room / "goes.xw").read_bytes(), saved)
 
 
-def word_list_resumed(words, typed=b""):
+def word_list_resumed(words, typed=b"", sentence=b""):
     """Resumes a word list by mistake, which ends the run at its first line."""
-    return run(f"edit {words}", typed, errors=b"xw: words.txt: line 1: Command\n", status=FORMAT)
+    return run(f"edit {words}", typed, errors=b"xw: words.txt: line 1: Command\n" + sentence, status=FORMAT)
 
 
 # Many lines that edit only the grid, which are executed at once. The line between them and the last one are refused.
@@ -154,8 +154,8 @@ CASES = {
         write("words.txt", b"CAT\nCOT\n"),
         word_list_resumed("--resume words.txt --save words.txt", b"add DOG\n"),
         holds("words.txt", b"CAT\nCOT\n"),
-        # The same with its location, which is told already.
-        word_list_resumed("--explain --resume words.txt --save words.txt", b"add DOG\n"),
+        # The same with what it means. Its location is told already.
+        word_list_resumed("--explain --resume words.txt --save words.txt", b"add DOG\n", b"xw: this is no journal; nothing in it was changed\n"),
         holds("words.txt", b"CAT\nCOT\n"),
         word_list_resumed("--resume words.txt --save new.xw"),
         absent("new.xw"),
