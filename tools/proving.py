@@ -79,13 +79,13 @@ def crates_under(crate):
 
 
 def is_newer(file, crates):
-    """Whether a file is newer than every source of the crates, and than the list of crates."""
+    """Whether a file is newer than every source of the crates."""
     if not file.exists():
         return False
     made = file.stat().st_mtime_ns
     folders = [TOP / "crates" / crate / part for crate in crates for part in PARTS]
     paths = (path for folder in folders if folder.is_dir() for path in (folder, *folder.rglob("*")))
-    return all(path.stat().st_mtime_ns <= made for path in (TOP / "crates.txt", *paths))
+    return all(path.stat().st_mtime_ns <= made for path in paths)
 
 
 def processes():
@@ -148,7 +148,8 @@ class Build:
 
     def is_built(self):
         """The target has the time at which its build began; rt ci leaves a program too."""
-        return is_newer(self.target, self.crates)
+        is_listed = self.target.exists() and (TOP / "crates.txt").stat().st_mtime_ns <= self.target.stat().st_mtime_ns
+        return is_listed and is_newer(self.target, self.crates)
 
     def find_due(self):
         """Finds the crates to prove: those that have changed, and those above them. After a change of the kit it is all."""

@@ -60,6 +60,18 @@ def lines_without_times(text):
     return [re.sub(r"\d+ min \d\d s", "TIME", line) for line in text.decode().splitlines()]
 
 
+def proves_what_changed(room, program):
+    """Only crates that have changed, and those above them, are proved again: here one whose uses change."""
+    call(room, "program", capture_output=True, check=True)
+    (room / "top/crates.txt").write_text("low:\nxw: low memchr\n")
+    ended = call(room, "program", capture_output=True)
+    told = [BEGIN, "xw: xw proved, 2 of 2; TIME", "xw: built in TIME"]
+    compare("other uses", (ended.returncode, lines_without_times(ended.stderr)), (ACCEPTED, told))
+    (room / "top/crates.txt").touch()
+    ended = call(room, "program", capture_output=True)
+    compare("a list that is touched", lines_without_times(ended.stderr), [BEGIN, "xw: built in TIME"])
+
+
 BEGIN = "xw: building; the first time this takes some minutes, since every crate is proved"
 
 
@@ -203,6 +215,7 @@ CASES = {
         "progress without a terminal": tells_a_line_a_crate,
         "progress on a terminal": overwrites_a_line,
         "a build that fails": shows_what_failed,
+        "what changed": proves_what_changed,
         "the first failure": tells_the_first_failure,
         "a full disk": tells_a_full_disk,
         "another kit": builds_with_another_kit,
