@@ -17,22 +17,22 @@ from concurrent import futures
 
 TOP = pathlib.Path(os.path.realpath(__file__)).parent.parent
 OUT = TOP / "crates/xw/out"
-# for each crate NAME: a folder with its library, NAME.log, and NAME.done, which is as old as its last proof
+# for each crate NAME: a folder with its library, NAME.log, and NAME.done, which has the age of its last proof and names the libraries it uses
 MADE = OUT / "made"
 PROGRAM = OUT / "xw"
 LIBRARY = TOP / "crates/xw_c/out/libxw.a"
 # the module that the library was compiled from
 MODULE = TOP / "crates/xw_c/out/xw.bc"
 PARTS = ("src", "specs", "proofs")
+# what the prover makes of the crates that are no library for other crates
+OBJECTS = {"xw": "xw.o", "xw_c": "libxw_c.a"}
 # the memory that a process of the prover needs, in kB
 NEEDED = 3_000_000
-# the status of the prover if it does not accept a call, or cannot go on
-STOPPED = 2
 FULL = os.strerror(errno.ENOSPC)
 
 
 class Failed(Exception):
-    """Why the build ends, as a message, and with which status."""
+    """Why the build ends, and with which status."""
 
     status = 4
 
@@ -68,79 +68,64 @@ def uses():
     return {name.split()[0]: below.split() for name, _, below in lines if name.strip()}
 
 
-def crates_below(crate):
-    return [it for it in uses()[crate] if it in uses()]
-
-
-def crates_under(crate):
-    """All crates that a crate depends on, directly or not, lowest first."""
-    found = set(crates_below(crate)).union(*map(crates_under, crates_below(crate)))
-    return [it for it in uses() if it in found]
+@functools.lru_cache(maxsize=None)
+def under(crate):
+    """All crates of the repository that a crate depends on, directly or not, lowest first."""
+    below = [it for it in uses()[crate] if it in uses()]
+    return [it for it in uses() if it in {*below}.union(*map(under, below))]
 
 
 def is_newer(file, crates):
     """Whether a file is newer than every source of the crates."""
-    if not file.exists():
-        return False
-    made = file.stat().st_mtime_ns
     folders = [TOP / "crates" / crate / part for crate in crates for part in PARTS]
     paths = (path for folder in folders if folder.is_dir() for path in (folder, *folder.rglob("*")))
-    return all(path.stat().st_mtime_ns <= made for path in paths)
+    return file.exists() and all(path.stat().st_mtime_ns <= file.stat().st_mtime_ns for path in paths)
 
 
-def processes():
+def free_lanes():
     """How many processes of the prover run side by side: one for each processor, as far as there is memory."""
     free = next(int(it.split()[1]) for it in open("/proc/meminfo") if it.startswith("MemAvailable:"))
     return max(1, min(len(os.sched_getaffinity(0)), free // NEEDED))
 
 
-def prover_words(crate, by_rt=False):
-    """The words that tell the prover where the libraries of a crate are: those of this build, or those that rt leaves."""
+def prover_words(call, crate, by_rt=False):
+    """A call of the prover for a crate, with the libraries of this build or those that rt leaves."""
     folder = lambda name: TOP / "crates" / name / "out/rlib" if by_rt else MADE / name
-    rlibs = kit() / "rlibs"
-    words = []
+    main, rlibs = "src/main.rt", kit() / "rlibs"
+    words = [kit() / "bin/rattle", call, "--crate-name", crate, main if (TOP / "crates" / crate / main).exists() else "src/lib.rt"]
     for name in ("std", *uses()[crate]):
         words += ["--extern", f"{name}={folder(name) if name in uses() else rlibs}/{name}.rlib"]
-    for path in (rlibs, *map(folder, crates_under(crate))):
+    for path in (rlibs, *map(folder, under(crate))):
         words += ["-L", f"dependency={path}"]
-    logic = [f"{kit()}/rattle/logic/antt-project.json", "--logic-built", f"{kit()}/logic_built"]
-    return [*words, "--antt-project", *logic, "--links", f"{crate}="]
-
-
-def root_file(crate):
-    return "src/main.rt" if (TOP / "crates" / crate / "src/main.rt").exists() else "src/lib.rt"
+    words += ["--antt-project", f"{kit()}/rattle/logic/antt-project.json", "--logic-built", f"{kit()}/logic_built", "--links", f"{crate}="]
+    return [str(it) for it in words]
 
 
 def keeping_toolchain():
     """A folder like the kit's toolchain, whose clang also keeps the module that it is given."""
-    folder, tools = MADE / "toolchain", kit() / "toolchain"
+    tools, folder = kit() / "toolchain", MADE / "toolchain"
     shutil.rmtree(folder, ignore_errors=True)
-    (folder / "bin").mkdir(parents=True)
-    (folder / "lib").symlink_to(tools / "lib")
-    for tool in (tools / "bin").iterdir():
-        if tool.name != "clang":
-            (folder / "bin" / tool.name).symlink_to(tool)
-    keeps = f'for word; do case $word in *.bc) cp "$word" "{MADE}/xw_c/xw.bc" ;; esac; done'
-    (folder / "bin/clang").write_text(f'#!/bin/sh\n{keeps}\nexec "{tools}/bin/clang" "$@"\n')
-    (folder / "bin/clang").chmod(0o755)
+    shutil.copytree(tools, folder, copy_function=os.symlink)
+    clang = folder / "bin/clang"
+    clang.unlink()
+    keeps = f'for word; do case $word in *.bc) cp "$word" "{MODULE}" ;; esac; done'
+    clang.write_text(f'#!/bin/sh\n{keeps}\nexec "{tools}/bin/clang" "$@"\n')
+    clang.chmod(0o755)
     return folder
 
 
 def borrow(kept, folder):
     """Links the files of proofs, which a check replaces and never writes into, and copies the rest."""
     link = lambda one, other: os.link(one, other) if one.endswith(".oantt") else shutil.copy2(one, other)
-    shutil.copytree(kept, folder, copy_function=link)
+    return shutil.copytree(kept, folder, copy_function=link)
 
 
 class Build:
-    """A build of a crate, `root`, which makes the file `target`."""
+    """A build of a crate, `root`, which makes the file `target`. A library has the name by which programs load it, and exports functions."""
 
     def __init__(self, root, target, soname="", exported=()):
-        self.root, self.target, self.by_rt = root, target, False
-        # the name by which programs load the library, and the functions that it exports
-        self.soname, self.exported = soname, exported
-        self.crates = [*crates_under(root), root]
-        self.begun, self.lanes = time.monotonic(), processes()
+        self.root, self.target, self.soname, self.exported = root, target, soname, exported
+        self.crates, self.begun, self.lanes = [*under(root), root], time.monotonic(), free_lanes()
         # the crates that are not proved, those of them at the start, the jobs of those that are being proved, and the processes at work
         self.due, self.at_start, self.at_work, self.running = [], [], {}, set()
         # no process begins while the build ends
@@ -159,10 +144,9 @@ class Build:
             MADE.mkdir(parents=True)
             told.write_text(version)
         for crate in self.crates:
-            libraries = MADE / crate / "libraries"
-            is_same = libraries.exists() and libraries.read_text().split() == uses()[crate]
-            if not (is_same and is_newer(MADE / f"{crate}.done", [crate])) or any(it in self.due for it in crates_below(crate)):
-                (MADE / f"{crate}.done").unlink(missing_ok=True)
+            done = MADE / f"{crate}.done"
+            if not is_newer(done, [crate]) or done.read_text().split() != uses()[crate] or {*under(crate)} & {*self.due}:
+                done.unlink(missing_ok=True)
                 self.due.append(crate)
 
     # ---- the schedule and the progress
@@ -180,20 +164,13 @@ class Build:
             behind[crate] = self.sizes[crate] + max((behind[it] for it in behind if crate in uses()[it]), default=0)
         return behind
 
-    def jobs_of(self, crate, chains):
-        """How many processes prove a crate. Each of them loads the crates below, so two take a third more processor time than one, and most
-        crates get one. Those of the longest chain get half of the processors, or all if no other crate can run beside them."""
-        if not any(it != crate and it not in crates_under(crate) and crate not in crates_under(it) for it in self.due):
-            return self.lanes
-        return (self.lanes + 1) // 2 if chains[crate] == max(chains.values()) else 1
-
     def progress(self):
         """How far the build is, and about how long the rest takes, by the time that the crates proved so far took."""
-        minutes, seconds = divmod(int(time.monotonic() - self.begun), 60)
+        passed = time.monotonic() - self.begun
         span = lambda crates: max(sum(map(self.sizes.get, crates)) / self.lanes, *self.chains(crates).values(), 0)
         whole, rest = span(self.at_start), span(self.due)
-        left = f"; about {math.ceil((time.monotonic() - self.begun) / 60 * rest / (whole - rest))} min left" if 0 < rest < whole else ""
-        return f"{len(self.crates) - len(self.due)} of {len(self.crates)}", f"{minutes} min {seconds:02} s{left}"
+        left = f"; about {math.ceil(passed / 60 * rest / (whole - rest))} min left" if 0 < rest < whole else ""
+        return f"{len(self.crates) - len(self.due)} of {len(self.crates)}", f"{int(passed / 60)} min {int(passed % 60):02} s{left}"
 
     def show(self):
         """Shows the progress on one line of the terminal that is overwritten. The terminal cuts off what is too long for the line
@@ -203,10 +180,13 @@ class Build:
         print(f"\r\033[?7l\033[Kxw: {count} crates proved; {times}{at_work}\033[?7h", end="", file=sys.stderr, flush=True)
 
     def begin_ready(self, ready, pool, proofs):
-        """Begins with crates that are ready, those with the longest chains first: one of the longest chain at once, others once a processor is free."""
+        """Begins with crates that are ready, those with the longest chains first. Each process loads the crates below, so two take a third more
+        processor time than one, and most crates get one once a processor is free. A crate of the longest chain gets half of the processors at
+        once, or all if no other crate can run beside it."""
         chains = self.chains(self.due)
         for crate in sorted(ready, key=chains.get, reverse=True):
-            jobs = self.jobs_of(crate, chains)
+            beside = [it for it in self.due if it not in (crate, *under(crate)) and crate not in under(it)]
+            jobs = self.lanes if not beside else (self.lanes + 1) // 2 if chains[crate] == max(chains.values()) else 1
             if jobs > 1 or sum(self.at_work.values()) < self.lanes:
                 ready.remove(crate)
                 self.at_work[crate] = jobs
@@ -214,7 +194,7 @@ class Build:
 
     def prove_all(self):
         """Proves side by side the crates that are due, each once the crates below it are proved. Stops at the first that fails."""
-        order, ready, proofs = graphlib.TopologicalSorter({it: {*crates_below(it)} & {*self.due} for it in self.due}), [], {}
+        order, ready, proofs = graphlib.TopologicalSorter({it: {*under(it)} & {*self.due} for it in self.due}), [], {}
         order.prepare()
         self.at_start = [*self.due]
         with futures.ThreadPoolExecutor(len(self.crates)) as pool, self.ending():
@@ -222,15 +202,14 @@ class Build:
                 ready += order.get_ready()
                 self.begin_ready(ready, pool, proofs)
                 # each second shows the time, and a signal that comes just before the wait
-                ended, _ = futures.wait(proofs, 1, futures.FIRST_COMPLETED)
-                for proof in ended:
+                for proof in futures.wait(proofs, 1, futures.FIRST_COMPLETED).done:
                     proof.result()
                     crate = proofs.pop(proof)
                     order.done(crate)
                     self.due.remove(crate)
                     del self.at_work[crate]
                     if not sys.stderr.isatty():
-                        print(f"xw: {crate} proved, {', '.join(self.progress()).replace(', ', '; ', 1)}", file=sys.stderr, flush=True)
+                        print(f"xw: {crate} proved, {'; '.join(self.progress())}", file=sys.stderr, flush=True)
                 if sys.stderr.isatty():
                     self.show()
 
@@ -245,7 +224,7 @@ class Build:
                 for it in self.running:
                     with contextlib.suppress(ProcessLookupError):
                         os.killpg(it.pid, signal.SIGKILL)
-            if sys.stderr.isatty():
+            if self.at_start and sys.stderr.isatty():
                 print(file=sys.stderr)
 
     # ---- a crate
@@ -261,47 +240,38 @@ class Build:
                 self.running.add(it)
             status = it.wait()
             self.running.discard(it)
-        if status:
-            raise self.failure(words, log, status)
-
-    def failure(self, words, log, status):
-        """Why a command failed, by its status and its log."""
+        if not status:
+            return
         text = log.read_text(errors="replace")
         if FULL in text or shutil.disk_usage(MADE).free < 2**20:
-            return Failed(f"the disk is full; the crates that are proved are kept in {MADE.relative_to(TOP)}")
+            raise Failed(f"the disk is full; the crates that are proved are kept in {MADE.relative_to(TOP)}")
         last = "\n".join(text.rstrip("\n").split("\n")[-20:]) or f"{words[0]} ended with status {status}"
-        kind = OtherKit if status == STOPPED and "Usage: rattle" in text else Failed
-        return kind(f"the build failed; the last lines of {log.stem} (all of them: {log.relative_to(TOP)}):\n{last}")
+        kind = OtherKit if "Usage: rattle" in text else Failed
+        raise kind(f"the build failed; the last lines of {log.stem} (all of them: {log.relative_to(TOP)}):\n{last}")
 
-    def prove(self, crate, jobs):
-        """Proves a crate, and makes its library, the program, or the libraries for C."""
-        folder, log, begun = MADE / crate, MADE / f"{crate}.log", MADE / f"{crate}.begun"
+    def prove(self, crate, jobs, by_rt=False):
+        """Proves a crate, and makes its library, the program, or the libraries for C. The kit's rt lib and rt run do the same, but they keep proofs
+        for later checks; without that it takes half of the time. Proofs that rt check has kept are used."""
+        folder, log, done, begun = MADE / crate, MADE / f"{crate}.log", MADE / f"{crate}.done", time.time_ns()
         shutil.rmtree(folder, ignore_errors=True)
         folder.mkdir()
         log.write_bytes(b"")
-        (folder / "libraries").write_text("\n".join(uses()[crate]))
-        begun.touch()
-        self.compile(crate, jobs, log)
-        begun.rename(MADE / f"{crate}.done")
-
-    def compile(self, crate, jobs, log):
-        """Proves and compiles a crate. The kit's rt lib and rt run do the same, but they keep proofs for later checks; without that it takes half
-        of the time. Proofs that rt check has kept are used."""
-        to = MADE / crate / {"xw": "xw.o", "xw_c": "libxw_c.a"}.get(crate, f"{crate}.rlib")
-        words = [kit() / "bin/rattle", "build", "--crate-name", crate, root_file(crate), *prover_words(crate, self.by_rt)]
-        if crate == "xw":
-            words += ["--toolchain", kit() / "toolchain", "--backend", "llvm"]
+        words = [*prover_words("build", crate, by_rt), "--jobs", jobs, "-o", folder / OBJECTS.get(crate, f"{crate}.rlib")]
+        if crate in OBJECTS:
+            words += ["--toolchain", keeping_toolchain() if crate == "xw_c" else kit() / "toolchain", "--backend", "llvm"]
         if crate == "xw_c":
-            words += ["--crate-type", "staticlib", "--toolchain", keeping_toolchain(), "--backend", "llvm"]
-        incremental, kept = TOP / "crates" / crate / "out/incremental", MADE / crate / "kept"
-        if incremental.is_dir():
-            borrow(incremental, kept)
-            words += ["--incremental", kept]
-        elif crate not in ("xw", "xw_c"):
+            words += ["--crate-type", "staticlib"]
+        kept = TOP / "crates" / crate / "out/incremental"
+        if kept.is_dir():
+            words += ["--incremental", borrow(kept, folder / "kept")]
+        elif crate not in OBJECTS:
             words += ["--statements"]
-        self.run([*words, "--jobs", jobs, "-o", to], log, TOP / "crates" / crate)
-        {"xw": self.link, "xw_c": self.archive}.get(crate, lambda log: None)(log)
-        shutil.rmtree(kept, ignore_errors=True)
+        self.run(words, log, TOP / "crates" / crate)
+        if crate in OBJECTS:
+            self.link(log) if crate == "xw" else self.archive(log)
+        shutil.rmtree(folder / "kept", ignore_errors=True)
+        done.write_text(" ".join(uses()[crate]))
+        os.utime(done, ns=(begun, begun))
 
     def link(self, log):
         words = [kit() / "bin/rattle-link", "--target", "x86_64-unknown-linux-gnu", "--toolchain", kit() / "toolchain", "-o", PROGRAM]
@@ -320,7 +290,6 @@ class Build:
         names.write_text(f"{{ global: {' '.join(f'{it};' for it in self.exported)} local: *; }};\n")
         flags = ["-shared", "-soname", self.soname, f"--version-script={names}", "--no-undefined-version", "-z", "defs"]
         self.run([tools / "ld.lld", *flags, "-o", LIBRARY.with_suffix(".so"), *objects, kit() / "toolchain/lib/libc.so.6"], log)
-        shutil.copy(MADE / "xw_c/xw.bc", MODULE)
 
     # ---- the target
 
@@ -328,8 +297,6 @@ class Build:
         """Proves what is due and makes the target. If this kit's prover does not take the call above, its own command does it, which takes longer."""
         try:
             self.prove_all()
-        except KeyboardInterrupt:
-            raise Stopped(f"stopped; {self.progress()[0]} crates are proved and kept") from None
         except OtherKit:
             if self.root != "xw":
                 raise
@@ -338,15 +305,13 @@ class Build:
             self.run(["rt", "run", "--", "--help"], MADE / "rt.log", TOP / "crates/xw")
 
     def build_over_rt(self):
-        """Builds the library over the libraries that rt ci left, if they are newer than their sources. Returns whether it could."""
-        if self.root != "xw_c" or not all(is_newer(TOP / "crates" / it / f"out/rlib/{it}.rlib", [it]) for it in crates_under(self.root)):
+        """Builds the target over the libraries that rt ci and rt check leave, if they are newer than their sources. Returns whether it could."""
+        if not all(is_newer(TOP / "crates" / it / f"out/rlib/{it}.rlib", [*under(it), it]) for it in under(self.root)):
             return False
-        (MADE / "xw_c.done").unlink(missing_ok=True)
-        self.by_rt = True
-        with contextlib.suppress(Failed):
-            self.prove("xw_c", (self.lanes + 1) // 2)
+        with contextlib.suppress(Failed), self.ending():
+            self.prove(self.root, self.lanes, by_rt=True)
             return True
-        self.by_rt = False
+        self.is_ending = False
         return False
 
     def build(self):
@@ -361,7 +326,9 @@ class Build:
             began = time.time_ns()
             kit(), self.find_due()
             print("xw: building; the first time this takes some minutes, since every crate is proved", file=sys.stderr, flush=True)
-            if not self.build_over_rt():
-                self.build_due()
+            try:
+                self.build_over_rt() or self.build_due()
+            except KeyboardInterrupt:
+                raise Stopped(f"stopped; {self.progress()[0]} crates are proved and kept") from None
             os.utime(self.target, ns=(began, began))
             print(f"xw: built in {self.progress()[1]}", file=sys.stderr)
