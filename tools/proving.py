@@ -305,20 +305,22 @@ class Build:
             self.run(["rt", "run", "--", "--help"], MADE / "rt.log", TOP / "crates/xw")
 
     def build_over_rt(self):
-        """Builds the target over the libraries that rt ci and rt check leave, if they are newer than their sources. Returns whether it could."""
-        if not all(is_newer(TOP / "crates" / it / f"out/rlib/{it}.rlib", [*under(it), it]) for it in under(self.root)):
+        """Builds the target over the libraries that rt ci and rt check leave, if they are newer than their sources and this kit. Returns whether it
+        could."""
+        made = {it: TOP / "crates" / it / f"out/rlib/{it}.rlib" for it in under(self.root)}
+        since = (kit() / "bin/rattle").stat().st_mtime_ns
+        if not all(is_newer(path, [*under(it), it]) and path.stat().st_mtime_ns >= since for it, path in made.items()):
             return False
-        with contextlib.suppress(Failed), self.ending():
+        with self.ending():
             self.prove(self.root, self.lanes, by_rt=True)
-            return True
-        self.is_ending = False
-        return False
+        return True
 
     def build(self):
         """Builds the target if that is due. One build runs at a time; a second call waits and finds the target built."""
         if self.is_built():
             return
-        OUT.mkdir(parents=True, exist_ok=True)
+        for it in (OUT, self.target.parent):
+            it.mkdir(parents=True, exist_ok=True)
         with open(OUT / "lock", "w") as lock:
             fcntl.flock(lock, fcntl.LOCK_EX)
             if self.is_built():

@@ -5,7 +5,7 @@ use Rattle.std.proofs.lemmas.Bool.{cases_Bool, true≢false, eqb-true}
 use Rattle.xw_letters.specs.LetterSet.{has}
 use Rattle.xw_fill.specs.Position.{Position}
 use Rattle.xw_fill.specs.NamedFill.{entry_in}
-use Rattle.xw_fill.specs.Inner.Progress.{is_target, HasNone, IsOpen, IsFrame, with_frame, AreFrames, end_of}
+use Rattle.xw_fill.specs.Inner.Progress.{is_target, HasNone, IsOpen, IsFrame, IsStacked, with_frame, AreFrames, end_of}
 use Rattle.xw_fill.specs.declared.named_lights.frame.Frame.{Frame}
 
 -- ---- a frame on top
@@ -14,14 +14,26 @@ pub end_of-last : (now : List (Option ℕ)) (frames : List Frame) (frame : Frame
 end_of-last now [] frame = refl
 end_of-last now (first ∷ frames) frame = end_of-last (with_frame now first) frames frame
 
-pub AreFrames-more : (named : ℕ → Bool) (start : Position) (now : List (Option ℕ)) (frames : List Frame) (frame : Frame) → AreFrames named start now frames → IsFrame named start (end_of now frames) frame.cell frame.tried → AreFrames named start now (frames ++ frame ∷ [])
+pub AreFrames-more : (named : ℕ → Bool) (start : Position) (now : List (Option ℕ)) (frames : List Frame) (frame : Frame) → AreFrames named start now frames → IsStacked named start (end_of now frames) frame → AreFrames named start now (frames ++ frame ∷ [])
 AreFrames-more named start now [] frame are is = (is, tt)
 AreFrames-more named start now (first ∷ frames) frame are is = (are.0, AreFrames-more named start (with_frame now first) frames frame are.1 is)
 
-pub AreFrames-last : (named : ℕ → Bool) (start : Position) (now : List (Option ℕ)) (frames : List Frame) (frame : Frame) → AreFrames named start now (frames ++ frame ∷ []) → AreFrames named start now frames × IsFrame named start (end_of now frames) frame.cell frame.tried
+pub AreFrames-last : (named : ℕ → Bool) (start : Position) (now : List (Option ℕ)) (frames : List Frame) (frame : Frame) → AreFrames named start now (frames ++ frame ∷ []) → AreFrames named start now frames × IsStacked named start (end_of now frames) frame
 AreFrames-last named start now [] frame are = (tt, are.0)
 AreFrames-last named start now (first ∷ frames) frame are =
     let rest = AreFrames-last named start (with_frame now first) frames frame are.1 in
+    ((are.0, rest.0), rest.1)
+
+-- ---- some frames on top
+
+pub end_of-append : (now : List (Option ℕ)) (frames more : List Frame) → end_of now (frames ++ more) ≡ end_of (end_of now frames) more
+end_of-append now [] more = refl
+end_of-append now (first ∷ frames) more = end_of-append (with_frame now first) frames more
+
+pub AreFrames-append : (named : ℕ → Bool) (start : Position) (now : List (Option ℕ)) (frames more : List Frame) → AreFrames named start now (frames ++ more) → AreFrames named start now frames × AreFrames named start (end_of now frames) more
+AreFrames-append named start now [] more are = (tt, are)
+AreFrames-append named start now (first ∷ frames) more are =
+    let rest = AreFrames-append named start (with_frame now first) frames more are.1 in
     ((are.0, rest.0), rest.1)
 
 -- ---- a cell to fill

@@ -23,10 +23,11 @@ use Rattle.xw_fill.proofs.StateLemmas.{DiffersInEntries-then, same_state}
 use Rattle.xw_fill.proofs.StackLemmas.{differs_back}
 use Rattle.xw_fill.proofs.PlacingLemmas.{cell_in, entered-at, entered-from, spelled-same}
 use Rattle.xw_fill.specs.NamedFill.{flags, entry_in}
-use Rattle.xw_fill.specs.Inner.Progress.{is_target, is_watched, HasNone, IsDistinct, IsEntered, IsOpen, IsFrame, AreAlive, IsRepeatedAt, IsApartAt, IsRefuted, HasNoLetter, IsNextLetter, MayTry, AreFrames, with_frame, end_of, entries_of, IsAt, IsLetterEntered}
+use Rattle.xw_fill.specs.Inner.Progress.{is_target, is_watched, HasNone, IsDistinct, IsEntered, IsOpen, IsFrame, AreAlive, IsRepeatedAt, IsApartAt, IsRefuted, HasNoLetter, IsOnlyLetter, is_forced, IsNextLetter, MayTry, AreFrames, with_frame, end_of, entries_of, IsAt, IsLetterEntered}
 use Rattle.xw_fill.specs.declared.named_lights.frame.Frame.{Frame}
-use Rattle.xw_fill.proofs.NamedFills.{in_named-gives, target_parts, dead_has_none, repeat_has_none, exhausted_has_none, entered_letter}
-use Rattle.xw_fill.proofs.Frames.{end_of-last, AreFrames-more, AreFrames-last, frame_begun, frame_tried}
+use Rattle.xw_fill.proofs.NamedFills.{in_named-gives, target_parts, dead_has_none, repeat_has_none, exhausted_has_none, only_has_none, entered_letter}
+use Rattle.xw_fill.specs.Inner.Stack.{first_or, AreForced, LeadThrough, IsTakenBack}
+use Rattle.xw_fill.proofs.Frames.{end_of-last, end_of-append, AreFrames-more, AreFrames-append, frame_begun, frame_tried}
 
 -- ---- positions
 
@@ -184,16 +185,16 @@ module _ (named : ℕ → Bool) (start : State) (is : IsShaped (board_of start.g
   -- a letter that stands
   pub underway_on : (stack : List Frame) (frame : Frame) (before state : State) (watched : List Bool) → IsUnderway named start stack frame.cell frame.tried before
       → MayTry named (position_of start) (end_of (entries_of start) stack) frame.cell frame.letter → ((light : ℕ) → light < light_count (position_of start) → flags watched light ≡ is_watched named (position_of start) light)
-      → IsLetterEntered frame before state → AreAlive (flags watched) (position_of state) → IsApartAt (position_of state) frame.cell
+      → IsLetterEntered frame before state → AreAlive (flags watched) (position_of state) → IsApartAt (position_of state) frame.cell → (frame.is_forced ≡ true → IsOnlyLetter (position_of before) frame.cell frame.letter)
       → IsOpen named (position_of start) (end_of (entries_of start) (stack ++ frame ∷ [])) × AreFrames named (position_of start) (entries_of start) (stack ++ frame ∷ []) × IsAt start (end_of (entries_of start) (stack ++ frame ∷ [])) state
-  underway_on stack frame before state watched underway may are entered alive apart =
+  underway_on stack frame before state watched underway may are entered alive apart only =
       let now = end_of (entries_of start) stack in
       let at = entered_at start before state frame now underway.at entered in
       let position = at_position start state (with_frame now frame) at in
       let ends : end_of (entries_of start) (stack ++ frame ∷ []) ≡ with_frame now frame = end_of-last (entries_of start) stack frame in
       let is_open = letter_stands named (position_of start) now frame.cell frame.letter watched is may are (subst (AreAlive (flags watched)) position alive) (subst (λ (p : Position). IsApartAt p frame.cell) position apart) in (
         subst (IsOpen named (position_of start)) (sym ends) is_open,
-        AreFrames-more named (position_of start) (entries_of start) stack frame underway.frames underway.here,
+        AreFrames-more named (position_of start) (entries_of start) stack frame underway.frames (record { right = underway.here; only = λ forced. subst (λ (p : Position). IsOnlyLetter p frame.cell frame.letter) (at_position start before now underway.at) (only forced) }),
         subst (λ e. IsAt start e state) (sym ends) at,
       )
 
@@ -207,23 +208,42 @@ module _ (named : ℕ → Bool) (start : State) (is : IsShaped (board_of start.g
     at = at;
   }
 
-  -- back to the last cell with a letter, which is refuted
-  pub underway_back : (stack below : List Frame) (last : Frame) (cell tried more : ℕ) (state state_back : State) → IsUnderway named start stack cell tried state → stack ≡ below ++ last ∷ [] → HasNoLetter (position_of state) cell tried
+  -- where no fill keeps the letters of forced frames, there is none without them
+  pub forced_none : (now : List (Option ℕ)) (frames : List Frame) → AreFrames named (position_of start) now frames → AreForced is_forced frames → HasNone named (position_of start) (end_of now frames) → HasNone named (position_of start) now
+  forced_none now [] are forced none = none
+  forced_none now (frame ∷ frames) are forced none = only_has_none named (position_of start) now frame is are.0 forced.0 (forced_none (with_frame now frame) frames are.1 forced.1 none)
+
+  -- the entries before frames
+  at_before : (now : List (Option ℕ)) (frames : List Frame) (states : List State) (state : State) → AreFrames named (position_of start) now frames → LeadThrough IsLetterEntered frames states state → IsAt start (end_of now frames) state → IsAt start now (first_or states state)
+  at_before now [] [] state are lead at = at
+  at_before now [] (first ∷ states) state are lead at = absurd lead
+  at_before now (frame ∷ frames) [] state are lead at = absurd lead
+  at_before now (frame ∷ frames) (first ∷ states) state are lead at =
+      let next = first_or states state in
+      let after = at_before (with_frame now frame) frames states state are.1 lead.1 at in (
+        DiffersInEntries-then start next first after.0 (differs_back first next lead.0.entries),
+        sym (set_back (entries_of first) frame.cell frame.letter lead.0.empty) ∙ ap (λ e. set e frame.cell None) (sym lead.0.entered ∙ after.1) ∙ set_back now frame.cell frame.letter are.0.right.empty,
+      )
+
+  -- back to the last cell with another letter, which is refuted
+  pub underway_back : (stack below : List Frame) (last : Frame) (cell tried more : ℕ) (state state_back : State) → IsUnderway named start stack cell tried state → HasNoLetter (position_of state) cell tried
       → ((other : ℕ) → has more other ≡ (has last.tried other || (other == last.letter)))
-      → IsLetterEntered last state_back state → DiffersInEntries state state_back → IsUnderway named start below last.cell more state_back
-  underway_back stack below last cell tried more state state_back underway stack_is none has_more entered differs =
-      let now = end_of (entries_of start) below in
-      let frames = AreFrames-last named (position_of start) (entries_of start) below last (subst (AreFrames named (position_of start) (entries_of start)) stack_is underway.frames) in
-      let ends : end_of (entries_of start) stack ≡ set now last.cell (Some last.letter) = ap (end_of (entries_of start)) stack_is ∙ end_of-last (entries_of start) below last in
-      let none_there = subst (HasNone named (position_of start)) ends (underway_none stack cell tried state underway none) in
+      → IsTakenBack IsLetterEntered is_forced last below state_back stack state → IsUnderway named start below last.cell more state_back
+  underway_back stack below last cell tried more state state_back underway none has_more taken =
+      let first = entries_of start in
+      let now = end_of first below in
+      let frames = AreFrames-append named (position_of start) first below (last ∷ taken.after) (subst (AreFrames named (position_of start) first) taken.placements_are underway.frames) in
+      let ends : end_of first stack ≡ end_of (with_frame now last) taken.after = ap (end_of first) taken.placements_are ∙ end_of-append first below (last ∷ taken.after) in
+      let none_there = forced_none (with_frame now last) taken.after frames.1.1 taken.forced (subst (HasNone named (position_of start)) ends (underway_none stack cell tried state underway none)) in
       record {
         frames = frames.0;
-        here = frame_tried named (position_of start) now last.cell last.tried last.letter more frames.1 none_there has_more;
-        at = (
-          DiffersInEntries-then start state state_back underway.at.0 differs,
-          sym (set_back (entries_of state_back) last.cell last.letter entered.empty) ∙ ap (λ e. set e last.cell None) (sym entered.entered ∙ underway.at.1 ∙ ends) ∙ set_back now last.cell last.letter frames.1.empty,
-        );
+        here = frame_tried named (position_of start) now last.cell last.tried last.letter more frames.1.0.right none_there has_more;
+        at = at_before now (last ∷ taken.after) (state_back ∷ taken.states) state frames.1 taken.through (subst (λ e. IsAt start e state) ends underway.at);
       }
+
+  -- where all frames are forced and the last cell is refuted, there is no fill
+  pub underway_end : (stack : List Frame) (cell tried : ℕ) (state : State) → IsUnderway named start stack cell tried state → HasNoLetter (position_of state) cell tried → AreForced is_forced stack → HasNone named (position_of start) (entries_of start)
+  underway_end stack cell tried state underway none forced = forced_none (entries_of start) stack underway.frames forced (underway_none stack cell tried state underway none)
 
 -- ---- cells to be filled are open
 

@@ -24,7 +24,8 @@ use Rattle.xw_fill.proofs.PlacingLemmas.{length-spelled, entered-at, entered-fro
 use Rattle.xw_fill.proofs.SearchLemmas.{open_base, cells_within}
 use Rattle.xw_fill.proofs.FillLemmas.{active_base, entered_base, has_words}
 use Rattle.xw_fill.specs.NamedFill.{passes, is_in_named, entry_in, Keeps, IsChanged, IsFillOf}
-use Rattle.xw_fill.specs.Inner.Progress.{is_target, is_watched, HasNone, IsEntered, IsOpen, IsFrame}
+use Rattle.xw_fill.specs.Inner.Progress.{IsStacked, with_frame, is_target, is_watched, HasNone, IsEntered, IsOpen, IsFrame}
+use Rattle.xw_fill.specs.declared.named_lights.frame.Frame.{Frame}
 
 -- ---- lists
 
@@ -263,6 +264,14 @@ exhausted_has_none named start now cell tried shaped frame all fill is keeps =
     let found = fill_letter named start now fill cell entered is keeps frame.target in
     let within : cell < length now = omega (arith, entered.long, target_within named start cell shaped frame.target) in
     frame.refuted found.0 (all found.0 found.2) fill is (keeps_letter now fill cell found.0 within keeps found.1)
+
+-- where no fill has the only feasible letter of a cell, there is none
+pub only_has_none : (named : ℕ → Bool) (start : Position) (now : List (Option ℕ)) (frame : Frame) → IsShaped start.board → IsStacked named start now frame → frame.is_forced ≡ true → HasNone named start (with_frame now frame) → HasNone named start now
+only_has_none named start now frame shaped stacked is none fill is_fill keeps =
+    let entered = stacked.right.is_open.entered in
+    let found = fill_letter named start now fill frame.cell entered is_fill keeps stacked.right.target in
+    let within : frame.cell < length now = omega (arith, entered.long, target_within named start frame.cell shaped stacked.right.target) in
+    none fill is_fill (keeps_letter now fill frame.cell frame.letter within keeps (found.1 ∙ ap Some (stacked.only is found.0 found.2)))
 
 -- ---- one more letter
 

@@ -44,6 +44,20 @@ impl<E: Searchable> Marks<E> {
         }
     }
 
+    /// Makes one more snapshot if none is free and there are fewer than `most`. If its allocation fails, makes none.
+    pub fn widen(&mut self, engine: &E, most: usize)
+        requires twins { AreTwins E.saved self.old (E.state engine.now) }
+        ensures held { held_of E.saved self.new ≡ held_of E.saved self.old }
+        ensures twins { AreTwins E.saved self.new (E.state engine.now) }
+    {
+        if self.held < self.snapshots.len() || self.snapshots.len() >= most {
+            return;
+        }
+        if let Ok(snapshot) = engine.snapshot() {
+            let _ = self.snapshots.push(snapshot);
+        }
+    }
+
     /// Saves the current state in the first free snapshot, which becomes a mark when `keep` is called. If no snapshot
     /// is free, the oldest mark is forgotten. Returns whether there is room for any mark; if not, nothing changes.
     pub fn prepare(&mut self, engine: &E) -> bool

@@ -1,5 +1,5 @@
 //! What a search places in one step.
-ghost use Rattle.std.specs.Prelude.{◌≡◌, IfSome, IfNone};
+ghost use Rattle.std.specs.Prelude.{◌≡◌, Bool, IfSome, IfNone};
 ghost use Rattle.xw_feas.specs.State.{State};
 ghost use Rattle.xw_fill.specs.NamedFill.{flags};
 ghost use Rattle.xw_fill.specs.Position.{DiffersInEntries};
@@ -15,6 +15,13 @@ pub trait Placement: Copy {
 
     /// It leads from one state to another.
     ghost is_placed: { Self → State → State → Type 0 };
+
+    /// Nothing else can be placed where it is placed.
+    ghost forced: { Self → Bool };
+
+    /// Whether nothing else can be placed where it is placed. A search that goes back passes over it.
+    fn is_forced(&self) -> bool
+        ensures { result ≡ forced self.now };
 
     /// Places it.
     fn place<E: Feasible>(&self, engine: &mut E)

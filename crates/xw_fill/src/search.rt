@@ -6,7 +6,7 @@ ghost use Rattle.xw_fill.specs.OfState.{is_dead, light_count, unentered_count, o
 ghost use Rattle.xw_fill.specs.Inner.OfState.{AreEntered};
 ghost use Rattle.xw_fill.specs.Inner.Stack.{start_of, StandsAt, HasTried};
 ghost use Rattle.xw_fill.specs.NamedFill.{flags};
-ghost use Rattle.xw_fill.specs.Inner.Tries.{CanBeMade, IsMade};
+ghost use Rattle.xw_fill.specs.Inner.Tries.{CanBeMade, IsMade, is_forced};
 ghost use Rattle.xw_fill.specs.Inner.Stepping.{HasPlaced, HasDied};
 ghost use Rattle.xw_fill.specs.Inner.Noted.{noted, StayNoted};
 ghost use Rattle.xw_fill.specs.Filling.{IsFilling, HasFill, UnlessFilled, unless_repeated};
@@ -93,11 +93,11 @@ fn place_word<E: Searchable>(
 ) -> Option<usize>
     requires may { CanBeMade tried (E.state engine.old) }
     requires room { length stack.old.placements.items < vec_capacity stack.old.placements }
-    requires stands { StandsAt E.saved IsMade stack.old (E.state engine.old) }
+    requires stands { StandsAt E.saved IsMade is_forced stack.old (E.state engine.old) }
     ensures capacity { vec_capacity stack.old.placements ≤ vec_capacity stack.new.placements }
     ensures start { start_of E.saved stack.new ≡ start_of E.saved stack.old }
     ensures entries { DiffersInEntries (E.state engine.old) (E.state engine.new) }
-    ensures stands { StandsAt E.saved IsMade stack.new (E.state engine.new) }
+    ensures stands { StandsAt E.saved IsMade is_forced stack.new (E.state engine.new) }
     ensures tried { HasTried IsMade (flags watched.now) tried (E.state engine.old) stack.old.placements.items (E.state engine.new) stack.new.placements.items result }
 {
     match stack.try_place(engine, tried, watched) {
@@ -118,7 +118,7 @@ fn try_word<E: Searchable>(
     requires may { CanBeMade tried (E.state engine.old) }
     requires alive { is_dead (E.state engine.old) ≡ false }
     requires room { length stack.old.placements.items < vec_capacity stack.old.placements }
-    requires stands { StandsAt E.saved IsMade stack.old (E.state engine.old) }
+    requires stands { StandsAt E.saved IsMade is_forced stack.old (E.state engine.old) }
     requires long { length since.old ≡ light_count (E.state engine.old) }
     requires entered { AreEntered (E.state engine.old) (noted since.old (suc (length stack.old.placements.items))) }
     ensures long { length since.new ≡ length since.old }
@@ -126,7 +126,7 @@ fn try_word<E: Searchable>(
     ensures capacity { vec_capacity stack.old.placements ≤ vec_capacity stack.new.placements }
     ensures start { start_of E.saved stack.new ≡ start_of E.saved stack.old }
     ensures entries { DiffersInEntries (E.state engine.old) (E.state engine.new) }
-    ensures stands { StandsAt E.saved IsMade stack.new (E.state engine.new) }
+    ensures stands { StandsAt E.saved IsMade is_forced stack.new (E.state engine.new) }
     ensures placed { IfSome result (λ next. HasPlaced tried (E.state engine.old) stack.old.placements.items (E.state engine.new) stack.new.placements.items since.new next) }
     ensures died { IfNone result (HasDied tried (E.state engine.old) stack.old.placements.items (E.state engine.new) stack.new.placements.items since.old since.new) }
 {
@@ -166,7 +166,7 @@ fn fill_from<E: Searchable>(
     requires empty { stack.old.placements.items ≡ [] }
     requires room { light_count (E.state engine.old) ≤ vec_capacity stack.old.placements }
     requires start { start_of E.saved stack.old ≡ E.state engine.old }
-    requires stands { StandsAt E.saved IsMade stack.old (E.state engine.old) }
+    requires stands { StandsAt E.saved IsMade is_forced stack.old (E.state engine.old) }
     requires long { length since.old ≡ light_count (E.state engine.old) }
     requires entered { AreEntered (E.state engine.old) (noted since.old 1) }
     ensures found { IsFilling limit (E.state engine.old) (E.state engine.new) result }

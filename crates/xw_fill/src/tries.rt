@@ -6,7 +6,7 @@ ghost use Rattle.xw_fill.specs.Position.{position_of, placed, DiffersInEntries};
 ghost use Rattle.xw_fill.specs.OfState.{light_count, IsTriedAt, spellings_at};
 ghost use Rattle.xw_fill.specs.Inner.OfState.{IsDead};
 ghost use Rattle.xw_fill.specs.NamedFill.{flags};
-ghost use Rattle.xw_fill.specs.Inner.Tries.{taken_back, AreBlanks, CanBeMade, IsMade, IsWordPlaced};
+ghost use Rattle.xw_fill.specs.Inner.Tries.{taken_back, AreBlanks, CanBeMade, IsMade, is_forced, IsWordPlaced};
 
 use crate::placement::Placement;
 use crate::scan::{board, light_at};
@@ -127,6 +127,12 @@ impl Placement for Try {
     ghost may_place = { CanBeMade };
 
     ghost is_placed = { IsMade };
+
+    ghost forced = { is_forced };
+
+    fn is_forced(&self) -> bool {
+        false
+    }
 
     ghost entries = { λ tried before after made. made.entries };
 

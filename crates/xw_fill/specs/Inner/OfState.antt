@@ -75,6 +75,9 @@ IsRefuted watched state = Progress.IsRefuted watched (position_of state)
 abbrev pub IsNextLetter : State → ℕ → ℕ → ℕ → Type 0
 IsNextLetter state = Progress.IsNextLetter (position_of state)
 
+abbrev pub IsOnlyLetter : State → ℕ → ℕ → Type 0
+IsOnlyLetter state = Progress.IsOnlyLetter (position_of state)
+
 abbrev pub HasNoLetter : State → ℕ → ℕ → Type 0
 HasNoLetter state = Progress.HasNoLetter (position_of state)
 

@@ -121,6 +121,15 @@ pub record IsFrame (named : ℕ → Bool) (start : Position) (now : List (Option
   pub empty : entry_in now cell ≡ None
   pub refuted : (letter : ℕ) → has tried letter ≡ true → HasNone named start (slice_set now cell (Some letter))
 
+-- the letter is the only feasible one of the cell
+abbrev pub IsOnlyLetter : Position → ℕ → ℕ → Type 0
+IsOnlyLetter now cell letter = (other : ℕ) → is_feasible_letter now cell other ≡ true → other ≡ letter
+
+-- a frame of a stack: it is right where its letter was entered, and forced only if no other letter was feasible there
+pub record IsStacked (named : ℕ → Bool) (start : Position) (now : List (Option ℕ)) (frame : Frame) : Type 0 where
+  pub right : IsFrame named start now frame.cell frame.tried
+  pub only : frame.is_forced ≡ true → IsOnlyLetter (holding start now) frame.cell frame.letter
+
 -- the entries with the letter of a frame
 abbrev pub with_frame : List (Option ℕ) → Frame → List (Option ℕ)
 with_frame now frame = slice_set now frame.cell (Some frame.letter)
@@ -128,7 +137,7 @@ with_frame now frame = slice_set now frame.cell (Some frame.letter)
 -- each frame of a stack is right where the letters of the frames below it are entered
 abbrev pub AreFrames : (ℕ → Bool) → Position → List (Option ℕ) → List Frame → Type 0
 AreFrames named start now [] = Unit {0}
-AreFrames named start now (frame ∷ frames) = IsFrame named start now frame.cell frame.tried × AreFrames named start (with_frame now frame) frames
+AreFrames named start now (frame ∷ frames) = IsStacked named start now frame × AreFrames named start (with_frame now frame) frames
 
 -- the entries with the letters of all frames
 abbrev pub end_of : List (Option ℕ) → List Frame → List (Option ℕ)
@@ -162,6 +171,10 @@ pub record MayTry (named : ℕ → Bool) (start : Position) (now : List (Option 
 pub record CanBeEntered (frame : Frame) (state : State) : Type 0 where
   pub opens : is_open (board_of state.grid) frame.cell ≡ true
   pub empty : entry_in (entries_of state) frame.cell ≡ None
+
+-- no other letter is feasible in the cell of a frame
+abbrev pub is_forced : Frame → Bool
+is_forced frame = frame.is_forced
 
 -- the cell took the letter, and nothing else changed
 pub record IsLetterSet (cell letter : ℕ) (before after : State) : Type 0 where

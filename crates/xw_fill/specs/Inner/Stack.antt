@@ -1,5 +1,5 @@
 -- The stack of a search: its placements in order, and the states that they lead through.
-use Rattle.std.specs.Prelude.{◌≡◌, ℕ, Bool, true, List, [], ◌∷◌, ◌++◌, Option, Some, None}
+use Rattle.std.specs.Prelude.{◌≡◌, ℕ, Bool, true, false, cond, List, [], ◌∷◌, ◌++◌, Option, Some, None}
 use Rattle.xw_feas.specs.State.{State}
 use Rattle.xw_feas.specs.Snapshot.{IsTwin}
 use Rattle.xw_fill.specs.Marks.{held_of, AreTwins, HoldsFree}
@@ -22,20 +22,39 @@ LeadThrough is_placed [] (state ∷ states) now = ⊥
 LeadThrough is_placed (placement ∷ placements) [] now = ⊥
 LeadThrough is_placed (placement ∷ placements) (state ∷ states) now = is_placed placement state (first_or states now) × LeadThrough is_placed placements states now
 
+-- of the states before the placements those where something else might have been placed
+abbrev pub before_choices : {M : Type 0} → (M → Bool) → List M → List State → List State
+before_choices is_forced [] states = []
+before_choices is_forced (placement ∷ placements) [] = []
+before_choices is_forced (placement ∷ placements) (state ∷ states) = cond (is_forced placement) (before_choices is_forced placements states) (state ∷ before_choices is_forced placements states)
+
+abbrev pub AreForced : {M : Type 0} → (M → Bool) → List M → Type 0
+AreForced is_forced [] = Unit {0}
+AreForced is_forced (placement ∷ placements) = (is_forced placement ≡ true) × AreForced is_forced placements
+
 -- the snapshots can save the state and be exchanged with it
 pub record IsReady {E S M : Type 0} (saved : S → State) (stack : Stack E M S) (now : State) : Type 0 where
   pub root : IsTwin (saved stack.root) now
   pub marks : AreTwins saved stack.marks now
 
--- the placements lead to the state, and the marks hold the states before the last of them; after `prepare` the first
--- free snapshot holds the state
-pub record StandsAt {E S M : Type 0} (saved : S → State) (is_placed : M → State → State → Type 0) (stack : Stack E M S) (now : State) : Type 0 where
+-- the placements lead to the state, and the marks hold the states before the last of them that were not forced; after
+-- `prepare` the first free snapshot holds the state
+pub record StandsAt {E S M : Type 0} (saved : S → State) (is_placed : M → State → State → Type 0) (is_forced : M → Bool) (stack : Stack E M S) (now : State) : Type 0 where
   pub states : List State
   pub through : LeadThrough is_placed stack.placements.items states now
   pub older : List State
-  pub held : states ≡ older ++ held_of saved stack.marks
+  pub held : before_choices is_forced stack.placements.items states ≡ older ++ held_of saved stack.marks
   pub ready : IsReady saved stack now
   pub prepared : stack.is_prepared ≡ true → HoldsFree saved stack.marks now
+
+-- a placement that was not forced was taken back, with the forced ones after it
+pub record IsTakenBack {M : Type 0} (is_placed : M → State → State → Type 0) (is_forced : M → Bool) (placement : M) (left : List M) (before : State) (placements : List M) (now : State) : Type 0 where
+  pub after : List M
+  pub states : List State
+  pub placements_are : placements ≡ left ++ placement ∷ after
+  pub choice : is_forced placement ≡ false
+  pub forced : AreForced is_forced after
+  pub through : LeadThrough is_placed (placement ∷ after) (before ∷ states) now
 
 -- what trying a placement led to: it was placed; or a watched light is dead where it leads, and nothing changed
 abbrev pub HasTried : {M : Type 0} → (M → State → State → Type 0) → (ℕ → Bool) → M → State → List M → State → List M → Option ℕ → Type 0

@@ -29,6 +29,10 @@ pub record CanBeMade (tried : Try) (state : State) : Type 0 where
   pub word : IsTriedAt (position_of state) tried.light tried.index
   pub blanks : AreBlanks (board_of state.grid) (light_at (board_of state.grid) tried.light) tried.blanks
 
+-- another word may always be tried in its place
+abbrev pub is_forced : Try → Bool
+is_forced tried = false
+
 -- the known word with this index was placed in a light
 pub record IsWordPlaced (light index : ℕ) (before after : State) : Type 0 where
   pub placed : position_of after ≡ placed (position_of before) light (slice_index_or (spellings_at (position_of before) light) index [])

@@ -4,7 +4,7 @@ ghost use Rattle.std.specs.Prelude.{◌≡◌, ◌≤◌, ◌<◌, ℕ, All, Con
 ghost use Rattle.xw_letters.specs.LetterSet.{has};
 ghost use Rattle.xw_feas.specs.Board.{board_of, is_open};
 ghost use Rattle.xw_fill.specs.OfState.{is_feasible_letter, light_count};
-ghost use Rattle.xw_fill.specs.Inner.OfState.{IsNextLetter, HasNoLetter};
+ghost use Rattle.xw_fill.specs.Inner.OfState.{IsNextLetter, IsOnlyLetter, HasNoLetter};
 ghost use Rattle.xw_fill.specs.NamedFill.{entry_in};
 ghost use Rattle.xw_fill.specs.Inner.Progress.{entries_of};
 
@@ -23,6 +23,14 @@ pub fn letters_at<E: Feasible>(engine: &E, cell: usize) -> LetterSet
         Ok(letters) => letters,
         Err(_) => unreachable!(),
     }
+}
+
+/// Whether a letter is the only feasible one of an open cell.
+pub fn is_only_letter<E: Feasible>(engine: &E, cell: usize, letter: Letter) -> bool
+    requires { is_open (board_of (E.state engine.now).grid) cell ≡ true }
+    ensures { result ≡ true → IsOnlyLetter (E.state engine.now) cell letter }
+{
+    letters_at(engine, cell).is_same(LetterSet::only(letter))
 }
 
 /// The tie-break number of a cell, which depends on the seed. Of cells that are otherwise alike, the one with the

@@ -5,7 +5,7 @@ ghost use Rattle.xw_feas.specs.State.{State};
 ghost use Rattle.xw_fill.specs.NamedFill.{flags};
 ghost use Rattle.xw_fill.specs.Position.{DiffersInEntries};
 ghost use Rattle.xw_fill.specs.Inner.OfState.{IsDead};
-ghost use Rattle.xw_fill.specs.Inner.Progress.{entries_of, CanBeEntered, IsLetterEntered, IsLetterSet};
+ghost use Rattle.xw_fill.specs.Inner.Progress.{entries_of, CanBeEntered, is_forced, IsLetterEntered, IsLetterSet};
 
 use crate::placement::Placement;
 use xw_feas::edit::{Edit, EntryEdit};
@@ -14,12 +14,14 @@ use xw_feas::searchable::Searchable;
 use xw_letters::letter::Letter;
 use xw_letters::letter_set::LetterSet;
 
-/// A cell, by its index in reading order, the letter in it, and the letters that were tried there without a fill.
+/// A cell, by its index in reading order, the letter in it, the letters that were tried there without a fill, and
+/// whether the letter is the only feasible one.
 #[derive(Clone, Copy)]
 pub struct Frame {
     pub cell: usize,
     pub letter: Letter,
     pub tried: LetterSet,
+    pub is_forced: bool,
 }
 
 /// Enters a letter in an open cell, by the cell's index.
@@ -68,6 +70,12 @@ impl Placement for Frame {
     ghost may_place = { CanBeEntered };
 
     ghost is_placed = { IsLetterEntered };
+
+    ghost forced = { is_forced };
+
+    fn is_forced(&self) -> bool {
+        self.is_forced
+    }
 
     ghost entries = { λ frame before after entered. entered.entries };
 

@@ -8,11 +8,11 @@ ghost use Rattle.xw_fill.specs.OfState.{light_count, IsFillOf};
 ghost use Rattle.xw_fill.specs.Inner.OfState.{HasNone, IsPlan, IsOpen, IsRefuted, AreAlive, IsApartAt};
 ghost use Rattle.xw_fill.specs.Inner.Stack.{start_of, IsReady, StandsAt};
 ghost use Rattle.xw_fill.specs.NamedFill.{flags};
-ghost use Rattle.xw_fill.specs.Inner.Progress.{entries_of, CanBeEntered, IsLetterEntered, IsTried};
+ghost use Rattle.xw_fill.specs.Inner.Progress.{entries_of, CanBeEntered, is_forced, IsLetterEntered, IsTried};
 
 use crate::allowance::Allowance;
 use crate::named_lights::checks::{first_dead, has_repeat_at};
-use crate::named_lights::choice::{next_cell, next_letter};
+use crate::named_lights::choice::{is_only_letter, next_cell, next_letter};
 use crate::named_lights::frame::Frame;
 use crate::named_lights::plan::Plan;
 use crate::stack::Stack;
@@ -120,12 +120,12 @@ fn try_letter<E: Searchable>(
 ) -> Result<bool, AllocError>
     requires can { CanBeEntered frame (E.state engine.old) }
     requires long { length plan.now.watched.items ≡ light_count (E.state engine.old) }
-    requires stands { StandsAt E.saved IsLetterEntered stack.old (E.state engine.old) }
+    requires stands { StandsAt E.saved IsLetterEntered is_forced stack.old (E.state engine.old) }
     requires left { allowance.old.made < allowance.old.until }
     ensures made { allowance.new.made ≡ suc allowance.old.made }
     ensures until { allowance.new.until ≡ allowance.old.until }
     ensures limit { allowance.new.limit ≡ allowance.old.limit }
-    ensures stands { StandsAt E.saved IsLetterEntered stack.new (E.state engine.new) }
+    ensures stands { StandsAt E.saved IsLetterEntered is_forced stack.new (E.state engine.new) }
     ensures start { start_of E.saved stack.new ≡ start_of E.saved stack.old }
     ensures entries { DiffersInEntries (E.state engine.old) (E.state engine.new) }
     ensures tried { IfOk result (λ stands. IsTried (flags plan.now.watched.items) frame stands (E.state engine.old) stack.old.placements.items (E.state engine.new) stack.new.placements.items) }
@@ -165,7 +165,7 @@ fn search<E: Searchable>(
 ) -> Ending
     requires plan { IsPlan (E.state engine.old) plan.now }
     requires open { IsOpen (flags plan.now.named.items) (E.state engine.old) (entries_of (E.state engine.old)) }
-    requires stands { StandsAt E.saved IsLetterEntered stack.old (E.state engine.old) }
+    requires stands { StandsAt E.saved IsLetterEntered is_forced stack.old (E.state engine.old) }
     requires empty { stack.old.placements.items ≡ [] }
     ensures ready { IsReady E.saved stack.new (E.state engine.new) }
     ensures start { start_of E.saved stack.new ≡ start_of E.saved stack.old }
@@ -185,12 +185,13 @@ fn search<E: Searchable>(
     let mut fails: u64 = 0;
     loop {
         let Some(letter) = next_letter(engine, cell, tried, effort.weighted) else {
-            let Some(below) = stack.back(engine) else {
+            let depth = stack.len();
+            let Some(below) = stack.retreat(engine) else {
                 return Ending::NoFill;
             };
             cell = below.cell;
             tried = with_letter(below.tried, below.letter);
-            fails = fails.saturating_add(1);
+            fails = fails.saturating_add((depth - stack.len()) as u64);
             continue;
         };
         if allowance.is_spent() {
@@ -200,6 +201,7 @@ fn search<E: Searchable>(
             cell,
             letter,
             tried,
+            is_forced: is_only_letter(engine, cell, letter),
         };
         let Ok(stands) = try_letter(engine, stack, plan, &mut effort.weights, frame, allowance)
         else {

@@ -5,7 +5,7 @@ use Rattle.xw_fill.specs.declared.search.Next.{Next}
 use Rattle.xw_fill.specs.declared.search.Next.TheVariants.{Done, Spent, Words}
 use Rattle.xw_fill.specs.Search.{light_count}
 use Rattle.xw_fill.specs.Inner.Stack.{start_of, StandsAt}
-use Rattle.xw_fill.specs.Inner.Tries.{IsMade}
+use Rattle.xw_fill.specs.Inner.Tries.{IsMade, is_forced}
 use Rattle.xw_fill.proofs.Trail.{AreNotedAlong}
 use Rattle.xw_fill.proofs.Searching.{IsSearching}
 use Rattle.xw_fill.proofs.search.fill_from.Given as goal
@@ -19,7 +19,7 @@ invariant-search g l =
       searching : IsSearching (position_of start) tries l.used (position_of now) l.next;
       entries : DiffersInEntries start now;
       root : start_of g.E.Searchable.saved l.stack ≡ start;
-      stands : StandsAt g.E.Searchable.saved IsMade l.stack now;
+      stands : StandsAt g.E.Searchable.saved IsMade is_forced l.stack now;
       room : light_count (position_of start) ≤ vec_capacity l.stack.placements;
       few : l.used ≤ l.limit;
       long : length l.since ≡ light_count (position_of start);

@@ -1,18 +1,17 @@
 use Rattle.std.proofs.Common.{◌∷◌, ◌++◌, [], length, refl, sym, ap, ◌∙◌, subst, arith}
-use Rattle.std.proofs.lemmas.List.{length-append}
+use Rattle.std.proofs.lemmas.List.{length-append, nil_from_length}
 use Rattle.xw_letters.proofs.LetterSetLemmas.{has-none}
 use Rattle.xw_feas.specs.Board.{board_of}
 use Rattle.xw_fill.specs.Position.{Position, position_of}
-use Rattle.xw_fill.specs.Allowance.{IsCounted}
 use Rattle.xw_fill.specs.Search.{light_count}
 use Rattle.xw_fill.specs.NamedFill.{flags, entry_in}
-use Rattle.xw_fill.specs.Inner.Progress.{entries_of, end_of, HasNone, IsOpen, IsTried}
+use Rattle.xw_fill.specs.Inner.Progress.{entries_of, IsOpen, IsTried}
 use Rattle.xw_fill.specs.declared.named_lights.frame.Frame.{Frame}
 use Rattle.xw_fill.proofs.AllowanceLemmas.{counted-none, counted_letters, counted_some}
 use Rattle.xw_fill.proofs.Shaped.{shaped}
 use Rattle.xw_fill.proofs.StateLemmas.{DiffersInEntries-itself, DiffersInEntries-then}
 use Rattle.xw_fill.proofs.NamedFills.{open_is_fill}
-use Rattle.xw_fill.proofs.LetterSearch.{IsUnderway, position_at, may_try, underway_none, underway_tried, underway_on, underway_at, underway_back, target_open, open_there, targets_open, chosen_target, none_left}
+use Rattle.xw_fill.proofs.LetterSearch.{IsUnderway, position_at, may_try, underway_tried, underway_on, underway_at, underway_back, underway_end, target_open, open_there, targets_open, chosen_target, none_left}
 use Rattle.xw_fill.proofs.named_lights.run.search.Goals as goal
 
 pub next_cell-requires : goal.next_cell-requires
@@ -53,27 +52,33 @@ next_letter-requires g c =
     let is = shaped (board_of start.grid) (g.met.E.Feasible.well_formed c.args.engine.now).board in
     open_there start (g.E.Feasible.state c.loop-letter.engine) c.loop-letter.cell underway.at.0 (target_open (flags c.args.plan.now.named.items) (position_of start) c.loop-letter.cell is underway.here.target)
 
-pub back-requires : goal.back-requires
-back-requires g c = record { stands = c.loop-letter.invariant.stands }
-
-pub returns-in_default-back-clause-start : goal.returns-in_default-back-clause-start
-returns-in_default-back-clause-start g c = c.back.ensures.start ∙ c.loop-letter.invariant.root
-
-pub returns-in_default-back-clause-entries : goal.returns-in_default-back-clause-entries
-returns-in_default-back-clause-entries g c =
-    DiffersInEntries-then (g.E.Feasible.state c.args.engine.now) (g.E.Feasible.state c.loop-letter.engine) (g.E.Feasible.state c.back.new.engine) c.loop-letter.invariant.underway.at.0 c.back.ensures.entries
-
-pub returns-in_default-back-clause-no_fill : goal.returns-in_default-back-clause-no_fill
-returns-in_default-back-clause-no_fill g c is_none =
+pub is_only_letter-requires : goal.is_only_letter-requires
+is_only_letter-requires g c =
     let start = g.E.Feasible.state c.args.engine.now in
-    let named = flags c.args.plan.now.named.items in
+    let underway = c.loop-letter.invariant.underway in
     let is = shaped (board_of start.grid) (g.met.E.Feasible.well_formed c.args.engine.now).board in
-    let none = underway_none named start is c.loop-letter.stack.placements.items c.loop-letter.cell c.loop-letter.tried (g.E.Feasible.state c.loop-letter.engine) c.loop-letter.invariant.underway c.in_default-next_letter.ensures.none in
-    subst (λ items. HasNone named (position_of start) (end_of (entries_of start) items)) c.in_default-back.ensures.none none
+    open_there start (g.E.Feasible.state c.loop-letter.engine) c.loop-letter.cell underway.at.0 (target_open (flags c.args.plan.now.named.items) (position_of start) c.loop-letter.cell is underway.here.target)
+
+pub retreat-requires : goal.retreat-requires
+retreat-requires g c = record { stands = c.loop-letter.invariant.stands }
+
+pub returns-in_default-retreat-clause-start : goal.returns-in_default-retreat-clause-start
+returns-in_default-retreat-clause-start g c = c.retreat.ensures.start ∙ c.loop-letter.invariant.root
+
+pub returns-in_default-retreat-clause-entries : goal.returns-in_default-retreat-clause-entries
+returns-in_default-retreat-clause-entries g c =
+    DiffersInEntries-then (g.E.Feasible.state c.args.engine.now) (g.E.Feasible.state c.loop-letter.engine) (g.E.Feasible.state c.retreat.new.engine) c.loop-letter.invariant.underway.at.0 c.retreat.ensures.entries
+
+pub returns-in_default-retreat-clause-no_fill : goal.returns-in_default-retreat-clause-no_fill
+returns-in_default-retreat-clause-no_fill g c is_none =
+    let start = g.E.Feasible.state c.args.engine.now in
+    let is = shaped (board_of start.grid) (g.met.E.Feasible.well_formed c.args.engine.now).board in
+    underway_end (flags c.args.plan.now.named.items) start is c.loop-letter.stack.placements.items c.loop-letter.cell c.loop-letter.tried (g.E.Feasible.state c.loop-letter.engine) c.loop-letter.invariant.underway c.in_default-next_letter.ensures.none c.in_default-retreat.ensures.none
 
 pub loop-letter-smaller-in_default-next_letter : goal.loop-letter-smaller-in_default-next_letter
 loop-letter-smaller-in_default-next_letter g c =
-    omega (arith, ap length c.in-Some-back.ensures.placements, length-append c.back.new.self.placements.items (c.in-Some-back.below ∷ []))
+    let taken = c.in-Some-retreat.ensures.back in
+    omega (arith, ap length taken.placements_are, length-append c.retreat.new.self.placements.items (c.in-Some-retreat.below ∷ taken.after))
 
 pub loop-letter-preserved-in_default-next_letter : goal.loop-letter-preserved-in_default-next_letter
 loop-letter-preserved-in_default-next_letter g c =
@@ -81,12 +86,13 @@ loop-letter-preserved-in_default-next_letter g c =
     let named = flags c.args.plan.now.named.items in
     let is = shaped (board_of start.grid) (g.met.E.Feasible.well_formed c.args.engine.now).board in
     let inv = c.loop-letter.invariant in
+    let taken = c.in-Some-retreat.ensures.back in
     record {
-      stands = c.back.ensures.stands;
-      root = c.back.ensures.start ∙ inv.root;
-      underway = underway_back named start is c.loop-letter.stack.placements.items c.back.new.self.placements.items c.in-Some-back.below c.loop-letter.cell c.loop-letter.tried c.with_letter-tried.result
-          (g.E.Feasible.state c.loop-letter.engine) (g.E.Feasible.state c.back.new.engine) inv.underway c.in-Some-back.ensures.placements c.in_default-next_letter.ensures.none c.with_letter-tried.ensures c.in-Some-back.ensures.back c.back.ensures.entries;
-      stand = omega (arith, inv.stand, ap length c.in-Some-back.ensures.placements, length-append c.back.new.self.placements.items (c.in-Some-back.below ∷ []));
+      stands = c.retreat.ensures.stands;
+      root = c.retreat.ensures.start ∙ inv.root;
+      underway = underway_back named start is c.loop-letter.stack.placements.items c.retreat.new.self.placements.items c.in-Some-retreat.below c.loop-letter.cell c.loop-letter.tried c.with_letter-tried.result
+          (g.E.Feasible.state c.loop-letter.engine) (g.E.Feasible.state c.retreat.new.engine) inv.underway c.in_default-next_letter.ensures.none c.with_letter-tried.ensures taken;
+      stand = omega (arith, inv.stand, ap length taken.placements_are, length-append c.retreat.new.self.placements.items (c.in-Some-retreat.below ∷ taken.after));
       until = inv.until;
       limit = inv.limit;
     }
@@ -134,7 +140,7 @@ returns-then-fails-cut-clause-entries g c =
 pub loop-letter-smaller-then-not-stands : goal.loop-letter-smaller-then-not-stands
 loop-letter-smaller-then-not-stands g c =
     let stack = c.loop-letter.stack.placements.items in
-    let frame : Frame = record { cell = c.loop-letter.cell; letter = c.in-Some-next_letter.letter; tried = c.loop-letter.tried } in
+    let frame : Frame = record { cell = c.loop-letter.cell; letter = c.in-Some-next_letter.letter; tried = c.loop-letter.tried; is_forced = c.is_only_letter.result } in
     let led = subst (λ b. IsTried (flags c.args.plan.now.watched.items) frame b (g.E.Feasible.state c.loop-letter.engine) stack (g.E.Feasible.state c.try_letter.new.engine) c.try_letter.new.stack.placements.items) c.if-not-stands.true c.in-Ok.ensures.tried in
     omega (arith, c.try_letter.ensures.made, c.try_letter.ensures.until, c.is_spent.ensures.left c.if-is_spent.false, ap length led.0)
 
@@ -147,7 +153,7 @@ loop-letter-preserved-then-not-stands g c =
     let is = shaped (board_of start.grid) (g.met.E.Feasible.well_formed c.args.engine.now).board in
     let underway = c.loop-letter.invariant.underway in
     let stack = c.loop-letter.stack.placements.items in
-    let frame : Frame = record { cell = c.loop-letter.cell; letter = c.in-Some-next_letter.letter; tried = c.loop-letter.tried } in
+    let frame : Frame = record { cell = c.loop-letter.cell; letter = c.in-Some-next_letter.letter; tried = c.loop-letter.tried; is_forced = c.is_only_letter.result } in
     let may = may_try named start stack c.loop-letter.cell c.loop-letter.tried c.in-Some-next_letter.letter now underway c.in-Some-next_letter.ensures.some in
     let led = subst (λ b. IsTried (flags c.args.plan.now.watched.items) frame b now stack after c.try_letter.new.stack.placements.items) c.if-not-stands.true c.in-Ok.ensures.tried in
     record {
@@ -184,17 +190,17 @@ returns-in_default-next_cell-clause-filled g c is_filled =
     let is = shaped (board_of start.grid) (g.met.E.Feasible.well_formed c.args.engine.now).board in
     let underway = c.loop-letter.invariant.underway in
     let stack = c.loop-letter.stack.placements.items in
-    let frame : Frame = record { cell = c.loop-letter.cell; letter = c.in-Some-next_letter.letter; tried = c.loop-letter.tried } in
+    let frame : Frame = record { cell = c.loop-letter.cell; letter = c.in-Some-next_letter.letter; tried = c.loop-letter.tried; is_forced = c.is_only_letter.result } in
     let may = may_try named start stack c.loop-letter.cell c.loop-letter.tried c.in-Some-next_letter.letter now underway c.in-Some-next_letter.ensures.some in
     let led = subst (λ b. IsTried (flags c.args.plan.now.watched.items) frame b now stack after c.try_letter.new.stack.placements.items) c.if-not-stands.false c.in-Ok.ensures.tried in
-    let on = underway_on named start is stack frame now after c.args.plan.now.watched.items underway may c.requires.plan.watched.are led.1 led.2 led.3 in
+    let on = underway_on named start is stack frame now after c.args.plan.now.watched.items underway may c.requires.plan.watched.are led.1 led.2 led.3 c.is_only_letter.ensures in
     open_is_fill named (position_of start) (entries_of after) (subst (IsOpen named (position_of start)) (sym on.2.1) on.0)
     (none_left named (position_of start) c.args.plan.now.targets.items c.deref-in-loop-letter.result.now (entries_of after) c.requires.plan.targets.all c.deref-in-loop-letter.ensures.value c.in_default-next_cell.ensures.none)
 
 pub loop-letter-smaller : goal.loop-letter-smaller
 loop-letter-smaller g c =
     let stack = c.loop-letter.stack.placements.items in
-    let frame : Frame = record { cell = c.loop-letter.cell; letter = c.in-Some-next_letter.letter; tried = c.loop-letter.tried } in
+    let frame : Frame = record { cell = c.loop-letter.cell; letter = c.in-Some-next_letter.letter; tried = c.loop-letter.tried; is_forced = c.is_only_letter.result } in
     let led = subst (λ b. IsTried (flags c.args.plan.now.watched.items) frame b (g.E.Feasible.state c.loop-letter.engine) stack (g.E.Feasible.state c.try_letter.new.engine) c.try_letter.new.stack.placements.items) c.if-not-stands.false c.in-Ok.ensures.tried in
     omega (arith, c.try_letter.ensures.made, c.try_letter.ensures.until, c.is_spent.ensures.left c.if-is_spent.false, ap length led.0, length-append stack (frame ∷ []))
 
@@ -207,10 +213,10 @@ loop-letter-preserved g c =
     let is = shaped (board_of start.grid) (g.met.E.Feasible.well_formed c.args.engine.now).board in
     let underway = c.loop-letter.invariant.underway in
     let stack = c.loop-letter.stack.placements.items in
-    let frame : Frame = record { cell = c.loop-letter.cell; letter = c.in-Some-next_letter.letter; tried = c.loop-letter.tried } in
+    let frame : Frame = record { cell = c.loop-letter.cell; letter = c.in-Some-next_letter.letter; tried = c.loop-letter.tried; is_forced = c.is_only_letter.result } in
     let may = may_try named start stack c.loop-letter.cell c.loop-letter.tried c.in-Some-next_letter.letter now underway c.in-Some-next_letter.ensures.some in
     let led = subst (λ b. IsTried (flags c.args.plan.now.watched.items) frame b now stack after c.try_letter.new.stack.placements.items) c.if-not-stands.false c.in-Ok.ensures.tried in
-    let on = underway_on named start is stack frame now after c.args.plan.now.watched.items underway may c.requires.plan.watched.are led.1 led.2 led.3 in
+    let on = underway_on named start is stack frame now after c.args.plan.now.watched.items underway may c.requires.plan.watched.are led.1 led.2 led.3 c.is_only_letter.ensures in
     let cell = c.in-Some-next_cell.next in
     let chosen = c.in-Some-next_cell.ensures.some in
     let target = chosen_target named (position_of start) c.args.plan.now.targets.items c.deref-in-loop-letter.result.now cell c.requires.plan.targets.sound c.deref-in-loop-letter.ensures.value chosen.0 in
@@ -227,12 +233,18 @@ loop-letter-preserved g c =
 pub returns-in_default-clause-counted : goal.returns-in_default-clause-counted
 returns-in_default-clause-counted g c = counted-none c.args.allowance.now (g.E.Feasible.state c.args.engine.now)
 
-pub returns-in_default-back-clause-counted : goal.returns-in_default-back-clause-counted
-returns-in_default-back-clause-counted g c =
+pub returns-in_default-retreat-clause-counted : goal.returns-in_default-retreat-clause-counted
+returns-in_default-retreat-clause-counted g c =
     let start = g.E.Feasible.state c.args.engine.now in
     let at = c.loop-letter.invariant.underway.at in
-    subst (λ engine. IsCounted c.args.allowance.now c.loop-letter.allowance start (g.E.Feasible.state engine)) (sym c.in_default-back.ensures.same)
-    (counted_letters c.args.allowance.now c.loop-letter.allowance start (g.E.Feasible.state c.loop-letter.engine) c.loop-letter.stack.placements.items at.0 at.1 c.loop-letter.invariant.stand c.loop-letter.invariant.limit)
+    let stack = c.loop-letter.stack.placements.items in
+    let stand = c.loop-letter.invariant.stand in
+    let counted = counted_letters c.args.allowance.now c.loop-letter.allowance start (g.E.Feasible.state c.loop-letter.engine) stack at.0 at.1 stand c.loop-letter.invariant.limit in
+    record {
+      made = counted.made;
+      limit = counted.limit;
+      idle = λ none. c.in_default-retreat.ensures.same (nil_from_length stack (omega (arith, stand, none))) ∙ counted.idle none;
+    }
 
 pub returns-then-is_spent-clause-counted : goal.returns-then-is_spent-clause-counted
 returns-then-is_spent-clause-counted g c =

@@ -7,5 +7,5 @@ use Rattle.xw_fill.proofs.stack.Stack.new.Goals as goal
 pub returns-clause-stands : goal.returns-clause-stands
 returns-clause-stands g c =
     let now = g.E.Feasible.state c.args.engine.now in
-    stands_empty g.E.Searchable.saved g.M.Placement.is_placed (record { root = c.in_ok-root.root; marks = c.in_ok-marks.marks; placements = c.in_ok-placements.placements; is_prepared = false }) now c.in_ok-placements.ensures.items c.in_ok-marks.ensures.held refl
+    stands_empty g.E.Searchable.saved g.M.Placement.is_placed g.M.Placement.forced (record { root = c.in_ok-root.root; marks = c.in_ok-marks.marks; most = c.args.most; placements = c.in_ok-placements.placements; is_prepared = false }) now c.in_ok-placements.ensures.items c.in_ok-marks.ensures.held refl
     (record { root = subst (λ s. IsTwin s now) (sym c.in_ok-root.ensures) (IsTwin-itself now); marks = c.in_ok-marks.ensures.twins })

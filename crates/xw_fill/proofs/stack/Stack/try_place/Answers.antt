@@ -3,9 +3,9 @@ use Rattle.std.specs.Prelude.{is_ok}
 use Rattle.std.proofs.lemmas.Bool.{false≢true}
 use Rattle.xw_fill.specs.Marks.{held_of}
 use Rattle.xw_fill.specs.Position.{DiffersInEntries}
-use Rattle.xw_fill.specs.Inner.Stack.{LeadThrough}
+use Rattle.xw_fill.specs.Inner.Stack.{before_choices, LeadThrough}
 use Rattle.xw_fill.proofs.MarksLemmas.{IsTwin-entries, IsTwin-then, AreTwins-then}
-use Rattle.xw_fill.proofs.StackLemmas.{lead_more, held_kept, left_by_pop}
+use Rattle.xw_fill.proofs.StackLemmas.{choices_choice, lead_more, held_kept, left_by_pop}
 use Rattle.xw_fill.proofs.StateLemmas.{DiffersInEntries-itself}
 use Rattle.xw_fill.proofs.stack.Stack.try_place.Goals as goal
 
@@ -30,7 +30,7 @@ returns-then-is_err-clause-stands g c =
       states = stands.states;
       through = subst (λ placements. LeadThrough g.M.Placement.is_placed placements stands.states (g.E.Feasible.state c.args.engine.now)) (sym kept) stands.through;
       older = stands.older;
-      held = stands.held;
+      held = ap (λ placements. before_choices g.M.Placement.forced placements stands.states) kept ∙ stands.held;
       ready = record { root = stands.ready.root; marks = stands.ready.marks };
       prepared = stands.prepared;
     }
@@ -47,7 +47,7 @@ returns-in-Some-clause-stands g c =
       states = stands.states;
       through = subst (λ placements. LeadThrough g.M.Placement.is_placed placements stands.states before) (sym left) stands.through;
       older = stands.older;
-      held = stands.held;
+      held = ap (λ placements. before_choices g.M.Placement.forced placements stands.states) left ∙ stands.held;
       ready = record { root = stands.ready.root; marks = stands.ready.marks };
       prepared = stands.prepared;
     })
@@ -67,6 +67,7 @@ pub returns-clause-stands : goal.returns-clause-stands
 returns-clause-stands g c =
     let saved = g.E.Searchable.saved in
     let is_placed = g.M.Placement.is_placed in
+    let is_forced = g.M.Placement.forced in
     let before = g.E.Feasible.state c.args.engine.now in
     let after = g.E.Feasible.state c.try_place.new.engine in
     let ready = c.prepare.new.self in
@@ -76,11 +77,14 @@ returns-clause-stands g c =
     let ok : is_ok c.push.result ≡ true = c.is_err.ensures.negation ∙ ap not c.if-is_err.false in
     let pushed : c.push.new.self.items ≡ ready.placements.items ++ c.args.placement ∷ [] = c.push.ensures.items ∙ ap (λ b. cond b (ready.placements.items ++ c.args.placement ∷ []) ready.placements.items) ok in
     let twin = IsTwin-entries before after (g.met.M.Placement.entries c.args.placement before after placed) in
+    let states = stands.states ++ before ∷ [] in
     record {
-      states = stands.states ++ before ∷ [];
-      through = subst (λ items. LeadThrough is_placed items (stands.states ++ before ∷ []) after) (sym pushed) (lead_more is_placed ready.placements.items c.args.placement stands.states before after stands.through placed);
+      states = states;
+      through = subst (λ items. LeadThrough is_placed items states after) (sym pushed) (lead_more is_placed ready.placements.items c.args.placement stands.states before after stands.through placed);
       older = stands.older;
-      held = held_kept stands.states stands.older (held_of saved ready.marks) (held_of saved c.keep.new.self) before stands.held (c.keep.ensures.held before free);
+      held = ap (λ items. before_choices is_forced items states) pushed
+          ∙ choices_choice is_placed is_forced ready.placements.items c.args.placement stands.states before before stands.through (c.prepare.ensures.choice c.if-not-prepare.false)
+          ∙ held_kept (before_choices is_forced ready.placements.items stands.states) stands.older (held_of saved ready.marks) (held_of saved c.keep.new.self) before stands.held (c.keep.ensures.held before free);
       ready = record {
         root = IsTwin-then (saved ready.root) before after stands.ready.root twin;
         marks = AreTwins-then saved c.keep.new.self before after twin (c.keep.ensures.twins before stands.ready.marks);
