@@ -202,9 +202,9 @@ fn fill_from<E: Searchable>(
 }
 
 /// Fills the grid with at most `limit` placements. The engine changes only for `Filled`. Returns `Memory` if an
-/// allocation fails, and then leaves the engine unchanged. All memory is allocated before the first placement: a try,
-/// a note and a flag for each light, a snapshot of the start, and one for each light that is not wholly entered, up to
-/// `MARKS`.
+/// allocation fails, and then leaves the engine unchanged. Before the first placement it allocates a try, a note and a
+/// flag for each light, and a snapshot of the start. On its way it allocates a snapshot for each light that is not
+/// wholly entered, up to `MARKS`; if one is refused, it goes on with fewer.
 pub fn fill<E: Searchable>(alloc: Global, engine: &mut E, limit: u64) -> Result<Filling, Refusal>
     ensures found { IfOk result (IsFilling limit (E.state engine.old) (E.state engine.new)) }
     ensures fill { IfOk result (HasFill (E.state engine.old) (E.state engine.new)) }

@@ -8,6 +8,7 @@ ghost use Rattle.xw_fill.specs.Inner.OfState.{IsNextLetter, IsOnlyLetter, HasNoL
 ghost use Rattle.xw_fill.specs.NamedFill.{entry_in};
 ghost use Rattle.xw_fill.specs.Inner.Progress.{entries_of};
 
+use crate::named_lights::plan::Crossing;
 use crate::scan::{board, light_count};
 use xw_feas::feasible::Feasible;
 use xw_feas::searchable::Searchable;
@@ -71,24 +72,43 @@ impl Rank {
     }
 }
 
-/// The rank of an open cell.
-fn rank_of<E: Feasible>(engine: &E, cell: usize, weights: &[u64], seed: u64) -> Rank
+/// The rank of an open cell with these lights.
+fn rank_of<E: Feasible>(
+    engine: &E,
+    cell: usize,
+    lights: Crossing,
+    weights: &[u64],
+    seed: u64,
+) -> Rank
     requires { is_open (board_of (E.state engine.now).grid) cell ≡ true }
 {
-    let (across, down) = board(engine).lights_at(cell);
     Rank {
         letters: letters_at(engine, cell).len() as u64,
-        weight: weight_of(weights, across).saturating_add(weight_of(weights, down)),
+        weight: weight_of(weights, lights.across).saturating_add(weight_of(weights, lights.down)),
         turn: turn_of(cell, seed),
     }
 }
 
-/// The cell to fill next among some open cells: the empty one whose rank comes first.
+/// The lights through the target with this index, if it has any.
+fn crossing_at(crossings: &[Crossing], index: usize) -> Crossing {
+    if index < crossings.len() {
+        crossings[index]
+    } else {
+        Crossing {
+            across: None,
+            down: None,
+        }
+    }
+}
+
+/// The cell to fill next among some open cells: the empty one whose rank comes first. `crossings` has the lights through
+/// each.
 pub fn next_cell<E: Feasible>(
     engine: &E,
     targets: &[usize],
     weights: &[u64],
     seed: u64,
+    crossings: &[Crossing],
 ) -> Option<usize>
     requires { All (λ cell. is_open (board_of (E.state engine.now).grid) cell ≡ true) targets.now }
     ensures some { IfSome result (λ cell. Contains targets.now cell × (entry_in (entries_of (E.state engine.now)) cell ≡ None)) }
@@ -103,7 +123,7 @@ pub fn next_cell<E: Feasible>(
     for index in 0..targets.len() {
         let cell = targets[index];
         if board(engine).entry(cell).is_none() {
-            let rank = rank_of(engine, cell, weights, seed);
+            let rank = rank_of(engine, cell, crossing_at(crossings, index), weights, seed);
             if best.is_none() || rank.is_before(&first) {
                 best = Some(cell);
                 first = rank;
@@ -150,6 +170,21 @@ fn promise_of<E: Searchable>(engine: &E, cell: usize, letter: Letter, weighted: 
     across.saturating_mul(down)
 }
 
+/// Whether more than one of the letters was not tried. The last one needs no promise.
+fn has_several(letters: LetterSet, tried: LetterSet) -> bool {
+    let mut has_one = false;
+    for index in 0..26 {
+        let letter = Letter::at(index);
+        if letters.has(letter) && !tried.has(letter) {
+            if has_one {
+                return true;
+            }
+            has_one = true;
+        }
+    }
+    false
+}
+
 /// The most promising feasible letter of an open cell that was not tried.
 pub fn next_letter<E: Searchable>(
     engine: &E,
@@ -162,7 +197,7 @@ pub fn next_letter<E: Searchable>(
     ensures none { IfNone result (HasNoLetter (E.state engine.now) cell tried) }
 {
     let letters = letters_at(engine, cell);
-    let is_choice = letters.len() > 1;
+    let is_choice = has_several(letters, tried);
     let mut best = None;
     let mut most = 0;
     for number in 0..26 {

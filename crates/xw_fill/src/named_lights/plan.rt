@@ -10,12 +10,21 @@ use crate::scan::{board, light_count};
 use std::alloc::{AllocError, Global};
 use xw_feas::feasible::Feasible;
 
-/// What a search fills: flags for the named lights and for the lights to watch, and the indices of the cells to fill.
+/// The lights through a cell, by index. They weigh in the choice of the next cell, and nothing is proved of them.
+#[derive(Clone, Copy)]
+pub struct Crossing {
+    pub across: Option<usize>,
+    pub down: Option<usize>,
+}
+
+/// What a search fills: flags for the named lights and for the lights to watch, the indices of the cells to fill, and
+/// the lights through each.
 #[derive(Drop)]
 pub struct Plan {
     pub named: Vec<bool>,
     pub watched: Vec<bool>,
     pub targets: Vec<usize>,
+    pub crossings: Vec<Crossing>,
 }
 
 /// Whether there is a light, and it is named.
@@ -76,6 +85,22 @@ fn targets_of<E: Feasible>(
     Ok(targets)
 }
 
+/// The lights through each cell to fill.
+fn crossings_of<E: Feasible>(
+    alloc: Global,
+    engine: &E,
+    named: &[bool],
+) -> Result<Vec<Crossing>, AllocError> {
+    let mut crossings = Vec::new(alloc);
+    for cell in 0..board(engine).cell_count() {
+        if is_target(engine, named, cell) {
+            let (across, down) = board(engine).lights_at(cell);
+            crossings.push(Crossing { across, down })?;
+        }
+    }
+    Ok(crossings)
+}
+
 /// A flag for each light: whether it is watched.
 fn watched_of<E: Feasible>(
     alloc: Global,
@@ -100,10 +125,12 @@ impl Plan {
     {
         let targets = targets_of(alloc, engine, &named)?;
         let watched = watched_of(alloc, engine, &named)?;
+        let crossings = crossings_of(alloc, engine, &named)?;
         Ok(Plan {
             named,
             watched,
             targets,
+            crossings,
         })
     }
 }

@@ -177,7 +177,13 @@ fn search<E: Searchable>(
     ensures filled { result ≡ Ending.Filled → IsFillOf (flags plan.now.named.items) (E.state engine.old) (entries_of (E.state engine.new)) }
     ensures no_fill { result ≡ Ending.NoFill → HasNone (flags plan.now.named.items) (E.state engine.old) (entries_of (E.state engine.old)) }
 {
-    let Some(first) = next_cell(engine, &plan.targets, &effort.weights, effort.seed) else {
+    let Some(first) = next_cell(
+        engine,
+        &plan.targets,
+        &effort.weights,
+        effort.seed,
+        &plan.crossings,
+    ) else {
         return Ending::Filled;
     };
     let mut cell = first;
@@ -215,7 +221,13 @@ fn search<E: Searchable>(
             }
             continue;
         }
-        let Some(next) = next_cell(engine, &plan.targets, &effort.weights, effort.seed) else {
+        let Some(next) = next_cell(
+            engine,
+            &plan.targets,
+            &effort.weights,
+            effort.seed,
+            &plan.crossings,
+        ) else {
             return Ending::Filled;
         };
         cell = next;
