@@ -25,9 +25,9 @@ HELP = (
 Usage: xw <COMMAND>
 
 Commands:
-  edit     Answer the commands on standard input, a line each
-  convert  Read a puzzle file and write it in another format
-  check    Read puzzle files and tell their format, size and number of lights
+  edit     Answer commands from standard input, one per line
+  convert  Convert a puzzle file to another format
+  check    Read puzzle files and print their format, size and number of lights
   help     Print this message or the help of the given subcommand(s)
 
 Options:
@@ -38,46 +38,46 @@ Options:
 )
 
 EDIT_HELP = (
-    b"""Answer the commands on standard input, a line each
+    b"""Answer commands from standard input, one per line
 
 Usage: xw edit [OPTIONS]
 
 Options:
-      --dict <FILE>     The word list to start with, a word a line
-      --from <FILE>     The puzzle to start with, .puz or text [default: 15 by 15 cells, all empty]
-      --resume <FILE>   Commands to do first, without answers, as --save wrote them
-      --to <FILE>       Where to write the puzzle at the end, as .puz if it is called so, else as text
-      --save <FILE>     Where to write the session at the end, as commands for --resume
-      --journal <FILE>  Where to keep each change before its answer, and what to go on from
-      --sync            Bring each line of the journal to the device before its answer
-      --explain         Tell where a fault of a file is, in one more line
+      --dict <FILE>     Load a word list, one word per line
+      --from <FILE>     Start with this puzzle, .puz or text [default: an empty grid of 15 by 15]
+      --resume <FILE>   Run the commands of this file first, without answers, as --save wrote them
+      --to <FILE>       Write the puzzle here at the end: as .puz if the name ends in .puz, otherwise as text
+      --save <FILE>     Write the session here at the end, as commands for --resume
+      --journal <FILE>  Append every change here, and resume from it
+      --sync            Sync each line of the journal to the device before its answer
+      --explain         Say in more lines where a fault of a file is, and what it means
   -h, --help            Print help
 """
     + EXAMPLE
 )
 
-CONVERT_HELP = b"""Read a puzzle file and write it in another format
+CONVERT_HELP = b"""Convert a puzzle file to another format
 
 Usage: xw convert [OPTIONS] <FROM> <TO>
 
 Arguments:
-  <FROM>  The puzzle to read, .puz or text
-  <TO>    Where to write it, as .puz if it is called so, else as text
+  <FROM>  Puzzle to read, .puz or text
+  <TO>    File to write: as .puz if the name ends in .puz, otherwise as text
 
 Options:
-      --explain  Tell where a fault of a file is, in one more line
+      --explain  Say in more lines where a fault of a file is, and what it means
   -h, --help     Print help
 """
 
-CHECK_HELP = b"""Read puzzle files and tell their format, size and number of lights
+CHECK_HELP = b"""Read puzzle files and print their format, size and number of lights
 
 Usage: xw check [OPTIONS] <FILE>...
 
 Arguments:
-  <FILE>...  The puzzles to read, .puz or text
+  <FILE>...  Puzzles to read, .puz or text
 
 Options:
-      --explain  Tell where a fault of a file is, in one more line
+      --explain  Say in more lines where a fault of a file is, and what it means
   -h, --help     Print help
 """
 

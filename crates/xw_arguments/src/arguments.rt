@@ -264,7 +264,7 @@ fn explain<'a>(alloc: Global) -> Arg<'a>
     flag(
         alloc,
         "explain",
-        "Tell where a fault of a file is, in one more line",
+        "Say in more lines where a fault of a file is, and what it means",
     )
 }
 
@@ -313,41 +313,41 @@ fn edit<'a>(alloc: Global) -> Result<Command<'a>, AllocError>
     ensures local { IfOk result HasNoGlobals }
 {
     let options = vec![in alloc;
-        option(alloc, "dict", "The word list to start with, a word a line"),
+        option(alloc, "dict", "Load a word list, one word per line"),
         option(
             alloc,
             "from",
-            "The puzzle to start with, .puz or text [default: 15 by 15 cells, all empty]"
+            "Start with this puzzle, .puz or text [default: an empty grid of 15 by 15]"
         ),
         option(
             alloc,
             "resume",
-            "Commands to do first, without answers, as --save wrote them"
+            "Run the commands of this file first, without answers, as --save wrote them"
         ),
         option(
             alloc,
             "to",
-            "Where to write the puzzle at the end, as .puz if it is called so, else as text"
+            "Write the puzzle here at the end: as .puz if the name ends in .puz, otherwise as text"
         ),
         option(
             alloc,
             "save",
-            "Where to write the session at the end, as commands for --resume"
+            "Write the session here at the end, as commands for --resume"
         ),
         option(
             alloc,
             "journal",
-            "Where to keep each change before its answer, and what to go on from"
+            "Append every change here, and resume from it"
         ),
         flag(
             alloc,
             "sync",
-            "Bring each line of the journal to the device before its answer"
+            "Sync each line of the journal to the device before its answer"
         ),
         explain(alloc),
     ]?;
     let command = Command::new(alloc, "edit")
-        .about("Answer the commands on standard input, a line each")
+        .about("Answer commands from standard input, one per line")
         .after_help(EXAMPLE);
     with_args(command, options)
 }
@@ -357,17 +357,17 @@ fn convert<'a>(alloc: Global) -> Result<Command<'a>, AllocError>
     ensures local { IfOk result HasNoGlobals }
 {
     let operands = vec![in alloc;
-        operand(alloc, "from", "FROM", "The puzzle to read, .puz or text"),
+        operand(alloc, "from", "FROM", "Puzzle to read, .puz or text"),
         operand(
             alloc,
             "to",
             "TO",
-            "Where to write it, as .puz if it is called so, else as text"
+            "File to write: as .puz if the name ends in .puz, otherwise as text"
         ),
         explain(alloc),
     ]?;
     let command = Command::new(alloc, "convert").about(
-        "Read a puzzle file and write it in another format",
+        "Convert a puzzle file to another format",
     );
     with_args(command, operands)
 }
@@ -377,11 +377,11 @@ fn check<'a>(alloc: Global) -> Result<Command<'a>, AllocError>
     ensures local { IfOk result HasNoGlobals }
 {
     let operands = vec![in alloc;
-        operands(alloc, "file", "FILE", "The puzzles to read, .puz or text"),
+        operands(alloc, "file", "FILE", "Puzzles to read, .puz or text"),
         explain(alloc),
     ]?;
     let command = Command::new(alloc, "check").about(
-        "Read puzzle files and tell their format, size and number of lights",
+        "Read puzzle files and print their format, size and number of lights",
     );
     with_args(command, operands)
 }
