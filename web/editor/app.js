@@ -1,4 +1,5 @@
 // The page: it joins the views with the session.
+import { match, suggest } from './answers.js';
 import { Claim } from './claim.js';
 import { CluesView } from './clues.js';
 import { CrossingsView } from './crossings-view.js';
@@ -152,12 +153,11 @@ async function add(word) {
 }
 
 async function hardest() {
-  const [lines] = await editor.ask('suggest');
-  const [what, number, direction] = (lines?.[0] ?? '').split(' ');
+  const { what, light: name } = (await editor.ask(suggest())) ?? {};
   if (what === 'done') return showLeft();
   // of several parts one may be dead: the tightest light is one of another part
   const alive = editor.board.lights.filter((one) => one.count > 0 && !editor.board.isEntered(one)).sort((a, b) => a.count - b.count);
-  const light = what === 'dead' && alive.length ? alive[0] : editor.board.byName.get(`${number} ${direction}`);
+  const light = what === 'dead' && alive.length ? alive[0] : editor.board.byName.get(name);
   if (!light) return;
   const empty = light.cells.find((index) => !editor.board.cells[index].letter);
   editor.moveTo(empty ?? light.cells[0], light.direction);
@@ -517,7 +517,7 @@ function begin(rows, sym) {
 // Begins a puzzle with a record. Entries of the setter's own that are in no list become words of the puzzle.
 async function beginWith(record, entries = []) {
   if (!mayEdit()) return;
-  const found = await editor.ask(...entries.map((word) => `match ${word}`));
+  const found = await Promise.all(entries.map((word) => editor.ask(match(word))));
   const added = [...new Set(entries.filter((_, at) => !found[at]?.length))].map((word) => `add ${word}\n`);
   await editor.replace({ record: await editor.engine.call('read', { record: [...added, record].join('') }) });
   say('a new puzzle; undo goes back to the old one', 'good');

@@ -1,4 +1,6 @@
 // The grid as the engine last told it.
+import * as answers from './answers.js';
+import { placeOf } from './record.js';
 
 // `left` has the feasible letters of a cell, and `right` and `below` say whether a bar is there.
 /**
@@ -38,49 +40,29 @@ export class Board {
     return (index % this.width) + 1;
   }
 
-  // Takes the answers of `whole` in the worker.
+  // Takes the answers of `whole` in the worker, which have lines but for the counts.
   takeWhole({ show, lights, cells, counts, circles, texts }) {
-    this.#takeShow(show);
-    this.#takeLights(lights);
-    this.takeLeft(cells);
+    this.#takeGrid(answers.show().read(show));
+    this.#takeLights(answers.lights().read(lights));
+    this.#takeLeft(answers.cells().read(cells));
     this.takeCounts(counts);
-    for (const line of circles) this.cells[this.index(...line.split(' ').map(Number))].circle = true;
-    this.#takeTexts(texts);
+    for (const { row, column } of answers.circles().read(circles)) this.cells[this.index(row, column)].circle = true;
+    this.texts = answers.texts().read(texts);
   }
 
-  #takeShow(show) {
-    const rows = show.filter((line, at) => !isBarLine(show, at));
-    this.width = (rows[0].length + 1) / 2;
-    this.height = rows.length;
-    this.cells = [];
-    let row = 0;
-    for (let at = 0; at < show.length; at++) {
-      if (isBarLine(show, at)) this.#takeBelow(show[at], row);
-      else this.#takeRow(show[at], ++row);
-    }
+  #takeGrid({ width, height, cells }) {
+    this.width = width;
+    this.height = height;
+    const blank = { left: '', number: '', circle: false, across: null, down: null };
+    this.cells = cells.map((cell, index) => ({ coordinates: `${this.rowOf(index)} ${this.columnOf(index)}`, ...blank, ...cell }));
   }
 
-  #takeRow(line, row) {
-    for (let column = 1; column <= this.width; column++) {
-      const entry = line[2 * column - 2];
-      this.cells.push({
-        coordinates: `${row} ${column}`, block: entry === '#', letter: /[A-Z]/.test(entry) ? entry : '', left: '', number: '', right: line[2 * column - 1] === '|',
-        below: false, circle: false, across: null, down: null,
-      });
-    }
-  }
-
-  #takeBelow(line, row) {
-    for (let column = 1; column <= this.width; column++) this.cells[this.index(row, column)].below = line[2 * column - 2] === '=';
-  }
-
-  #takeLights(lines) {
-    this.lights = lines.map((line) => {
-      const [number, direction, row, column, letters] = line.split(' ');
-      const first = this.index(Number(row), Number(column));
+  #takeLights(lights) {
+    this.lights = lights.map(({ name, number, direction, row, column, letters }) => {
+      const first = this.index(row, column);
       const step = direction === 'across' ? 1 : this.width;
       const cells = Array.from(letters, (_, at) => first + step * at);
-      const light = { name: `${number} ${direction}`, number, direction, cells, count: 0 };
+      const light = { name, number, direction, cells, count: 0 };
       this.cells[first].number = number;
       for (const cell of cells) this.cells[cell][direction] = light;
       return light;
@@ -88,20 +70,15 @@ export class Board {
     this.byName = new Map(this.lights.map((light) => [light.name, light]));
   }
 
-  #takeTexts(lines) {
-    this.texts = new Map();
-    for (const line of lines) {
-      const [, field, spelled] = /^(clue \d+ \w+|\w+) ?(.*)$/s.exec(line);
-      this.texts.set(field, spelled);
-    }
+  // Takes the lines that the watch told of an edit; returns the indices of the cells that changed.
+  takeChanged(lines) {
+    return this.#takeLeft(answers.changedIn(lines));
   }
 
-  // Takes lines of `cells` or of the watch; returns the indices of the cells.
-  takeLeft(lines) {
-    return lines.map((line) => {
-      const [, row, column, letters] = line.split(' ');
-      const index = this.index(Number(row), Number(column));
-      this.cells[index].left = letters === '-' ? '' : letters;
+  #takeLeft(told) {
+    return told.map(({ row, column, letters }) => {
+      const index = this.index(row, column);
+      this.cells[index].left = letters;
       return index;
     });
   }
@@ -150,14 +127,21 @@ export class Board {
     return this.cells.filter((cell) => !cell.block).length;
   }
 
+  // The cell with these coordinates; or null.
+  /** @returns {Cell | null} */
+  at(coordinates) {
+    const [row, column] = placeOf(coordinates);
+    return row <= this.height && column <= this.width ? this.cells[this.index(row, column)] : null;
+  }
+
+  // The cells of the lights with these names, by index.
+  cellsOf(names) {
+    return new Set(names.flatMap((name) => this.byName.get(name)?.cells ?? []));
+  }
+
   // The lights through a cell.
   through(index) {
     const { across, down } = this.cells[index];
     return [across, down].filter(Boolean);
   }
-}
-
-// Whether a line of `show` has the bars below a row. A grid of one column has rows of one byte, as has such a line.
-function isBarLine(show, at) {
-  return show[at].includes('=');
 }

@@ -1,4 +1,5 @@
 // The tab of the puzzle: its texts, counts, repeats and words.
+import { dups, stats, unlisted } from './answers.js';
 import { whyUnlisted } from './faults.js';
 import { parseRecord } from './record.js';
 import { refuse, say } from './messages.js';
@@ -64,18 +65,15 @@ export class DetailsView {
   // Asks for counts and faults, if the tab is in sight.
   async refresh() {
     if (this.#elements.panel.hidden) return;
-    const [stats, dups, unlisted] = await this.#editor.ask('stats', 'dups', 'unlisted');
-    this.#showCounts((stats ?? []).map((line) => line.split(' ')));
-    const words = (unlisted ?? []).map((line) => line.split(' '));
-    const whys = await whyUnlisted(this.#editor, words.map(([, , word]) => word));
-    this.#showChecks(dups ?? [], words.map((line, at) => [...line, whys[at]]));
+    const editor = this.#editor;
+    const [counted, repeated, found] = await Promise.all([editor.ask(stats()), editor.ask(dups()), editor.ask(unlisted())]);
+    this.#showCounts(counted);
+    const whys = await whyUnlisted(editor, found.map(({ word }) => word));
+    this.#showChecks(repeated, found.map((light, at) => ({ ...light, why: whys[at] })));
     this.#showChanged();
   }
 
-  #showCounts(stats) {
-    const named = new Map(stats.filter((words) => words.length === 2));
-    const words = stats.filter(([name]) => name === 'light');
-    const letters = new Map(stats.filter(([name]) => name === 'letter').map(([, letter, count]) => [letter, Number(count)]));
+  #showCounts({ figures: named, lengths, letters }) {
     const { board } = this.#editor;
     const rows = [
       ['Size', `${board.width} × ${board.height}`], ['Words', named.get('lights')], ['Mean length', named.get('mean')],
@@ -84,22 +82,18 @@ export class DetailsView {
       ['Letters entered', `${named.get('entered')} of ${board.open}`],
     ];
     this.#elements.counts.replaceChildren(...rows.flatMap(([name, value]) => [element('dt', name), element('dd', value)]));
-    this.#elements.lengths.replaceChildren(...bars(words.map(([, length, count]) => [length, Number(count)])));
+    this.#elements.lengths.replaceChildren(...bars(lengths));
     const alphabet = Array.from('ABCDEFGHIJKLMNOPQRSTUVWXYZ', (letter) => [letter, letters.get(letter) ?? 0]);
     this.#elements.frequency.replaceChildren(...bars(alphabet));
   }
 
-  #showChecks(dups, unlisted) {
+  #showChecks(repeated, found) {
     const { board } = this.#editor;
     const items = [];
-    for (const line of dups) {
-      const [number, direction, otherNumber, other, word] = line.split(' ');
-      const [one, first] = [{ number, direction }, { number: otherNumber, direction: other }].map(titleOf);
-      items.push(check(`${word} stands twice: ${one} and ${first}`, `${number} ${direction}`));
-    }
-    for (const [number, direction, word, why] of unlisted) {
-      const item = check(`${why}: ${titleOf({ number, direction })}`, `${number} ${direction}`);
-      item.append(button('Add it', { add: word }), button('Erase it', { erase: `${number} ${direction}` }));
+    for (const { first, word, ...light } of repeated) items.push(check(`${word} stands twice: ${titleOf(light)} and ${titleOf(first)}`, light.name));
+    for (const { word, why, ...light } of found) {
+      const item = check(`${why}: ${titleOf(light)}`, light.name);
+      item.append(button('Add it', { add: word }), button('Erase it', { erase: light.name }));
       items.push(item);
     }
     const lacking = board.lights.filter((light) => !board.texts.has(`clue ${light.name}`));
@@ -140,14 +134,13 @@ export class DetailsView {
     const { word } = this.#elements;
     const spelled = word.value.replace(/[\s'’-]/g, '').toUpperCase();
     if (!spelled) return refuse('type a word first');
-    await this.#edit(`${command} ${spelled}`);
+    await this.#edit(command, spelled);
     word.value = '';
     word.focus();
   }
 
-  async #edit(line) {
-    const [command, word] = line.split(' ');
-    const refused = await this.actions.edit([line]);
+  async #edit(command, word) {
+    const refused = await this.actions.edit([`${command} ${word}`]);
     if (refused) return;
     say(command === 'add' ? `${word} is added to this puzzle` : `${word} is hidden in this puzzle`, 'good');
   }
@@ -157,8 +150,8 @@ export class DetailsView {
     const { add, strike, erase, keep, hide, light, cell, tab } = pressed.dataset;
     if (keep ?? hide) return this.actions.keepWord(keep ?? hide, Boolean(hide));
     if (erase) return this.actions.edit([`erase ${erase}`]);
-    if (add) return this.#edit(`add ${add}`);
-    if (strike) return this.#edit(`strike ${strike}`);
+    if (add) return this.#edit('add', add);
+    if (strike) return this.#edit('strike', strike);
     if (cell) this.#editor.moveTo(Number(cell));
     const named = light && this.#editor.board.byName.get(light);
     if (named) this.#editor.moveTo(named.cells[0], named.direction);

@@ -50,7 +50,6 @@ export class Editor extends EventTarget {
   faulty = new Set();
   // cells of words below the score that is chosen, by index, and the directions of these words
   weak = { across: new Set(), down: new Set() };
-  commands = new Set();
   /** @type {WordList} */
   list = { name: '', words: 0, scored: false, best: 0, byGrade: new Uint32Array(), leftOut: {}, folded: 0, least: 0, grade: 0, weak: 0, sources: [], personal: '' };
   // names the puzzle: edits keep the name, another file or pattern has another one
@@ -124,7 +123,6 @@ export class Editor extends EventTarget {
   async #open(list, record) {
     const { sources, personal, least } = list;
     const opened = await this.engine.call('open', { sources, personal, least, record });
-    this.commands = new Set(opened.commands);
     const { words, scored, best, byGrade, grade, leftOut, folded } = opened;
     this.list = { ...list, weak: list.weak ?? usualWeak(best), words, scored, best, byGrade, grade, leftOut, folded };
     this.record = opened.record;
@@ -156,14 +154,9 @@ export class Editor extends EventTarget {
     useTermsOf(this.board);
     const { cells } = this.board;
     if (this.cursor >= cells.length) this.cursor = 0;
-    for (const coordinates of this.pencil) if (!this.cellAt(coordinates)?.letter) this.pencil.delete(coordinates);
+    for (const coordinates of this.pencil) if (!this.board.at(coordinates)?.letter) this.pencil.delete(coordinates);
     for (const name of this.chosen) if (!this.board.byName.has(name)) this.chosen.delete(name);
     this.#tell('whole');
-  }
-
-  cellAt(coordinates) {
-    const [row, column] = coordinates.split(' ').map(Number);
-    return row <= this.board.height && column <= this.board.width ? this.board.cells[this.board.index(row, column)] : null;
   }
 
   /** @returns {State} */
@@ -255,7 +248,7 @@ export class Editor extends EventTarget {
       return;
     }
     const cells = new Set(lines.map((line) => this.#takeLetter(line)));
-    for (const cell of this.board.takeLeft(told.changed)) cells.add(cell);
+    for (const cell of this.board.takeChanged(told.changed)) cells.add(cell);
     this.board.takeCounts(told.counts);
     this.#tell('letters', { cells, engine: told.engine });
   }
@@ -436,14 +429,18 @@ export class Editor extends EventTarget {
   async orbit(index) {
     const { board: { width, height, cells }, sym } = this;
     const found = await this.engine.call('orbit', { width, height, sym, coordinates: cells[index].coordinates });
-    return found.map((coordinates) => this.cellAt(coordinates)).filter(Boolean);
+    return found.map((coordinates) => this.board.at(coordinates)).filter(Boolean);
   }
 
-  // Asks lines that change nothing; returns the lines of each answer, or null where it was refused.
-  // Each line is a call of its own, so that a key need not wait for all.
-  async ask(...lines) {
-    const answers = await Promise.all(lines.map((line) => this.engine.call('ask', { line })));
-    return answers.map(({ lines: told, refusal }) => (refusal ? null : told));
+  // What the answer to a query says; null where it is refused.
+  /**
+   * @template T
+   * @param {import('./answers.js').Query<T>} query
+   * @returns {Promise<T | null>}
+   */
+  async ask({ line, read }) {
+    const { lines, refusal } = await this.engine.call('ask', { line });
+    return refusal ? null : read(lines);
   }
 
   get light() {

@@ -1,22 +1,10 @@
 // The engine in a worker: it answers the messages of engine.js, edits in order and ahead of queries that wait.
-import { Fault, Xw, load } from '../xw.js';
+import { Xw, load, toText } from '../xw.js';
+import * as answers from './answers.js';
 import { MOST, UNSCORED, gradeOf } from './grades.js';
+import { letterIn, lettersOf, withoutLeast } from './record.js';
 import { crossingPatterns, gridFrom } from './themes.js';
 import { joinLists } from './word-list.js';
-
-// Texts are bytes to the engine. The page reads them as Windows-1252, the character set of .puz files, in which each byte is a character.
-const latin = new TextDecoder('windows-1252');
-const codes = new Map(Array.from({ length: 256 }, (_, code) => [latin.decode(new Uint8Array([code])), code]));
-
-function encode(text) {
-  const bytes = new Uint8Array(text.length);
-  for (let at = 0; at < text.length; at++) {
-    const code = codes.get(text[at]);
-    if (code === undefined) throw new Fault('Character', text[at]);
-    bytes[at] = code;
-  }
-  return bytes;
-}
 
 let module;
 let xw;
@@ -24,30 +12,23 @@ let xw;
 let scores = new Map();
 let bestScore = 0;
 
-function ask(line) {
-  const { status, answer } = xw.answer(encode(line));
-  const lines = latin.decode(answer).split('\n');
-  const end = lines.splice(-2)[0];
-  return { lines, refusal: status === 'Refused' ? end.slice('no '.length) : null };
-}
+const ask = (line) => xw.line(line);
 
-const asked = (line) => ask(line).lines;
+/**
+ * What the answer to a query says.
+ * @template T
+ * @param {import('./answers.js').Query<T>} query
+ */
+const asked = ({ line, read }) => read(ask(line).lines);
 
-// The number of words of each light.
-const counts = () => Uint32Array.from(asked('counts'), (line) => Number(line.slice(line.lastIndexOf(' ') + 1)));
+const counts = () => asked(answers.counts());
 
-// All that the grid shows.
+const recordNow = () => toText(xw.record());
+
+// All that the grid shows, as lines that the page reads.
 function whole() {
-  return {
-    show: asked('show'), lights: asked('lights'), cells: asked('cells'), counts: counts(), circles: asked('circles'), texts: asked('texts'),
-  };
-}
-
-// The commands that a module may not know yet.
-const NEWER = { choices: 'choices 1 across 0', why: 'why 999999 across', unmatched: 'unmatched', erase: 'erase 999999 across' };
-
-function known() {
-  return Object.keys(NEWER).filter((name) => ask(NEWER[name]).refusal !== 'Command');
+  const [show, lights, cells, circles, texts] = [answers.show(), answers.lights(), answers.cells(), answers.circles(), answers.texts()].map(({ line }) => ask(line).lines);
+  return { show, lights, cells, counts: counts(), circles, texts };
 }
 
 // How long a call may count words, in milliseconds: a key waits no longer.
@@ -58,12 +39,12 @@ const SLICE = 4;
 // light a word is taken, and its number is in `taken`; it is -1 if none does.
 function probe({ light, words, cleared = {} }) {
   const end = performance.now() + SLICE;
-  const lines = asked('lights');
-  const here = lightNamed(lines, light);
+  const lights = asked(answers.lights());
+  const here = lights.find(({ name }) => name === light);
   // an edit was ahead of this query, and the light is gone
   if (!here) return { left: {}, taken: {} };
   const isDead = deadWithout(here);
-  const standing = Object.keys(cleared).length ? lettersOf(lines) : new Map();
+  const standing = Object.keys(cleared).length ? lettersIn(lights) : new Map();
   const entered = (coordinates) => ({ coordinates, letter: standing.get(coordinates) ?? '.' });
   const [left, taken] = [{}, {}];
   for (const word of words) {
@@ -78,20 +59,22 @@ function probe({ light, words, cleared = {} }) {
 }
 
 // The letters of all lights, by coordinates.
-function lettersOf(lines) {
-  const names = lines.map((line) => line.split(' ').slice(0, 2).join(' '));
-  return new Map(names.flatMap((name) => lightNamed(lines, name).cells.map(({ coordinates, letter }) => /** @type {[string, string]} */ ([coordinates, letter]))));
-}
+const lettersIn = (lights) => new Map(lights.flatMap(answers.cellsOf).map(({ coordinates, letter }) => [coordinates, letter]));
 
 // Whether each light has no word whatever stands in the given one, as where the dead end is in another part of the grid.
-function deadWithout({ letters, cells }) {
+function deadWithout(light) {
   const deadNow = () => [...counts()].map((count) => count === 0);
   const isDead = deadNow();
-  if (letters.includes('.') || !isDead.includes(true)) return isDead;
-  for (const { coordinates } of cells) ask(`clear ${coordinates}`);
+  if (!answers.isWhole(light) || !isDead.includes(true)) return isDead;
+  const cells = answers.cellsOf(light);
+  clear(cells);
   const isDeadStill = deadNow();
   putBack(cells);
   return isDeadStill;
+}
+
+function clear(cells) {
+  for (const { coordinates } of cells) ask(`clear ${coordinates}`);
 }
 
 function putBack(cells) {
@@ -99,55 +82,40 @@ function putBack(cells) {
 }
 
 // The fewest words that a light has after a word is placed in one and letters elsewhere are cleared, or that this fills the grid.
-function leftAfter({ name, cells }, word, cleared, isDead) {
-  for (const { coordinates } of cleared) ask(`clear ${coordinates}`);
-  const isRefused = ask(`place ${name} ${word}`).refusal !== null;
-  const open = isRefused ? [] : asked('lights').map((line) => /\.[A-Z.]*$/.test(line));
+function leftAfter(light, word, cleared, isDead) {
+  clear(cleared);
+  const isRefused = ask(`place ${light.name} ${word}`).refusal !== null;
+  const open = isRefused ? [] : asked(answers.lights()).map((other) => !answers.isWhole(other));
   const left = counts().filter((_, at) => open[at] && !isDead[at]);
-  putBack([...cells, ...cleared]);
+  putBack([...answers.cellsOf(light), ...cleared]);
   if (isRefused) return 0;
   return left.length ? Math.min(...left) : 'done';
 }
 
-// A light as `lights` tells it, with its cells; or null.
-function lightNamed(lines, name) {
-  const line = lines.find((one) => one.startsWith(`${name} `));
-  if (!line) return null;
-  const [, direction, row, column, letters] = line.split(' ');
-  const [down, right] = direction === 'down' ? [1, 0] : [0, 1];
-  const cells = Array.from(letters, (letter, at) => ({ coordinates: `${Number(row) + down * at} ${Number(column) + right * at}`, letter }));
-  return { name, direction, letters, cells };
-}
-
 // The letters that the words of a light have in a cell, with the other letters of that light as they stand; null for all.
-function lettersAt({ cells }, coordinates) {
-  const at = cells.findIndex((cell) => cell.coordinates === coordinates);
+function lettersAt(cells, at) {
   const pattern = cells.map(({ letter }, index) => (index === at ? '.' : letter)).join('');
-  return /[A-Z]/.test(pattern) ? new Set(asked(`match ${pattern}`).map((word) => word[at])) : null;
+  return /[A-Z]/.test(pattern) ? new Set(asked(answers.match(pattern)).map((word) => word[at])) : null;
 }
 
 // The words that an entered light could have: those that fit what crosses it as it stands, and those that would if its crossing lights were
 // without their letters in pencil, each with the names of the crossing lights that it needs changed. All is put back before the call ends.
 function alternatives({ light, pencil }) {
-  const lines = asked('lights');
-  const here = lightNamed(lines, light);
+  const lights = asked(answers.lights());
+  const here = lights.find(({ name }) => name === light);
   if (!here) return { fit: [], others: [] };
-  const across = here.direction === 'down';
-  const isOwn = (cell) => here.cells.some(({ coordinates }) => coordinates === cell.coordinates);
-  const crossing = lines.map((line) => line.split(' ')).filter(([, direction]) => (direction === 'across') === across);
-  const crossed = crossing.map(([number, direction]) => lightNamed(lines, `${number} ${direction}`)).filter(({ cells }) => cells.some(isOwn));
+  const own = answers.cellsOf(here);
+  const crossed = crossingsOf(here, own, lights);
   const marked = new Set(pencil);
-  const open = crossed.flatMap(({ cells }) => cells.filter((cell) => cell.letter !== '.' && marked.has(cell.coordinates) && !isOwn(cell)));
-  const allowed = crossed.map((other) => ({ name: other.name, at: here.cells.findIndex((cell) => other.cells.some(({ coordinates }) => coordinates === cell.coordinates)) }))
-    .map(({ name, at }, index) => ({ name, at, letters: lettersAt(crossed[index], here.cells[at].coordinates) }));
-  const wordsNow = () => asked(`words ${light}`).slice(1).filter((word) => word !== here.letters);
-  const clear = (cells) => cells.forEach(({ coordinates }) => ask(`clear ${coordinates}`));
-  clear(here.cells);
+  const open = crossed.flatMap(({ cells, at }) => cells.filter((cell, index) => cell.letter !== '.' && marked.has(cell.coordinates) && index !== at));
+  const allowed = crossed.map(({ name, cells, at, own: index }) => ({ name, at: index, letters: lettersAt(cells, at) }));
+  const wordsNow = () => asked(answers.words(light)).filter((word) => word !== here.letters);
+  clear(own);
   const fit = wordsNow();
   clear(open);
   const known = new Set(fit);
   const wide = open.length ? wordsNow().filter((word) => !known.has(word)).slice(0, MOST_JUDGED) : [];
-  for (const { coordinates, letter } of [...open, ...here.cells]) if (letter !== '.') ask(`set ${coordinates} ${letter}`);
+  for (const { coordinates, letter } of [...open, ...own]) if (letter !== '.') ask(`set ${coordinates} ${letter}`);
   const needs = (word) => allowed.filter(({ at, letters }) => letters && !letters.has(word[at])).map(({ name }) => name);
   // those first that change the fewest words; no name means all that cross
   const changes = (other) => other.needs.length || Infinity;
@@ -156,15 +124,22 @@ function alternatives({ light, pencil }) {
   return { fit, others, scores: scores.size ? told.map((word) => scores.get(word) ?? null) : null };
 }
 
+// The lights that cross one: their names and cells, the number of the cell in them that is shared, and the number of that cell in the other light.
+function crossingsOf(light, own, lights) {
+  const index = new Map(own.map(({ coordinates }, at) => [coordinates, at]));
+  const crossing = lights.filter(({ direction }) => direction !== light.direction).map((other) => ({ name: other.name, cells: answers.cellsOf(other) }));
+  const shared = crossing.map(({ name, cells }) => ({ name, cells, at: cells.findIndex(({ coordinates }) => index.has(coordinates)) }));
+  return shared.filter(({ at }) => at >= 0).map((one) => ({ ...one, own: index.get(one.cells[one.at].coordinates) }));
+}
+
 // Whether the grid has a fill without the letters of some cells, as far as so many placements tell. All is put back before the call ends.
 function fillsWithout({ cells, most }) {
-  const lettersNow = () => latin.decode(xw.record()).split('\n').filter((line) => line.startsWith('set '));
-  const before = lettersNow();
+  const before = lettersOf(recordNow());
   for (const coordinates of cells) ask(`clear ${coordinates}`);
-  const [answer] = asked(`autofill ${most} 0`);
-  const [was, is] = [new Set(before), lettersNow()];
-  for (const line of is) if (!was.has(line)) ask(`clear ${line.split(' ').slice(1, 3).join(' ')}`);
-  for (const coordinates of before.filter((line) => !is.includes(line))) ask(coordinates);
+  const { answer } = answers.outcomeOf(ask(`autofill ${most} 0`));
+  const [was, is] = [new Set(before), lettersOf(recordNow())];
+  for (const line of is) if (!was.has(line)) ask(`clear ${letterIn(line)[0]}`);
+  for (const line of before) if (!is.includes(line)) ask(line);
   return answer === 'filled';
 }
 
@@ -172,8 +147,7 @@ function fillsWithout({ cells, most }) {
 // that helps, since the words stay.
 function firstDead({ most }) {
   for (let entered = 0; entered <= most; entered++) {
-    const [what, number, direction, word] = (asked('suggest')[0] ?? '').split(' ');
-    const light = `${number} ${direction}`;
+    const { what, light, word } = asked(answers.suggest());
     if (what === 'dead' || what === 'noword') return { light, entered };
     if (what !== 'try') return null;
     if (!enterNew(light, word)) return { light, entered };
@@ -183,15 +157,14 @@ function firstDead({ most }) {
 
 // Enters a word that does not stand in the grid yet and leaves each light a word: the given one, or else another one. Returns whether there is one.
 function enterNew(light, word) {
-  const letters = asked('lights').map((line) => line.slice(line.lastIndexOf(' ') + 1));
-  const isNew = (other) => !letters.includes(other);
-  const others = () => asked(`words ${light}`).slice(1).filter(isNew).slice(0, MOST_TRIED);
+  const lights = asked(answers.lights());
+  const isNew = (other) => !lights.some(({ letters }) => letters === other);
+  const others = () => asked(answers.words(light)).filter(isNew).slice(0, MOST_TRIED);
+  const cells = answers.cellsOf(lights.find(({ name }) => name === light));
   for (const one of isNew(word) ? [word] : others()) {
-    const line = asked('lights').find((other) => other.startsWith(`${light} `));
     ask(`place ${light} ${one}`);
     if (Math.min(...counts()) > 0) return true;
-    const { cells } = lightNamed([line], light);
-    for (const { coordinates, letter } of cells) ask(letter === '.' ? `clear ${coordinates}` : `set ${coordinates} ${letter}`);
+    putBack(cells);
   }
   return false;
 }
@@ -203,21 +176,21 @@ let scratch;
 function orbit({ width, height, sym, coordinates }) {
   scratch ??= Xw.open(module);
   for (const line of [`size ${width} ${height}`, `sym ${sym}`, `block ${coordinates}`]) scratch.line(line);
-  return scratch.line('show').lines.flatMap((row, at) => [...row].flatMap((entry, column) => (entry === '#' ? [`${at + 1} ${column / 2 + 1}`] : [])));
+  const { line, read } = answers.show();
+  return read(scratch.line(line).lines).cells.flatMap(({ block }, at) => (block ? [`${Math.floor(at / width) + 1} ${(at % width) + 1}`] : []));
 }
 
 // A slice of a search in a worker that helps: what it answers, and if there is a fill, the lines of its letters.
 function search({ line }) {
-  const { lines, refusal } = ask(line);
-  const answer = refusal ?? lines[0];
-  return { answer, letters: answer === 'filled' ? latin.decode(xw.record()).split('\n').filter((one) => one.startsWith('set ')) : [] };
+  const { answer } = answers.outcomeOf(ask(line));
+  return { answer, letters: answer === 'filled' ? lettersOf(recordNow()) : [] };
 }
 
 // Grids from so many seeds, in a worker that helps: those whose crossing lights have words one by one, and one that has not.
 function grids({ wanted, seed, tries }) {
   const fits = new Map();
   const isFit = (pattern) => {
-    if (!fits.has(pattern)) fits.set(pattern, asked(`match ${pattern}`).length > 0);
+    if (!fits.has(pattern)) fits.set(pattern, asked(answers.match(pattern)).length > 0);
     return fits.get(pattern);
   };
   const made = Array.from({ length: tries }, (_, at) => gridFrom(wanted, seed + at)).filter(Boolean);
@@ -229,15 +202,15 @@ function grids({ wanted, seed, tries }) {
 // of a light, and whether searches of so many placements fill it.
 function judge({ lines, most }) {
   for (const line of lines) ask(line);
-  const numbers = [...counts()];
-  const lights = asked('lights');
-  const fewest = lights.reduce((least, line, at) => (line.slice(line.lastIndexOf(' ')).includes('.') ? Math.min(least, numbers[at]) : least), Infinity);
-  const told = asked('unmatched').map((line) => line.split(' '));
-  const unmatched = told.map(([, , pattern]) => pattern);
-  const dead = told.flatMap(([number, direction]) => lightNamed(lights, `${number} ${direction}`).cells.map(({ coordinates }) => coordinates));
+  const numbers = counts();
+  const lights = asked(answers.lights());
+  const fewest = lights.reduce((least, light, at) => (answers.isWhole(light) ? least : Math.min(least, numbers[at])), Infinity);
+  const unmatched = asked(answers.unmatched());
+  const isDead = new Set(unmatched.map(({ name }) => name));
+  const dead = lights.filter(({ name }) => isDead.has(name)).flatMap(answers.cellsOf).map(({ coordinates }) => coordinates);
   let fill = fewest ? 'limit' : 'nofill';
-  for (let seed = 1; seed <= JUDGED_SEEDS && fill === 'limit'; seed++) [fill] = asked(`autofill ${most} ${seed}`);
-  return { unmatched, dead, fewest, fill };
+  for (let seed = 1; seed <= JUDGED_SEEDS && fill === 'limit'; seed++) fill = answers.outcomeOf(ask(`autofill ${most} ${seed}`)).answer;
+  return { unmatched: unmatched.map(({ pattern }) => pattern), dead, fewest, fill };
 }
 
 // The most words that are tried in place of one that stands already.
@@ -273,12 +246,9 @@ function leastGrade(least, best, byGrade) {
   return Math.max(0, Math.min(gradeOf(least, best), top));
 }
 
-// The record without the least grade, which belongs to the word lists and not to a puzzle.
-const withoutLeast = (record) => latin.decode(record).replace(/^least \d+\n/m, '');
-
 // The letters of the grid, as lines; the given cells are empty after it.
 function takenLetters(cells) {
-  const letters = latin.decode(xw.record()).split('\n').filter((one) => one.startsWith('set '));
+  const letters = lettersOf(recordNow());
   for (const coordinates of cells) ask(`clear ${coordinates}`);
   return letters;
 }
@@ -289,22 +259,16 @@ function takenLetters(cells) {
 function best({ least, isQuick, limits, cells }) {
   if (least !== null) ask(`least ${least}`);
   if (isQuick) return anyFill(limits, cells);
-  const { lines, refusal } = ask(`best ${limits}`);
-  const [answer, ...told] = refusal ? [refusal] : lines;
-  const figures = Object.fromEntries(told.map((one) => one.split(' ')).map(([name, grade]) => [name, Number(grade)]));
-  if (answer !== 'filled') return { answer, bound: figures.bound ?? null };
-  return { answer, grade: figures.least, bound: figures.bound, letters: takenLetters(cells) };
+  const { answer, least: grade, bound } = answers.outcomeOf(ask(`best ${limits}`));
+  return answer === 'filled' ? { answer, grade, bound, letters: takenLetters(cells) } : { answer, bound };
 }
 
 // Any fill of active words, with the grade of the worst new one.
 function anyFill(limits, cells) {
-  const isWhole = (line) => !line.slice(line.lastIndexOf(' ')).includes('.');
-  const nameOf = (line) => line.split(' ').slice(0, 2).join(' ');
-  const whole = new Set(asked('lights').filter(isWhole).map(nameOf));
-  const { lines, refusal } = ask(`autofill ${limits}`);
-  const answer = refusal ?? lines[0];
+  const whole = new Set(asked(answers.lights()).filter(answers.isWhole).map(({ name }) => name));
+  const { answer } = answers.outcomeOf(ask(`autofill ${limits}`));
   if (answer !== 'filled') return { answer, bound: null };
-  const grades = asked('grades').filter((line) => !whole.has(nameOf(line))).map((line) => Number(line.split(' ')[2]));
+  const grades = asked(answers.grades()).filter(({ name }) => !whole.has(name)).map(({ grade }) => grade);
   return { answer, grade: Math.min(MOST, ...grades), bound: null, letters: takenLetters(cells) };
 }
 
@@ -317,7 +281,7 @@ const calls = {
   open({ sources, personal, least, record }) {
     const { words, scores: scoresRead, ...told } = joinLists(sources, personal);
     if (sources.length && !words.length) throw Object.assign(new Error('no word'), { status: 'NoWord', answer: '' });
-    const other = Xw.open(module, { list: graded(words, scoresRead, told.best), record: encode(record) });
+    const other = Xw.open(module, { list: graded(words, scoresRead, told.best), record });
     xw?.close();
     xw = other;
     scores = scoresRead;
@@ -326,13 +290,13 @@ const calls = {
     const grade = told.scored ? leastGrade(least, told.best, byGrade) : 0;
     if (grade) ask(`least ${grade}`);
     ask('watch on');
-    return { reports: other.reports, commands: known(), words: words.length, byGrade, grade, ...told, record: withoutLeast(xw.record()), ...whole() };
+    return { reports: other.reports, words: words.length, byGrade, grade, ...told, record: withoutLeast(recordNow()), ...whole() };
   },
 
   // The record of a puzzle file, or of a record itself. The session is not touched.
   read({ puzzle, record }) {
-    const other = puzzle ? Xw.open(module, { puzzle }) : Xw.open(module, { record: encode(record) });
-    const text = withoutLeast(other.record());
+    const other = Xw.open(module, puzzle ? { puzzle } : { record });
+    const text = withoutLeast(toText(other.record()));
     other.close();
     return text;
   },
@@ -351,7 +315,7 @@ const calls = {
 
   // The feasible words of a light, one on each line, with the scores of those that have one.
   words({ light }) {
-    const [, ...words] = asked(`words ${light}`);
+    const words = asked(answers.words(light));
     return { words: words.join('\n'), scores: scores.size ? words.map((word) => scores.get(word) ?? null) : null };
   },
 
@@ -376,7 +340,7 @@ const calls = {
   judge,
 
   record() {
-    return withoutLeast(xw.record());
+    return withoutLeast(recordNow());
   },
 
   file({ form }) {

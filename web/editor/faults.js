@@ -1,4 +1,5 @@
 // Entered words that are not in use, or that stand twice: marked in the grid, and named for the light under the cursor.
+import { dups, unlisted } from './answers.js';
 import { gradeOf } from './grades.js';
 import { whenIdle } from './idle.js';
 import { parseRecord } from './record.js';
@@ -44,12 +45,11 @@ export class Faults extends EventTarget {
   async #ask(turn) {
     const { board } = this.#editor;
     const isAny = board.lights.some((light) => board.isEntered(light));
-    const [unlisted, dups] = isAny ? await this.#editor.ask('unlisted', 'dups') : [[], []];
-    const found = (unlisted ?? []).map((line) => line.split(' '));
-    const whys = await whyUnlisted(this.#editor, found.map(([, , word]) => word));
+    const [found, repeated] = isAny ? await Promise.all([this.#editor.ask(unlisted()), this.#editor.ask(dups())]) : [[], []];
+    const whys = await whyUnlisted(this.#editor, found.map(({ word }) => word));
     if (turn !== this.#turn) return;
-    this.unlisted = new Map(found.map(([number, direction, word], at) => [`${number} ${direction}`, { word, why: whys[at] }]));
-    this.repeated = new Map((dups ?? []).map((line) => line.split(' ')).map(([number, direction, ...first]) => [`${number} ${direction}`, first.slice(0, 2).join(' ')]));
+    this.unlisted = new Map(found.map(({ name, word }, at) => [name, { word, why: whys[at] }]));
+    this.repeated = new Map(repeated.map(({ name, first }) => [name, first.name]));
     this.#grid.showFaults([...this.unlisted.keys(), ...this.repeated.keys()]);
     this.dispatchEvent(new Event('told'));
   }

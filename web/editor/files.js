@@ -1,4 +1,5 @@
 // Files: what is opened, dropped and saved.
+import { toBytes, toText } from '../xw.js';
 import { csvOf, htmlOf } from './clue-sheet.js';
 import { enumerated } from './enumeration.js';
 import { ipuzOf, recordOfIpuz } from './ipuz.js';
@@ -7,7 +8,6 @@ import { refusalText, refuseAsIs as refuse, sayAsIs as say } from './messages.js
 import { bodyOf, strangeCharacter } from './record.js';
 import { termed } from './terms.js';
 
-const latin = new TextDecoder('windows-1252');
 const PENCIL = '# pencil ';
 const ORIGINALS = '# originals ';
 
@@ -39,7 +39,7 @@ export class Files {
         case 'puzzles':
           return await this.#openPuzzles(file.name, new TextDecoder().decode(bytes));
         case 'session':
-          if (!(await this.#openSession(file.name, latin.decode(bytes)))) return false;
+          if (!(await this.#openSession(file.name, toText(bytes)))) return false;
           break;
         case 'empty':
           return this.#refuse(`${file.name} is empty: nothing is opened`);
@@ -186,7 +186,7 @@ export class Files {
     const ascii = (text) => text.replace(/[^\x20-\x7e]/g, (character) => `\\u${character.charCodeAt(0).toString(16).padStart(4, '0')}`);
     const notes = [pencil.length && `${PENCIL}${pencil.join(', ')}`, originals.length && `${ORIGINALS}${ascii(JSON.stringify(originals))}`];
     const head = [SESSION_HEAD, ...notes.filter(Boolean)];
-    this.#give(encodeLatin([...head, ...lines].join('\n')), this.#name('xw'), why);
+    this.#give(toBytes([...head, ...lines].join('\n')), this.#name('xw'), why);
   }
 
   #textOf = (field) => this.#editor.textOf(field);
@@ -240,11 +240,4 @@ function parsedPairs(text) {
   } catch {
     return [];
   }
-}
-
-function encodeLatin(text) {
-  /** @type {Map<string, number>} */
-  const codes = new Map();
-  for (let code = 0; code < 256; code++) codes.set(latin.decode(new Uint8Array([code])), code);
-  return Uint8Array.from([...text], (character) => codes.get(character) ?? 63);
 }

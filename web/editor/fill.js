@@ -1,5 +1,6 @@
 // Fills: `autofill` in slices, so that one can be stopped. Each slice goes on with what the last one learned. A search that is not done soon goes on in
 // other workers too, each with a seed of its own; the first `filled` or `nofill` ends all. If the words have scores, the fill is raised then.
+import { grades, outcomeOf } from './answers.js';
 import { refuse, say } from './messages.js';
 import { Raiser } from './raising.js';
 import { titleOf } from './words.js';
@@ -148,11 +149,11 @@ export class Filler {
     const indices = new Set(cells.map((coordinates) => board.cells.indexOf(editor.cellAt(coordinates))));
     const lights = board.lights.filter((light) => board.isEntered(light) && light.cells.some((cell) => indices.has(cell)));
     // an earlier raising may have a fill on its way into the grid
-    const [lines] = lights.length ? await editor.inOrder(() => editor.ask(`grades ${lights.map(({ name }) => name).join(' ')}`)) : [[]];
-    const grades = (lines ?? []).map((line) => Number(line.split(' ')[2]));
-    if (!grades.length || grades.some(Number.isNaN)) return say(`filled; ${NEXT}`, 'good');
+    const told = lights.length ? await editor.inOrder(() => editor.ask(grades(lights.map(({ name }) => name)))) : [];
+    const known = (told ?? []).map(({ grade }) => grade);
+    if (!known.length || known.some(Number.isNaN)) return say(`filled; ${NEXT}`, 'good');
     const names = [...editor.chosen];
-    const raising = this.#raiser.run({ base: without(editor.record, filled), names: this.#names, cells, seed: this.#seed, grade: Math.min(...grades) });
+    const raising = this.#raiser.run({ base: without(editor.record, filled), names: this.#names, cells, seed: this.#seed, grade: Math.min(...known) });
     if (this.#raiser.isRunning) {
       say('filled; its worst word is raised … Esc ends this', 'busy');
       this.show({ isRaising: true });
@@ -193,8 +194,8 @@ export class Filler {
   async #race(names, record) {
     const race = { placements: 0, answer: 'limit', letters: [], isOver: false };
     const own = async (line) => {
-      const { answers: [{ lines, refusal }] } = await this.#send([line]);
-      return { answer: refusal ?? lines[0] };
+      const { answers: [told] } = await this.#send([line]);
+      return outcomeOf(told);
     };
     const joining = setTimeout(() => this.#join(race, names, record), ALONE);
     const found = await this.#slices(race, this.#seed, names, own, true);

@@ -3,6 +3,7 @@ import { figuresOf, figuresText } from './grades.js';
 import { whenIdle } from './idle.js';
 import { sketchOf } from './library.js';
 import { say } from './messages.js';
+import { letterIn } from './record.js';
 
 const MOST_KEPT = 5;
 
@@ -40,7 +41,7 @@ export class Fills {
 
   // Keeps a fill that is not in the grid, given by lines that set its letters, behind the others.
   offer(lines) {
-    const letters = new Map(lines.map((line) => [line.slice('set '.length, -2), line.slice(-1)]));
+    const letters = new Map(lines.map(letterIn));
     this.#drop();
     if (this.#kept.length < MOST_KEPT && !this.#kept.some((fill) => isSame(fill, letters))) this.#kept.push(letters);
     this.#soon();
@@ -92,7 +93,7 @@ export class Fills {
   #card(fill, figures) {
     const { board } = this.#editor;
     const card = Object.assign(document.createElement('button'), { type: 'button', className: 'pattern fill' });
-    const changed = new Set([...fill].filter(([coordinates, letter]) => this.#editor.cellAt(coordinates)?.letter !== letter).map(([coordinates]) => coordinates));
+    const changed = new Set([...fill].filter(([coordinates, letter]) => board.at(coordinates)?.letter !== letter).map(([coordinates]) => coordinates));
     const blocks = new Set(board.cells.filter((cell) => cell.block).map((cell) => cell.coordinates));
     const bars = new Set(board.cells.flatMap((cell) => [...(cell.right ? [`${cell.coordinates} right`] : []), ...(cell.below ? [`${cell.coordinates} below`] : [])]));
     card.append(sketchOf({ width: board.width, height: board.height, blocks, bars, letters: fill }, changed), Object.assign(document.createElement('small'), { textContent: figures }));

@@ -1,5 +1,6 @@
 // The grid: its cells, the keys and the mouse.
 import { refusalText, refuse, say } from './messages.js';
+import { placeOf } from './record.js';
 import { TypingField } from './typing.js';
 
 // How long a letter waits for the engine's answer, in milliseconds: one frame then shows it with all that it changes. If the answer takes
@@ -462,14 +463,9 @@ export class GridView {
   async eraseLight() {
     const editor = this.#editor;
     const { board, light } = editor;
-    if (!light) return;
-    const other = light.direction === 'across' ? 'down' : 'across';
-    const lettered = light.cells.filter((index) => board.cells[index].letter);
-    const free = lettered.filter((index) => !board.cells[index][other] || !board.isEntered(board.cells[index][other]));
-    const cells = free.length ? free : lettered;
-    if (cells.length === 0) return;
+    if (!light?.cells.some((index) => board.cells[index].letter)) return;
     editor.edited = { cell: editor.cursor, direction: editor.direction };
-    await this.#send(editor.commands.has('erase') ? [`erase ${light.name}`] : cells.map((index) => `clear ${board.cells[index].coordinates}`));
+    await this.#send([`erase ${light.name}`]);
   }
 
   #toEnd(at) {
@@ -527,7 +523,7 @@ export class GridView {
     const images = (await editor.orbit(index)).filter((cell) => cell.letter);
     const ink = images.find((cell) => cell !== editor.board.cells[index] && !editor.pencil.has(cell.coordinates));
     if (!ink) return this.#send([...images.map(({ coordinates }) => `clear ${coordinates}`), block], { stroke });
-    const [row, column] = ink.coordinates.split(' ');
+    const [row, column] = placeOf(ink.coordinates);
     refuse(`the letter at row ${row}, column ${column} is in the way of the block's image`);
     return 'Occupied';
   }

@@ -1,4 +1,5 @@
 // What a file is, by its bytes and its name.
+import { toText } from '../xw.js';
 import { isIpuz } from './ipuz.js';
 import { isPuzzlesFile } from './puzzles-file.js';
 import { isWordList, listText } from './word-list.js';
@@ -32,7 +33,7 @@ const isSixteenBits = (bytes) => (bytes[0] === 0xff && bytes[1] === 0xfe) || (by
 // What a file is: `puzzle` (.puz or text), `ipuz`, `session`, `puzzles`, `list`, `empty`, or `other`.
 export function kindOf(name, bytes) {
   if (!bytes.length) return 'empty';
-  const head = new TextDecoder('windows-1252').decode(bytes.subarray(0, 4096)).replace(/^\u00ef\u00bb\u00bf/, '');
+  const head = toText(bytes.subarray(0, 4096)).replace(/^\u00ef\u00bb\u00bf/, '');
   if (head.slice(2, 2 + MAGIC.length) === MAGIC || /\.puz$/i.test(name)) return 'puzzle';
   if (/^\s*<across puzzle>/i.test(head)) return 'puzzle';
   if (isPuzzlesFile(head)) return 'puzzles';

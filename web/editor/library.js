@@ -1,7 +1,7 @@
 // The dialog of puzzles: each can be opened, also as it was before, deleted and restored.
 import { openDialog } from './dialogs.js';
 import { versionsOf, whyNotKept } from './keep.js';
-import { parseRecord, unescapeText } from './record.js';
+import { parseRecord, placeOf, unescapeText } from './record.js';
 
 export class LibraryView {
   #dialog;
@@ -127,7 +127,7 @@ const MOST_DRAWN = 1000;
 export function sketchOf({ width, height, blocks, bars, letters }, marked = new Set(), dead = new Set()) {
   const svg = svgElement('svg', { viewBox: `0 0 ${width} ${height}`, 'aria-hidden': 'true' });
   const square = ([row, column]) => `M${column - 1} ${row - 1}h1v1h-1z`;
-  const squares = (cells) => [...cells].map((cell) => square(cell.split(' ').map(Number))).join('');
+  const squares = (cells) => [...cells].map((cell) => square(placeOf(cell))).join('');
   if (dead.size) svg.append(svgElement('path', { class: 'dead', d: squares(dead) }));
   svg.append(svgElement('path', { d: squares(blocks) }));
   const line = ([row, column, side]) => (side === 'right' ? `M${column} ${row - 1}v1` : `M${column - 1} ${row}h1`);
@@ -136,7 +136,7 @@ export function sketchOf({ width, height, blocks, bars, letters }, marked = new 
   if (bars.size) svg.append(svgElement('path', { class: 'bars', d: [...bars].map((bar) => line(bar.split(' '))).join('') }));
   if (width * height > MOST_DRAWN) return svg;
   for (const [coordinates, letter] of letters) {
-    const [row, column] = coordinates.split(' ').map(Number);
+    const [row, column] = placeOf(coordinates);
     const text = svgElement('text', { x: column - 0.5, y: row - 0.2, ...(marked.has(coordinates) && { class: 'marked' }) });
     text.append(letter);
     svg.append(text);

@@ -1,6 +1,7 @@
 // The raising of a fill: its worst word gets better by `best` in slices, in workers beside the one of the session, each with a seed of its own. The
 // fill that is in the grid can be edited meanwhile, which ends the raising.
 import { MOST } from './grades.js';
+import { letterIn } from './record.js';
 
 // The placements of a slice.
 const PLACEMENTS = 1000;
@@ -165,8 +166,8 @@ export class Raiser {
     if (race.isStopped || race.isChanged) return;
     const editor = this.#editor;
     const isOther = (line) => {
-      const [, row, column, letter] = line.split(' ');
-      return editor.cellAt(`${row} ${column}`)?.letter !== letter;
+      const [coordinates, letter] = letterIn(line);
+      return editor.board.at(coordinates)?.letter !== letter;
     };
     race.isEntering = true;
     const refused = await editor.edit(letters.filter(isOther), { only: race.record });

@@ -1,4 +1,5 @@
 // Dead ends: which lights have no word left, and which letters together are the reason.
+import { unmatched, why } from './answers.js';
 import { endingMessage, refuse, say } from './messages.js';
 import { titleOf } from './words.js';
 
@@ -29,7 +30,7 @@ export class Reasons {
   // After an edit that leads into a dead end: says so, marks the lights that no word matches, and after a moment shows the reason.
   soon() {
     clearTimeout(this.#timer);
-    const { board, commands } = this.#editor;
+    const { board } = this.#editor;
     if (!board.lights.some(this.#isDead)) {
       this.#endMessage();
       return;
@@ -45,7 +46,7 @@ export class Reasons {
       this.#editor.waits = true;
       return say(WAITING);
     }
-    if (board.isSparse && commands.has('unmatched')) {
+    if (board.isSparse) {
       this.#markUnmatched().then(() => (this.#editor.waits ? say(WAITING) : this.#tell()), () => {});
       return;
     }
@@ -56,7 +57,7 @@ export class Reasons {
   #tell() {
     const entry = this.#entry();
     this.#refuse(`${entry ? `${entry} leads to a dead end` : 'a dead end'}: no word is left for some lights. Click a red cell, or press ?, for the reason`);
-    if (this.#editor.commands.has('why')) this.#timer = setTimeout(() => this.#explainEntry(), PATIENCE);
+    this.#timer = setTimeout(() => this.#explainEntry(), PATIENCE);
   }
 
   #refuse(text) {
@@ -91,15 +92,15 @@ export class Reasons {
 
   // Marks the lights that no word matches, but for those that wait for blocks.
   mark() {
-    if (this.#editor.commands.has('unmatched')) this.#markUnmatched().catch(() => {});
+    this.#markUnmatched().catch(() => {});
   }
 
   async #markUnmatched() {
     const editor = this.#editor;
     const { record, board } = editor;
-    const [lines] = await editor.ask('unmatched');
+    const told = await editor.ask(unmatched());
     if (record !== editor.record) throw new Error('another edit came');
-    const names = (lines ?? []).map((line) => line.split(' ').slice(0, 2).join(' '));
+    const names = (told ?? []).map(({ name }) => name);
     const isWaiting = (name) => board.isSparse && board.isLongGap(board.byName.get(name));
     editor.waits = names.some(isWaiting);
     this.#grid.showUnmatched(names.filter((name) => !isWaiting(name)));
@@ -121,25 +122,23 @@ export class Reasons {
     if (!this.isIdle()) return;
     const editor = this.#editor;
     if (!lights.length) return say('every light has a word left', 'good');
-    if (!editor.commands.has('why')) return refuse(`no word is left for ${lights.slice(0, 2).map(titleOf).join(' and ')}: take a letter back`);
     const { record } = editor;
     const asked = lights.slice(0, MOST_ASKED);
-    const answers = await editor.ask(...asked.map((light) => `why ${light.name}`));
+    const answers = await Promise.all(asked.map((light) => editor.ask(why(light.name))));
     if (record !== editor.record) return;
-    const reasons = answers.map((lines, at) => this.#reasonOf(asked[at], lines)).filter(Boolean);
+    const reasons = answers.map((told, at) => this.#reasonOf(asked[at], told)).filter(Boolean);
     // one with letters of the last entry, and then one with letters in its own light, so that both are seen together; of these the shortest, and
     // of those the one that lies most in its light
     reasons.sort((a, b) => Math.min(b.last, 1) - Math.min(a.last, 1) || Math.min(b.own, 1) - Math.min(a.own, 1) || a.letters.length - b.letters.length || b.own - a.own);
     if (reasons.length) this.#show(reasons[0]);
   }
 
-  // The cells and letters of a reason, from the lines of `why`, and how many of the cells are of the light itself and of the last entry.
-  #reasonOf(light, lines) {
-    if (!lines) return null;
-    const words = lines.map((line) => line.split(' '));
-    const cells = words.map(([, row, column]) => this.#editor.board.index(Number(row), Number(column)));
+  // The cells and letters of a reason, as `why` tells them, and how many of the cells are of the light itself and of the last entry.
+  #reasonOf(light, told) {
+    if (!told) return null;
+    const cells = told.map(({ row, column }) => this.#editor.board.index(row, column));
     const countIn = (other) => cells.filter((cell) => other?.cells.includes(cell)).length;
-    return { light, cells, letters: words.map((word) => word[3]), own: countIn(light), last: countIn(this.#lastLight) };
+    return { light, cells, letters: told.map(({ letter }) => letter), own: countIn(light), last: countIn(this.#lastLight) };
   }
 
   #show({ light, cells, letters, last }) {

@@ -1,4 +1,5 @@
 // Records of a session: what they say, and the commands that lead from one to another.
+import { toText } from '../xw.js';
 
 const ESCAPES = { '\n': '\\n', '\r': '\\r', '\t': '\\t', ' ': '\\s', '\\': '\\\\' };
 const SPELLED = { n: '\n', r: '\r', t: '\t', s: ' ', '\\': '\\' };
@@ -12,7 +13,7 @@ export function unescapeText(spelled) {
   return spelled.replace(/\\(.)/g, (_, byte) => SPELLED[byte]);
 }
 
-const WINDOWS_1252 = new TextDecoder('windows-1252').decode(Uint8Array.from({ length: 256 }, (_, code) => code));
+const WINDOWS_1252 = toText(Uint8Array.from({ length: 256 }, (_, code) => code));
 const NEAR = { '→': '->', '←': '<-', '−': '-', '′': "'", '″': '"', 'ł': 'l', 'Ł': 'L', 'đ': 'd', 'Đ': 'D', 'ı': 'i', '≤': '<=', '≥': '>=', '≠': '/=' };
 
 // A text with near characters in place of those that are not in Windows-1252, or `?`, and how many these are.
@@ -87,7 +88,7 @@ function takeLine(state, line) {
       state.circles.add(rest);
       break;
     case 'set':
-      state.letters.set(rest.slice(0, -2), rest.slice(-1));
+      state.letters.set(...entryIn(rest));
       break;
     case 'text':
     case 'more':
@@ -108,6 +109,21 @@ function takeText(texts, name, rest) {
   const [, field, spelled] = /^(clue \d+ \d+ \w+|\w+) ?(.*)$/s.exec(rest);
   texts.set(field, name === 'more' ? (texts.get(field) ?? '') + spelled : spelled);
 }
+
+// The lines of a record that enter letters.
+export const lettersOf = (record) => record.split('\n').filter((line) => line.startsWith('set '));
+
+// What such a line enters: the coordinates of a cell, and its letter.
+export const letterIn = (line) => entryIn(line.slice('set '.length));
+
+/** @returns {[string, string]} */
+const entryIn = (rest) => [rest.slice(0, -2), rest.slice(-1)];
+
+// The row and the column of coordinates.
+export const placeOf = (coordinates) => coordinates.split(' ').map(Number);
+
+// A record without the least grade, which belongs to the word lists and not to a puzzle.
+export const withoutLeast = (record) => record.replace(/^least \d+\n/m, '');
 
 // The lines of a record that change the words.
 export const wordsOf = (record) => record.split('\n').filter((line) => /^(add|strike) /.test(line));

@@ -10,13 +10,11 @@ import {
 import { endWarning, warn } from './messages.js';
 import { PATTERNS, recordOf, rowsOf } from './patterns.js';
 import { puzzlesFile, puzzlesIn } from './puzzles-file.js';
-import { parseRecord } from './record.js';
+import { lettersOf, parseRecord } from './record.js';
 
 // A version is kept before so many letters go at once, and after so many steps.
 const LETTERS_LOST = 3;
 const STEPS_BETWEEN = 25;
-
-const lettersIn = (record) => (record.match(/^set /gm) ?? []).length;
 
 // Whether a record is that of a pattern or of a blank grid to which nothing was done.
 export function isUntouched(record) {
@@ -125,7 +123,7 @@ export class Shelf extends EventTarget {
     if (this.#isElsewhere) this.#copy();
     const { puzzle, record } = this.#editor;
     if (before?.puzzle === puzzle) {
-      const isLoss = lettersIn(before.record) - lettersIn(record) >= LETTERS_LOST;
+      const isLoss = lettersOf(before.record).length - lettersOf(record).length >= LETTERS_LOST;
       if (isLoss || ++this.#steps >= STEPS_BETWEEN) this.#addVersion(before);
     }
     if (!this.#isDue) whenIdle(() => this.#keep());

@@ -1,4 +1,5 @@
 // Word lists: which lines are words, and why others are left out. The worker has this module too.
+import { toText } from '../xw.js';
 import { UNSCORED, scoreOf } from './grades.js';
 import { randoms, shuffled } from './random.js';
 
@@ -11,7 +12,7 @@ export function listText(bytes) {
     // what begins a character at the end, and does not end it, is dropped
     return new TextDecoder('utf-8', { fatal: true }).decode(bytes, { stream: true });
   } catch {
-    return new TextDecoder('windows-1252').decode(bytes);
+    return toText(bytes);
   }
 }
 

@@ -1,4 +1,5 @@
 // The tab of words: the candidates of the light under the cursor, and the letters of its cell.
+import { choices, match, tally } from './answers.js';
 import { filtered } from './filter.js';
 import { onceIdle, whenIdle } from './idle.js';
 import { refuse, refusalText } from './messages.js';
@@ -165,8 +166,7 @@ export class WordsView {
 
   // In a dead end: the words that agree with the letters of the light alone.
   async #matches(light) {
-    const [matches] = await this.#editor.ask(`match ${this.#editor.board.spell(light)}`);
-    return matches ?? [];
+    return (await this.#editor.ask(match(this.#editor.board.spell(light)))) ?? [];
   }
 
   #take(turn, words, scores) {
@@ -274,11 +274,9 @@ export class WordsView {
 
   // What each of the first words leaves, and then those in sight.
   async #count(turn, light) {
-    if (this.#editor.commands.has('choices')) {
-      const [lines] = await this.#editor.ask(`choices ${light.name} ${MOST_COUNTED}`);
-      if (turn !== this.#turn) return;
-      this.#takeLeft((lines ?? []).map((line) => line.split(' ')));
-    }
+    const told = await this.#editor.ask(choices(light.name, MOST_COUNTED));
+    if (turn !== this.#turn) return;
+    this.#takeLeft((told ?? []).map(({ word, left }) => [word, left]));
     await this.#probe(turn, light);
   }
 
@@ -288,7 +286,7 @@ export class WordsView {
   }
 
   #takeLeft(pairs) {
-    for (const [word, left] of pairs) this.#left.set(word, left === 'done' ? left : Number(left));
+    for (const [word, left] of pairs) this.#left.set(word, left);
     if (this.#elements.order.value === 'left') {
       this.#list();
       return;
@@ -359,17 +357,16 @@ export class WordsView {
       fit(letters, this.#buttons, 0, makeButton);
       return;
     }
-    const [lines] = await this.#editor.ask(`tally ${cell.coordinates}`);
+    const told = (await this.#editor.ask(tally(cell.coordinates))) ?? [];
     if (turn !== this.#turn) return;
     this.#lettered = cursor;
     letters.parentElement.classList.toggle('entered', Boolean(cell.letter));
     setText(coordinates, `Row ${board.rowOf(cursor)}, column ${board.columnOf(cursor)}`);
     this.#showBusy();
-    letters.classList.toggle('none', !lines?.length);
-    const rows = (lines ?? []).map((line) => line.split(' '));
-    const most = Math.max(1, ...rows.map(([, across, down]) => Math.max(Number(across) || 0, Number(down) || 0)));
-    fit(letters, this.#buttons, rows.length, makeButton);
-    rows.forEach((row, at) => fillButton(this.#buttons[at], ...row, most));
+    letters.classList.toggle('none', !told.length);
+    const most = Math.max(1, ...told.map(({ across, down }) => Math.max(Number(across) || 0, Number(down) || 0)));
+    fit(letters, this.#buttons, told.length, makeButton);
+    told.forEach((counts, at) => fillButton(this.#buttons[at], counts, most));
   }
 
   // The keys of the filter.
@@ -500,7 +497,7 @@ function makeButton() {
   return button;
 }
 
-function fillButton(button, letter, across, down, most) {
+function fillButton(button, { letter, across, down }, most) {
   const bar = (count) => `${Math.round((100 * Math.log1p(Number(count) || 0)) / Math.log1p(most))}%`;
   button.dataset.letter = letter;
   button.style.setProperty('--across', bar(across));

@@ -4,21 +4,11 @@
 //   node web/test/grids.mjs
 //
 // The last line is 'N passed, M failed'.
-import { execFileSync } from 'node:child_process';
-import { mkdtempSync, readFileSync, rmSync, writeFileSync } from 'node:fs';
-import { tmpdir } from 'node:os';
-import { join } from 'node:path';
+import { readFileSync } from 'node:fs';
 import { Xw, load } from '../dist/xw.js';
+import { pageModules } from './page-modules.mjs';
 
-// the modules of the page as one, which Node takes for a module by its name
-const room = mkdtempSync(join(tmpdir(), 'xw-grids-'));
-const editor = new URL('../editor/', import.meta.url).pathname;
-const entry = ['themes', 'symmetry', 'patterns', 'barred'].map((name) => `export * from '${editor}${name}.js';\n`).join('');
-writeFileSync(join(room, 'entry.js'), entry);
-execFileSync('esbuild', [join(room, 'entry.js'), '--bundle', '--format=esm', '--log-level=warning', `--outfile=${join(room, 'grids.mjs')}`]);
-const { PATTERNS, Turns, checkWanted, gridFrom, mostUnchecked, recordOf, recordOfGrid, rowsOf } = await import(join(room, 'grids.mjs'));
-rmSync(room, { recursive: true });
-
+const { PATTERNS, Turns, checkWanted, gridFrom, mostUnchecked, recordOf, recordOfGrid, rowsOf } = await pageModules('themes', 'symmetry', 'patterns', 'barred');
 const SYMMETRIES = ['half', 'quarter', 'leftright', 'updown', 'none'];
 const module = await load(readFileSync(new URL('../dist/xw.wasm', import.meta.url)));
 

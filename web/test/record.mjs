@@ -3,10 +3,9 @@
 //   node web/test/record.mjs [ROUNDS]
 import { readFileSync } from 'node:fs';
 import { Xw, load, toBytes, toText } from '../dist/xw.js';
+import { pageModules } from './page-modules.mjs';
 
-// record.js is a module of the page, which Node takes for one only by this way
-const source = readFileSync(new URL('../editor/record.js', import.meta.url));
-const { bodyOf, escapeText, parseRecord, textLines, transition, unescapeText } = await import(`data:text/javascript;base64,${source.toString('base64')}`);
+const { bodyOf, escapeText, parseRecord, textLines, transition, unescapeText } = await pageModules('record');
 
 const LIST = 'cat\ncot\ncut\near\noar\ntea\ntoe\nare\ntar\nate\ntone\nrote\n';
 const LIST_WORDS = LIST.trim().split('\n');
