@@ -128,7 +128,7 @@ async function addLengths(texts) {
 // letters are cleared, or with no name those of all crossing lights.
 async function place(word, needs = null) {
   const { light, board } = editor;
-  editor.edited = { cell: editor.cursor, direction: light.direction };
+  editor.change({ edited: { cell: editor.cursor, direction: light.direction } });
   const cells = light.cells.filter((index, at) => editor.board.cells[index].letter !== word[at]).map((index) => editor.board.cells[index].coordinates);
   const pencil = new Set([...editor.pencil].filter((cell) => !cells.includes(cell)));
   const cleared = needs ? editor.pencilledAcross(light, needs) : [];
@@ -198,9 +198,8 @@ const grid = new GridView(editor, $('grid'), {
     filler.stop();
     showTool();
   },
-  chosen: showChosen,
 });
-const faults = new Faults(editor, grid);
+const faults = new Faults(editor);
 new StandingView(editor, $('standing'), faults, {
   add: (word) => add(word),
   erase: () => grid.eraseLight().then(toGrid),
@@ -211,7 +210,7 @@ new CrossingsView(editor, $('crossings'), (light, cell) => {
   grid.focus();
 });
 new WarningsView(editor, faults, { button: $('rules'), count: $('rules-count'), tab: $('tab-puzzle') }, () => showTab('puzzle'));
-const reasons = new Reasons(editor, grid, () => !filler.isRunning);
+const reasons = new Reasons(editor, () => !filler.isRunning);
 const words = new WordsView(
   editor,
   {
@@ -239,7 +238,7 @@ const themes = new ThemesView(
   },
   (record, entries) => beginWith(record, entries).catch(unforeseen),
 );
-const figures = new Figures(editor, grid, { box: $('figures'), text: $('figures-text'), worst: $('figures-worst') }, goTo);
+const figures = new Figures(editor, { box: $('figures'), text: $('figures-text'), worst: $('figures-worst') }, goTo);
 const fills = new Fills(editor, { box: $('fills'), list: $('fills-list') }, mayEdit);
 const filler = new Filler(editor, helpers, fills, { show: showFill, explain: () => whenIdle(() => reasons.ask().catch(() => {})), proved: (proof) => figures.prove(proof) });
 const printer = new Printer(editor, $('sheet'));
@@ -443,7 +442,7 @@ function showList() {
 // Has the engine take over a least score, which may lead into a dead end.
 async function useLeast(least) {
   filler.stop();
-  editor.edited = null;
+  editor.change({ edited: null });
   await editor.useLeast(least);
   lists = lists.atLeast(least);
   showFacts();
@@ -723,12 +722,10 @@ menu.addEventListener('keydown', (event) => {
   if (step || event.key === 'Escape') event.preventDefault();
 });
 
-editor.addEventListener('step', () => whenIdle(showFacts));
-editor.addEventListener('leave', () => words.clearFilter());
-editor.addEventListener('whole', () => {
-  showFacts();
-  showChosen();
-});
+editor.on(['step'], () => whenIdle(showFacts));
+editor.on(['left'], () => words.clearFilter());
+editor.on(['board'], showFacts);
+editor.on(['board', 'chosen'], showChosen);
 
 // What the browser keeps.
 

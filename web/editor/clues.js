@@ -4,6 +4,7 @@ import { termed } from './terms.js';
 import { titleOf } from './words.js';
 
 export class CluesView {
+  /** @type {import('./editor.js').Editor} */
   #editor;
   #root;
   #summary;
@@ -24,9 +25,9 @@ export class CluesView {
     lengths.addEventListener('click', () => this.#addLengths());
     root.addEventListener('click', (event) => this.#addLength(event.target.closest('.length')));
     root.addEventListener('input', (event) => this.#showLength(event.target));
-    editor.addEventListener('whole', () => this.draw());
-    editor.addEventListener('letters', () => this.#wordsSoon());
-    editor.addEventListener('move', () => this.#mark());
+    editor.on(['board'], () => this.draw());
+    editor.on(['letters'], () => this.#wordsSoon());
+    editor.on(['cursor'], () => this.#mark());
     root.addEventListener('keydown', (event) => this.#key(event));
     root.addEventListener('change', (event) => this.#change(event.target));
     root.addEventListener('focusin', (event) => this.#focused(event.target));

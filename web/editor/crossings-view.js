@@ -3,6 +3,7 @@ import { onceIdle } from './idle.js';
 import { titleOf } from './words.js';
 
 export class CrossingsView {
+  /** @type {import('./editor.js').Editor} */
   #editor;
   #root;
   #rows = [];
@@ -11,8 +12,7 @@ export class CrossingsView {
   constructor(editor, root, go) {
     this.#editor = editor;
     this.#root = root;
-    const soon = onceIdle(() => this.#show());
-    for (const name of ['whole', 'letters', 'move']) editor.addEventListener(name, soon);
+    editor.on(['board', 'letters', 'cursor'], onceIdle(() => this.#show()));
     root.addEventListener('click', ({ target }) => {
       const row = target.closest('button');
       const light = row && editor.board.byName.get(row.dataset.light);

@@ -11,6 +11,7 @@ import { titleOf } from './words.js';
 const SETTLED = 200;
 
 export class DetailsView {
+  /** @type {import('./editor.js').Editor} */
   #editor;
   #elements;
   #timer = null;
@@ -19,8 +20,8 @@ export class DetailsView {
     this.#editor = editor;
     this.#elements = elements;
     this.actions = actions;
-    editor.addEventListener('whole', () => this.#takeTexts());
-    editor.addEventListener('step', () => this.#soon());
+    editor.on(['board'], () => this.#takeTexts());
+    editor.on(['step'], () => this.#soon());
     for (const field of ['title', 'author', 'copyright', 'notes']) {
       elements[field].addEventListener('change', () => this.#change(field));
       elements[field].addEventListener('keydown', (event) => {

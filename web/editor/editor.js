@@ -1,64 +1,23 @@
 // The session: edits go to the engine in order, and each is kept in a history of records.
-import { Board } from './board.js';
 import { Engine } from './engine.js';
 import { gradeOf, usualWeak } from './grades.js';
 import { bodyOf, nearestText, parseRecord, transition, unescapeText } from './record.js';
 import { refusalText, refuse } from './messages.js';
+import { EditorState, NO_REASON, newPuzzleName, only } from './state.js';
 import { whenIdle } from './idle.js';
 import { useTermsOf } from './terms.js';
 
-// A step of the history, as the browser keeps it too.
-/**
- * @typedef {{
- *   puzzle: string, record: string, pencil: string[], originals: [string, string][], cursor: number, direction: 'across' | 'down',
- * }} State
- */
-// The word lists in use as one. `byGrade` has the number of words of each grade; `least` is the least score, and `grade` its grade; words
-// below the score `weak` are marked.
-/**
- * @typedef {{
- *   name: string, words: number, scored: boolean, best: number, byGrade: Uint32Array, leftOut: Record<string, number>, folded: number, least: number,
- *   grade: number, weak: number, sources: Uint8Array[], personal: string,
- * }} WordList
- */
+/** @typedef {import('./state.js').Step} Step */
+/** @typedef {import('./answers.js').Direction} Direction */
 
 const MOST_STEPS = 5000;
 
-export class Editor extends EventTarget {
-  board = new Board();
-  // the cell under the cursor, and the direction of its light
-  cursor = 0;
-  /** @type {'across' | 'down'} */
-  direction = 'across';
-  sym = 'none';
-  // cells whose letters a fill entered, by coordinates; another fill may change them
-  /** @type {Set<string>} */
-  pencil = new Set();
-  // what was typed into fields, as commands spell them, where it has characters that the engine cannot keep; the engine has near ones
-  originals = new Map();
-  // names of the lights to fill; all if there are none
-  chosen = new Set();
-  // where the last entry was: { cell, direction }; null after other edits
-  edited = null;
-  // cells of a reason, by index, and the name of the light that they leave no word
-  reason = new Set();
-  reasonLight = '';
-  // whether long lights that no word matches wait for blocks
-  waits = false;
-  // cells of other lights that no word matches, and of words that are not in use or stand twice, by index
-  unmatched = new Set();
-  faulty = new Set();
-  // cells of words below the score that is chosen, by index, and the directions of these words
-  weak = { across: new Set(), down: new Set() };
-  /** @type {WordList} */
-  list = { name: '', words: 0, scored: false, best: 0, byGrade: new Uint32Array(), leftOut: {}, folded: 0, least: 0, grade: 0, weak: 0, sources: [], personal: '' };
-  // names the puzzle: edits keep the name, another file or pattern has another one
-  puzzle = newPuzzleName();
-  /** @type {State[]} */
+export class Editor extends EditorState {
+  /** @type {Step[]} */
   #past = [];
-  /** @type {State[]} */
+  /** @type {Step[]} */
   #future = [];
-  /** @type {State | null} */
+  /** @type {Step | null} */
   #now = null;
   #last = Promise.resolve();
   // for each thing that is not done yet the lines that it sends, or null if it is no edit
@@ -76,18 +35,11 @@ export class Editor extends EventTarget {
     this.engine = new Engine(makeWorker, () => this.#restart());
   }
 
-  #tell(name, detail) {
-    this.dispatchEvent(new CustomEvent(name, { detail }));
-  }
-
   async begin(module, list, { record, pencil, puzzle, originals = [] }) {
     this.module = module;
     await this.engine.call('load', { bytes: module });
     await this.#open(list, record);
-    this.pencil = new Set(pencil);
-    this.originals = new Map(originals);
-    this.#tell('whole');
-    if (puzzle) this.puzzle = puzzle;
+    this.change({ board: this.board, pencil: new Set(pencil), originals: new Map(originals), puzzle: puzzle ?? this.puzzle });
     this.#now = this.#state(this.record);
   }
 
@@ -116,7 +68,7 @@ export class Editor extends EventTarget {
   rename() {
     const [before, name] = [this.puzzle, newPuzzleName()];
     for (const state of [...this.#past, ...this.#future]) if (state.puzzle === before) state.puzzle = name;
-    this.puzzle = name;
+    this.change({ puzzle: name });
     if (this.#now) this.#now = { ...this.#now, puzzle: name };
   }
 
@@ -124,10 +76,8 @@ export class Editor extends EventTarget {
     const { sources, personal, least } = list;
     const opened = await this.engine.call('open', { sources, personal, least, record });
     const { words, scored, best, byGrade, grade, leftOut, folded } = opened;
-    this.list = { ...list, weak: list.weak ?? usualWeak(best), words, scored, best, byGrade, grade, leftOut, folded };
-    this.record = opened.record;
-    this.board.takeWhole(opened);
-    this.#afterWhole();
+    this.hold({ list: { ...list, weak: list.weak ?? usualWeak(best), words, scored, best, byGrade, grade, leftOut, folded }, record: opened.record });
+    this.#takeWhole(opened);
   }
 
   // After a failure: a new worker, on the list and the last record.
@@ -141,7 +91,7 @@ export class Editor extends EventTarget {
     try {
       this.engine.start();
       await this.engine.call('load', { bytes: this.module });
-      this.pencil = new Set(this.#now?.pencil ?? this.pencil);
+      this.hold({ pencil: new Set(this.#now?.pencil ?? this.pencil) });
       await this.#open(this.list, this.record);
       refuse(refusalText('Engine'));
     } catch {
@@ -149,17 +99,19 @@ export class Editor extends EventTarget {
     }
   }
 
-  #afterWhole() {
-    this.sym = parseRecord(this.record).sym;
-    useTermsOf(this.board);
-    const { cells } = this.board;
-    if (this.cursor >= cells.length) this.cursor = 0;
-    for (const coordinates of this.pencil) if (!this.board.at(coordinates)?.letter) this.pencil.delete(coordinates);
-    for (const name of this.chosen) if (!this.board.byName.has(name)) this.chosen.delete(name);
-    this.#tell('whole');
+  // Takes the whole grid as the engine tells it, and what goes with it.
+  #takeWhole(told) {
+    const { board } = this;
+    board.takeWhole(told);
+    useTermsOf(board);
+    const pencil = only(this.pencil, (coordinates) => Boolean(board.at(coordinates)?.letter));
+    const chosen = only(this.chosen, (name) => board.byName.has(name));
+    this.hold({ board, sym: parseRecord(this.record).sym, pencil, ...(chosen !== this.chosen && { chosen }) });
+    if (this.cursor >= board.cells.length) this.hold({ cursor: 0 });
+    this.tell();
   }
 
-  /** @returns {State} */
+  /** @returns {Step} */
   #state(record) {
     return { puzzle: this.puzzle, record, pencil: [...this.pencil], originals: [...this.originals], cursor: this.cursor, direction: this.direction };
   }
@@ -215,17 +167,17 @@ export class Editor extends EventTarget {
     const told = await this.engine.call('edit', { lines, isWhole });
     const refused = told.answers.find(({ refusal }) => refusal)?.refusal ?? null;
     if (refused) {
-      this.pencil = new Set(this.#now.pencil);
+      this.hold({ pencil: new Set(this.#now.pencil) });
       await this.#goTo(this.record);
       return refused;
     }
     this.#unmark();
-    if (pencil) this.pencil = pencil;
-    if (originals) this.originals = originals;
-    this.#show(lines, told, isWhole);
+    this.hold({ pencil: pencil ?? this.pencil, originals: originals ?? this.originals });
+    if (isWhole) this.#takeWhole(told);
+    else this.#takeLetters(lines, told);
     if (!isWhole) await this.#idle();
-    this.record = await this.engine.call('record');
-    if (isWhole) this.sym = parseRecord(this.record).sym;
+    const record = await this.engine.call('record');
+    this.hold({ record, ...(isWhole && { sym: parseRecord(record).sym }) });
     if (only === null) this.#step(stroke);
     else this.#arrive(this.#state(this.record));
     return null;
@@ -241,16 +193,11 @@ export class Editor extends EventTarget {
     this.#hurry = null;
   }
 
-  #show(lines, told, isWhole) {
-    if (isWhole) {
-      this.board.takeWhole(told);
-      this.#afterWhole();
-      return;
-    }
+  #takeLetters(lines, told) {
     const cells = new Set(lines.map((line) => this.#takeLetter(line)));
     for (const cell of this.board.takeChanged(told.changed)) cells.add(cell);
     this.board.takeCounts(told.counts);
-    this.#tell('letters', { cells, engine: told.engine });
+    this.change({ letters: { cells, engine: told.engine } });
   }
 
   // Takes a line `set R C L` or `clear R C`, and returns the index of the cell. What was typed there since stays.
@@ -260,8 +207,13 @@ export class Editor extends EventTarget {
     const isSame = (other) => other === `clear ${row} ${column}` || other.startsWith(`set ${row} ${column} `);
     const isLater = this.#due.some((lines, at) => at > 0 && lines?.some(isSame));
     if (!isLater) this.board.cells[index].letter = letter;
-    this.pencil.delete(`${row} ${column}`);
+    this.#takeInk(`${row} ${column}`);
     return index;
+  }
+
+  // A letter that is entered or cleared is in pencil no longer.
+  #takeInk(coordinates) {
+    if (this.pencil.has(coordinates)) this.hold({ pencil: only(this.pencil, (other) => other !== coordinates) });
   }
 
   // the stroke of the last step
@@ -280,16 +232,16 @@ export class Editor extends EventTarget {
     this.#arrive(now);
   }
 
-  // Tells of a puzzle that is replaced, as `leave`, and of the step, with the state before it.
+  // Tells of a puzzle that is replaced, and then of the step.
   #arrive(now) {
     const before = this.#now;
     this.#now = now;
-    if (before.puzzle !== now.puzzle) this.#tell('leave', before);
-    this.#tell('step', before);
+    if (before.puzzle !== now.puzzle) this.change({ left: before });
+    this.change({ step: before });
   }
 
   // Leads the engine to a record, and checks that it is there. The cursor goes with it to another place, unless it was moved meanwhile.
-  /** @param {{ cursor: number, direction: 'across' | 'down' }} place */
+  /** @param {{ cursor: number, direction: Direction }} place */
   async #goTo(record, place = this) {
     const { cursor, direction } = this;
     const now = await this.engine.call('record');
@@ -301,11 +253,10 @@ export class Editor extends EventTarget {
       after = await this.engine.call('record');
     }
     const told = await this.engine.call('edit', { lines: [], isWhole: true });
-    this.record = after;
+    this.hold({ record: after });
     this.#unmark();
-    this.board.takeWhole(told);
-    if (cursor === this.cursor && direction === this.direction) ({ cursor: this.cursor, direction: this.direction } = place);
-    this.#afterWhole();
+    if (cursor === this.cursor && direction === this.direction) this.hold({ cursor: place.cursor, direction: place.direction });
+    this.#takeWhole(told);
   }
 
   // Sends what leads from one record to another.
@@ -319,9 +270,8 @@ export class Editor extends EventTarget {
 
   // What was said of a dead end is over.
   #unmark() {
-    this.reason = new Set();
-    this.reasonLight = '';
-    this.unmatched = new Set();
+    if (this.reason !== NO_REASON) this.hold({ reason: NO_REASON });
+    if (this.unmatched.size) this.hold({ unmatched: new Set() });
   }
 
   get canUndo() {
@@ -352,28 +302,21 @@ export class Editor extends EventTarget {
   }
 
   async #take(state) {
-    this.pencil = new Set(state.pencil);
-    this.originals = new Map(state.originals);
+    this.hold({ pencil: new Set(state.pencil), originals: new Map(state.originals) });
     // the board that is here may not have that cell
     await this.#goTo(state.record, state);
-    this.puzzle = state.puzzle;
-    this.edited = null;
+    this.hold({ puzzle: state.puzzle, edited: null });
     this.#arrive({ ...state, record: this.record });
   }
 
   // Goes to another puzzle as one step, such as that of a file.
   replace({ record, pencil = [], originals = [], puzzle = newPuzzleName() }) {
     return this.inOrder(async () => {
-      this.pencil = new Set(pencil);
-      this.originals = new Map(originals);
-      this.chosen.clear();
+      this.hold({ pencil: new Set(pencil), originals: new Map(originals), chosen: new Set() });
       await this.#goTo(record);
-      this.puzzle = puzzle;
-      this.cursor = Math.max(0, this.board.cells.findIndex((cell) => !cell.block));
-      this.direction = 'across';
-      this.edited = null;
+      this.hold({ puzzle, cursor: Math.max(0, this.board.cells.findIndex((cell) => !cell.block)), direction: 'across', edited: null });
       this.#step();
-      this.#tell('whole');
+      this.change({ board: this.board });
     });
   }
 
@@ -384,10 +327,10 @@ export class Editor extends EventTarget {
       try {
         await this.#open(list, this.record);
         this.#now = this.#state(this.record);
-        this.#tell('step');
+        this.change({ step: undefined });
         return null;
       } catch (fault) {
-        this.list = old;
+        this.change({ list: old });
         return fault.status;
       }
     });
@@ -395,19 +338,17 @@ export class Editor extends EventTarget {
 
   // Marks words below another score.
   markBelow(weak) {
-    this.list = { ...this.list, weak };
-    this.#tell('whole');
+    this.change({ list: { ...this.list, weak }, board: this.board });
   }
 
   // Chooses the least score of the words in use, which is no step of the history.
   useLeast(least) {
     return this.inOrder(async () => {
       const grade = gradeOf(least, this.list.best);
-      this.list = { ...this.list, least, grade };
+      this.change({ list: { ...this.list, least, grade } });
       const told = await this.engine.call('edit', { lines: [`least ${grade}`], isWhole: true });
       this.#unmark();
-      this.board.takeWhole(told);
-      this.#afterWhole();
+      this.#takeWhole(told);
     });
   }
 
@@ -418,8 +359,7 @@ export class Editor extends EventTarget {
 
   setPencil(pencil, stroke = null) {
     return this.inOrder(() => {
-      this.pencil = pencil;
-      this.#tell('whole');
+      this.change({ pencil, board: this.board });
       this.#step(stroke);
     });
   }
@@ -462,25 +402,24 @@ export class Editor extends EventTarget {
   }
 
   moveTo(index, direction = this.direction) {
-    this.put(index, direction);
-    this.tellMove();
+    this.change(this.#placed(index, direction));
   }
 
-  // Puts the cursor into a cell. `tellMove` shows it.
-  put(index, direction = this.direction) {
-    const cell = this.board.cells[index];
-    this.cursor = index;
-    this.direction = direction;
+  // The cursor in a cell, in the direction of a light there.
+  #placed(cursor, direction) {
+    const cell = this.board.cells[cursor];
     const other = direction === 'across' ? 'down' : 'across';
-    if (!cell[direction] && cell[other]) this.direction = other;
+    return { cursor, direction: !cell[direction] && cell[other] ? other : direction };
   }
 
-  tellMove() {
-    this.#tell('move');
+  // Enters a letter ahead of the engine, or none, and moves the cursor. The next transaction tells it.
+  enter(index, letter, next) {
+    const { cells } = this.board;
+    this.hold({ edited: { cell: index, direction: this.direction } });
+    this.#takeInk(cells[index].coordinates);
+    cells[index].letter = letter;
+    this.hold(next === index ? { cursor: index } : this.#placed(next, this.direction));
   }
 }
 
 const isSame = (one, other) => bodyOf(one).join('\n') === bodyOf(other).join('\n');
-
-// A name that no other puzzle has.
-export const newPuzzleName = () => `${Date.now().toString(36)}-${Math.random().toString(36).slice(2)}`;

@@ -22,19 +22,18 @@ export async function whyUnlisted(editor, words) {
 }
 
 export class Faults extends EventTarget {
+  /** @type {import('./editor.js').Editor} */
   #editor;
-  #grid;
   #turn = 0;
   // the words that are not in use, each with why, and for those that stand twice the other light, by the name of the light
   /** @type {Map<string, { word: string, why: string }>} */
   unlisted = new Map();
   repeated = new Map();
 
-  constructor(editor, grid) {
+  constructor(editor) {
     super();
     this.#editor = editor;
-    this.#grid = grid;
-    for (const name of ['step', 'whole']) editor.addEventListener(name, () => this.#soon());
+    editor.on(['step', 'board'], () => this.#soon());
   }
 
   #soon() {
@@ -50,7 +49,7 @@ export class Faults extends EventTarget {
     if (turn !== this.#turn) return;
     this.unlisted = new Map(found.map(({ name, word }, at) => [name, { word, why: whys[at] }]));
     this.repeated = new Map(repeated.map(({ name, first }) => [name, first.name]));
-    this.#grid.showFaults([...this.unlisted.keys(), ...this.repeated.keys()]);
+    this.#editor.change({ faulty: this.#editor.board.cellsOf([...this.unlisted.keys(), ...this.repeated.keys()]) });
     this.dispatchEvent(new Event('told'));
   }
 

@@ -6,8 +6,8 @@ import { termed } from './terms.js';
 import { titleOf } from './words.js';
 
 export class Figures {
+  /** @type {import('./editor.js').Editor} */
   #editor;
-  #grid;
   #elements;
   #turn = 0;
   // what was measured last, so that a letter in a word that is not whole asks nothing
@@ -20,12 +20,11 @@ export class Figures {
   #proof = null;
 
   // `elements` are the box, the text in it, and the button that goes to the worst word.
-  constructor(editor, grid, elements, go) {
+  constructor(editor, elements, go) {
     this.#editor = editor;
-    this.#grid = grid;
     this.#elements = elements;
     this.go = go;
-    for (const name of ['step', 'whole']) editor.addEventListener(name, () => this.#soon());
+    editor.on(['step', 'board'], () => this.#soon());
   }
 
   #soon() {
@@ -70,7 +69,8 @@ export class Figures {
     this.#measured = all;
     this.#figures = figuresOf(scores, weak);
     this.#scores = new Map(lights.map((light, at) => /** @type {[string, number]} */ ([light.name, scores[at]])).filter(([, score]) => score !== null));
-    this.#grid.showWeak(lights.filter(({ name }) => this.#scores.get(name) < weak));
+    const cellsOf = (direction) => new Set(lights.filter((light) => light.direction === direction && this.#scores.get(light.name) < weak).flatMap(({ cells }) => cells));
+    this.#editor.change({ weak: { across: cellsOf('across'), down: cellsOf('down') } });
   }
 
   // What is said of the words in the grid; or ''.

@@ -15,6 +15,7 @@ const ORIGINALS = '# originals ';
 const MOST_BYTES = 1 << 27;
 
 export class Files {
+  /** @type {import('./editor.js').Editor} */
   #editor;
 
   constructor(editor, actions) {

@@ -29,6 +29,7 @@ const DECIDED = new Set(['filled', 'nofill']);
 /** @typedef {{ answer: string, letters?: string[] }} Slice */
 
 export class Filler {
+  /** @type {import('./editor.js').Editor} */
   #editor;
   #helpers;
   #raiser;
@@ -146,7 +147,7 @@ export class Filler {
     const { list, board } = editor;
     if (!list.scored) return;
     const cells = filled.map((cell) => cell.coordinates);
-    const indices = new Set(cells.map((coordinates) => board.cells.indexOf(editor.cellAt(coordinates))));
+    const indices = new Set(cells.map((coordinates) => board.cells.indexOf(editor.board.at(coordinates))));
     const lights = board.lights.filter((light) => board.isEntered(light) && light.cells.some((cell) => indices.has(cell)));
     // an earlier raising may have a fill on its way into the grid
     const told = lights.length ? await editor.inOrder(() => editor.ask(grades(lights.map(({ name }) => name)))) : [];

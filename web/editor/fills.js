@@ -8,6 +8,7 @@ import { letterIn } from './record.js';
 const MOST_KEPT = 5;
 
 export class Fills {
+  /** @type {import('./editor.js').Editor} */
   #editor;
   #elements;
   // for each fill its letters, by coordinates; the newest first
@@ -22,7 +23,7 @@ export class Fills {
     this.#editor = editor;
     this.#elements = elements;
     this.mayEdit = mayEdit;
-    for (const name of ['step', 'whole']) editor.addEventListener(name, () => this.#soon());
+    editor.on(['step', 'board'], () => this.#soon());
   }
 
   // Keeps the fill that is in the grid; if it is a better one of the fill before, in its place.
@@ -113,7 +114,7 @@ export class Fills {
     if (!cleared.length && !entered.length) return;
     const pencil = new Set([...editor.pencil, ...entered.map((cell) => cell.coordinates)]);
     const lines = [...cleared.map((cell) => `clear ${cell.coordinates}`), ...entered.map((cell) => `set ${cell.coordinates} ${fill.get(cell.coordinates)}`)];
-    editor.edited = null;
+    editor.change({ edited: null });
     if (!(await editor.edit(lines, { pencil }))) say('this fill is in the grid; undo takes it back', 'good');
   }
 }

@@ -1,6 +1,7 @@
 // The grid: its cells, the keys and the mouse.
 import { refusalText, refuse, say } from './messages.js';
 import { placeOf } from './record.js';
+import { NO_REASON, only } from './state.js';
 import { TypingField } from './typing.js';
 
 // How long a letter waits for the engine's answer, in milliseconds: one frame then shows it with all that it changes. If the answer takes
@@ -16,6 +17,7 @@ const SMALL = 30;
 const ARROWS = { ArrowLeft: ['across', -1], ArrowRight: ['across', 1], ArrowUp: ['down', -1], ArrowDown: ['down', 1] };
 
 export class GridView {
+  /** @type {import('./editor.js').Editor} */
   #editor;
   #root;
   #cells = [];
@@ -51,9 +53,7 @@ export class GridView {
       this.paste(event.clipboardData.getData('text'));
     });
     root.append(...this.#bands, this.#typing.element);
-    editor.addEventListener('whole', () => this.draw());
-    editor.addEventListener('letters', ({ detail }) => this.#letters(detail));
-    editor.addEventListener('move', () => this.mark());
+    editor.on(['board', 'reason', 'unmatched', 'letters', 'faulty', 'weak', 'cursor', 'chosen'], (transaction) => this.#take(transaction));
     document.addEventListener('paste', (event) => {
       if (document.activeElement === document.body) this.paste(event.clipboardData.getData('text'));
     });
@@ -135,7 +135,7 @@ export class GridView {
     if (cell.below) classes.push('bar-below');
     if (cell.circle && !cell.block) classes.push('circled');
     if (cell.letter && pencil.has(cell.coordinates)) classes.push('pencil');
-    if (reason.has(index)) classes.push('reason');
+    if (reason.cells.has(index)) classes.push('reason');
     if (unmatched.has(index)) classes.push('unmatched');
     if (faulty.has(index) && cell.letter) classes.push('faulty');
     if (cell.letter) for (const direction of ['across', 'down']) if (weak[direction].has(index)) classes.push(`weak-${direction}`);
@@ -199,7 +199,7 @@ export class GridView {
     this.#marked = cursor;
     this.#cover(this.#bands[0], editor.light);
     this.#cover(this.#bands[1], editor.crossing);
-    this.#cover(this.#bands[2], board.byName.get(editor.reasonLight));
+    this.#cover(this.#bands[2], board.byName.get(editor.reason.light));
     if (this.#typing.isActive) this.#lay(this.#typing.element, cursor, 1, 1);
     this.#show();
     this.#root.setAttribute('aria-activedescendant', this.#cells[cursor]?.root.id ?? '');
@@ -227,18 +227,29 @@ export class GridView {
     element.style.height = cells(rows);
   }
 
-  // Shows what an edit of letters changed.
   #wasBlank = true;
 
-  #letters({ cells, engine }) {
-    this.#drawLate();
+  // Shows what a transaction changed.
+  /** @param {import('./state.js').Transaction} transaction */
+  #take(transaction) {
+    const { changes } = transaction;
+    const { letters } = changes;
     // cells without a letter left look other once there is an entry
-    const isBlank = this.isBlank;
-    if (this.isExplained || isBlank !== this.#wasBlank) this.draw();
-    this.isExplained = false;
-    this.#wasBlank = isBlank;
-    for (const index of cells) this.paint(index);
-    mark('letter answered', { detail: { engine } });
+    const isTurned = Boolean(letters) && this.isBlank !== this.#wasBlank;
+    if (letters) this.#wasBlank = this.isBlank;
+    if (letters) this.#drawUndrawn();
+    if (isTurned || ['board', 'reason', 'unmatched'].some((name) => name in changes)) this.draw();
+    else for (const index of this.#changedBy(transaction)) if (this.#cells[index]) this.paint(index);
+    if (changes.cursor !== undefined || changes.chosen) this.mark();
+    if (letters) mark('letter answered', { detail: { engine: letters.engine } });
+  }
+
+  // The cells that look other after letters, or after words got marks or lost them.
+  /** @param {import('./state.js').Transaction} transaction */
+  #changedBy({ changes: { letters, faulty, weak }, before }) {
+    const pairs = [...(faulty ? [[faulty, before.faulty]] : []), ...(weak ? [[weak.across, before.weak.across], [weak.down, before.weak.down]] : [])];
+    const marked = pairs.flatMap(([now, old]) => [...now, ...old].filter((index) => now.has(index) !== old.has(index)));
+    return new Set([...(letters?.cells ?? []), ...marked]);
   }
 
   // Shows a letter that was entered, with the move of the cursor, when the engine answers; or soon, if it has other work.
@@ -249,48 +260,18 @@ export class GridView {
   }
 
   #drawLate() {
+    if (this.#drawUndrawn()) this.#editor.tell();
+  }
+
+  // Draws what is entered and not shown yet; returns whether there was something.
+  #drawUndrawn() {
     clearTimeout(this.#drawing);
     this.#drawing = null;
-    if (!this.#undrawn.size) return;
+    if (!this.#undrawn.size) return false;
     for (const index of this.#undrawn) this.paint(index);
     this.#undrawn.clear();
-    this.#editor.tellMove();
     mark('letter drawn');
-  }
-
-  // Frames the cells of a reason, and the light that they leave no word.
-  showReason(cells, light = null) {
-    this.#editor.reason = new Set(cells);
-    this.#editor.reasonLight = light?.name ?? '';
-    this.isExplained = true;
-    this.draw();
-  }
-
-  // Shows the lights that no word matches.
-  showUnmatched(names) {
-    const { board } = this.#editor;
-    this.#editor.unmatched = new Set(names.flatMap((name) => board.byName.get(name)?.cells ?? []));
-    this.isExplained = true;
-    this.draw();
-  }
-
-  // Shows the words of lights that have a fault.
-  showFaults(names) {
-    const { board, faulty } = this.#editor;
-    const cells = new Set(names.flatMap((name) => board.byName.get(name)?.cells ?? []));
-    this.#editor.faulty = cells;
-    for (const index of new Set([...faulty, ...cells])) if (faulty.has(index) !== cells.has(index) && this.#cells[index]) this.paint(index);
-  }
-
-  // Marks the words of lights as weak.
-  showWeak(lights) {
-    const { weak } = this.#editor;
-    const of = (direction) => new Set(lights.filter((light) => light.direction === direction).flatMap(({ cells }) => cells));
-    const now = { across: of('across'), down: of('down') };
-    this.#editor.weak = now;
-    for (let index = 0; index < this.#cells.length; index++) {
-      if (weak.across.has(index) !== now.across.has(index) || weak.down.has(index) !== now.down.has(index)) this.paint(index);
-    }
+    return true;
   }
 
   focus() {
@@ -340,7 +321,7 @@ export class GridView {
     const cells = isWhole ? light.cells : light.cells.slice(light.cells.indexOf(cursor));
     if (letters.length > cells.length) return refuse(`${letters} is too long: there are ${cells.length} cells from the cursor on`);
     const changed = cells.slice(0, letters.length).map((cell) => board.cells[cell].coordinates);
-    editor.edited = { cell: cursor, direction: light.direction };
+    editor.change({ edited: { cell: cursor, direction: light.direction } });
     const pencil = new Set([...editor.pencil].filter((cell) => !changed.includes(cell)));
     return this.#send(changed.map((cell, at) => `set ${cell} ${letters[at]}`), { pencil });
   }
@@ -393,12 +374,11 @@ export class GridView {
     return next >= 0 && next < board.cells.length && board.rowOf(next) === board.rowOf(index) ? next : -1;
   }
 
-  // Moves the cursor within its light, without telling.
-  #step(step) {
-    const editor = this.#editor;
-    const next = this.#beside(editor.cursor, editor.direction, step);
-    const cells = editor.light?.cells ?? [];
-    if (next >= 0 && (cells.length ? cells.includes(next) : !editor.board.cells[next].block)) editor.put(next);
+  // The cell beside the cursor in its light; at the end of the light the cursor's own.
+  #beyond(step) {
+    const { cursor, direction, light, board } = this.#editor;
+    const next = this.#beside(cursor, direction, step);
+    return next >= 0 && (light ? light.cells.includes(next) : !board.cells[next].block) ? next : cursor;
   }
 
   // Enters a letter, which is on the board at once, and goes to the engine before anything is drawn. If it is refused, the session puts the
@@ -412,13 +392,10 @@ export class GridView {
     const index = editor.cursor;
     const sent = this.#send([`set ${cell.coordinates} ${letter}`], { isWhole: false });
     if (typedAt) mark('letter typed', { startTime: typedAt });
-    editor.edited = { cell: index, direction: editor.direction };
-    editor.pencil.delete(cell.coordinates);
-    cell.letter = letter;
-    this.#step(1);
-    this.#ended = editor.cursor === index ? this.#place : '';
+    const next = this.#beyond(1);
+    editor.enter(index, letter, next);
+    this.#ended = next === index ? this.#place : '';
     this.#drawSoon(index);
-    const next = editor.cursor;
     sent.then((refused) => {
       if (!refused) return;
       this.#ended = '';
@@ -441,10 +418,7 @@ export class GridView {
     }
     if (!this.actions.mayEdit()) return;
     this.#send([`clear ${cell.coordinates}`], { isWhole: false });
-    editor.edited = { cell: index, direction: editor.direction };
-    editor.pencil.delete(cell.coordinates);
-    cell.letter = '';
-    if (step) this.#step(step);
+    editor.enter(index, '', step ? this.#beyond(step) : index);
     this.#drawSoon(index);
   }
 
@@ -464,7 +438,7 @@ export class GridView {
     const editor = this.#editor;
     const { board, light } = editor;
     if (!light?.cells.some((index) => board.cells[index].letter)) return;
-    editor.edited = { cell: editor.cursor, direction: editor.direction };
+    editor.change({ edited: { cell: editor.cursor, direction: editor.direction } });
     await this.#send([`erase ${light.name}`]);
   }
 
@@ -492,7 +466,7 @@ export class GridView {
 
   #escape() {
     this.#unchoose();
-    if (this.#editor.reasonLight) this.showReason([]);
+    if (this.#editor.reason.light) this.#editor.change({ reason: NO_REASON });
     this.tool = null;
     this.actions.escape();
   }
@@ -510,7 +484,7 @@ export class GridView {
       return refuse(`${cell.letter} is entered here: once more puts the block in its place`);
     }
     this.#blocking = -1;
-    editor.edited = null;
+    editor.change({ edited: null });
     const block = `block ${cell.coordinates}`;
     let refused = await this.#send(cell.letter ? [`clear ${cell.coordinates}`, block] : [block], { isBlock: true, stroke });
     if (refused === 'Occupied') refused = await this.#blockOver(index, block, stroke);
@@ -577,35 +551,22 @@ export class GridView {
 
   // Chooses the lights that have at least half of their cells in the rectangle.
   #chooseWithin() {
-    const { board, chosen } = this.#editor;
-    chosen.clear();
-    for (const light of board.lights) {
-      const within = light.cells.filter((index) => this.#isWithin(index)).length;
-      if (2 * within >= light.cells.length) chosen.add(light.name);
-    }
-    this.actions.chosen();
+    const isWithin = ({ cells }) => 2 * cells.filter((index) => this.#isWithin(index)).length >= cells.length;
+    const { board } = this.#editor;
+    this.#editor.change({ chosen: new Set(board.lights.filter(isWithin).map(({ name }) => name)) });
   }
 
   #choose() {
     const { light, chosen } = this.#editor;
     if (!light) return;
-    if (!chosen.delete(light.name)) chosen.add(light.name);
-    this.mark();
-    this.actions.chosen();
+    this.#editor.change({ chosen: chosen.has(light.name) ? only(chosen, (name) => name !== light.name) : new Set([...chosen, light.name]) });
   }
 
   #unchoose() {
     const had = this.#anchor !== null || this.#editor.chosen.size > 0;
     this.#anchor = null;
     this.#far = null;
-    if (!had) return;
-    this.#editor.chosen.clear();
-    this.mark();
-    this.actions.chosen();
-  }
-
-  unchoose() {
-    this.#unchoose();
+    if (had) this.#editor.change({ chosen: new Set() });
   }
 
   // The mouse.
@@ -688,7 +649,6 @@ export class GridView {
     if (index === this.#far) return;
     this.#far = index;
     this.#chooseWithin();
-    this.mark();
   }
 
   // A tap brings up the keyboard of the screen.

@@ -11,6 +11,7 @@ const MOST_HELD = 1200000;
 const isTouched = () => matchMedia('(pointer: coarse)').matches;
 
 export class Helpers {
+  /** @type {import('./editor.js').Editor} */
   #editor;
   #make;
   // { engine, words }, where `words` tells which words it has: the lists, the personal one, and the changes of a record; or is null

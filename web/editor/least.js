@@ -6,6 +6,7 @@ import { wordCount } from './word-list.js';
 export const leftOf = ({ byGrade }, grade) => byGrade.slice(grade).reduce((sum, count) => sum + count, 0);
 
 export class LeastView {
+  /** @type {import('./editor.js').Editor} */
   #editor;
   #elements;
   // the grade that is wanted, while the engine takes one over

@@ -19,6 +19,7 @@ function sizeFor(lengths, columns, grid, { width, height }) {
 }
 
 export class Printer {
+  /** @type {import('./editor.js').Editor} */
   #editor;
   #sheet;
   #style;

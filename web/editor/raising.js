@@ -57,6 +57,7 @@ class Leaps {
 }
 
 export class Raiser {
+  /** @type {import('./editor.js').Editor} */
   #editor;
   #helpers;
   /** @type {Race | null} */
@@ -67,7 +68,7 @@ export class Raiser {
     this.#editor = editor;
     this.#helpers = helpers;
     this.raised = raised;
-    editor.addEventListener('step', () => this.#stepped());
+    editor.on(['step'], () => this.#stepped());
   }
 
   get isRunning() {

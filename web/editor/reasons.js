@@ -12,16 +12,15 @@ const MOST_NAMED = 8;
 const WAITING = 'lights without a word wait for blocks (.) or bars: they are grey';
 
 export class Reasons {
+  /** @type {import('./editor.js').Editor} */
   #editor;
-  #grid;
   #timer = null;
   // takes away what was said of a dead end, if it stands still
   #endMessage = () => {};
 
   // `isIdle` tells whether the engine is free for questions.
-  constructor(editor, grid, isIdle) {
+  constructor(editor, isIdle) {
     this.#editor = editor;
-    this.#grid = grid;
     this.isIdle = isIdle;
   }
 
@@ -43,7 +42,7 @@ export class Reasons {
     }
     if (board.isOpenGrid) {
       // they are grey after the first block too, until the engine has told which ones wait
-      this.#editor.waits = true;
+      this.#editor.change({ waits: true });
       return say(WAITING);
     }
     if (board.isSparse) {
@@ -102,8 +101,7 @@ export class Reasons {
     if (record !== editor.record) throw new Error('another edit came');
     const names = (told ?? []).map(({ name }) => name);
     const isWaiting = (name) => board.isSparse && board.isLongGap(board.byName.get(name));
-    editor.waits = names.some(isWaiting);
-    this.#grid.showUnmatched(names.filter((name) => !isWaiting(name)));
+    editor.change({ waits: names.some(isWaiting), unmatched: board.cellsOf(names.filter((name) => !isWaiting(name))) });
   }
 
   // The lights without a word that are asked after an entry: those that cross its light, the nearest first, then that light. If these have
@@ -142,7 +140,7 @@ export class Reasons {
   }
 
   #show({ light, cells, letters, last }) {
-    this.#grid.showReason(cells, light);
+    this.#editor.change({ reason: { cells: new Set(cells), light: light.name } });
     if (cells.length === 0) {
       this.#refuse(`${titleOf(light)} has no word in this list even without letters: the blocks and the list are the reason`);
       return;

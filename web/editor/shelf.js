@@ -1,7 +1,6 @@
 // The puzzles that the browser keeps: the one that is here, at each change, and all that were here before, each with versions. A tab writes
 // only the puzzle that it holds the claim to.
 import { Claim } from './claim.js';
-import { newPuzzleName } from './editor.js';
 import { whenIdle } from './idle.js';
 import {
   askToPersist, destroyPuzzles, draftOf, drafted, dropDraft, dropFormer, formerSessions, keepDraft, keepPuzzleOfTab, onOtherDraft, puzzleOfTab, storePuzzles,
@@ -11,6 +10,7 @@ import { endWarning, warn } from './messages.js';
 import { PATTERNS, recordOf, rowsOf } from './patterns.js';
 import { puzzlesFile, puzzlesIn } from './puzzles-file.js';
 import { lettersOf, parseRecord } from './record.js';
+import { newPuzzleName } from './state.js';
 
 // A version is kept before so many letters go at once, and after so many steps.
 const LETTERS_LOST = 3;
@@ -29,6 +29,7 @@ export function isUntouched(record) {
 const isSameSet = (some, others) => some.size === others.size && [...some].every((one) => others.has(one));
 
 export class Shelf extends EventTarget {
+  /** @type {import('./editor.js').Editor} */
   #editor;
   #claim;
   // whether there is a change that is not written, and whether another tab has the puzzle
@@ -52,8 +53,8 @@ export class Shelf extends EventTarget {
     this.#editor = editor;
     this.#claim = claim;
     this.saveSession = saveSession;
-    editor.addEventListener('step', ({ detail }) => this.#step(detail));
-    editor.addEventListener('leave', ({ detail }) => this.#leave(detail));
+    editor.on(['step'], ({ changes }) => this.#step(changes.step));
+    editor.on(['left'], ({ changes }) => this.#leave(changes.left));
     claim.addEventListener('held', () => this.#held());
     claim.addEventListener('other', () => this.#other());
     // where there are no locks, the tab that wrote last has the puzzle

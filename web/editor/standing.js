@@ -2,6 +2,7 @@
 import { titleOf } from './words.js';
 
 export class StandingView {
+  /** @type {import('./editor.js').Editor} */
   #editor;
   #root;
   #faults;
@@ -12,7 +13,7 @@ export class StandingView {
     this.#root = root;
     this.#faults = faults;
     this.actions = actions;
-    for (const name of ['whole', 'letters', 'move']) editor.addEventListener(name, () => this.#show());
+    editor.on(['board', 'letters', 'cursor'], () => this.#show());
     faults.addEventListener('told', () => this.#show());
   }
 

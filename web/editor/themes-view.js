@@ -19,6 +19,7 @@ const EFFORTS = { american: { rounds: 40, tries: 6 }, british: { rounds: 12, tri
 const SEEDS = 100003;
 
 export class ThemesView {
+  /** @type {import('./editor.js').Editor} */
   #editor;
   #helpers;
   #elements;

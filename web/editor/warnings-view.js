@@ -4,6 +4,7 @@ import { warningsOf } from './rules.js';
 import { termed } from './terms.js';
 
 export class WarningsView {
+  /** @type {import('./editor.js').Editor} */
   #editor;
   #faults;
   #elements;
@@ -15,7 +16,7 @@ export class WarningsView {
     this.#elements = elements;
     // an edit is shown before its warnings are looked for
     const soon = onceIdle(() => this.#show());
-    for (const name of ['step', 'whole']) editor.addEventListener(name, soon);
+    editor.on(['step', 'board'], soon);
     faults.addEventListener('told', soon);
     elements.button.addEventListener('click', open);
   }

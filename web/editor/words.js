@@ -19,6 +19,7 @@ const SHOWN_EACH = 150;
 const ALONE = 400;
 
 export class WordsView {
+  /** @type {import('./editor.js').Editor} */
   #editor;
   #elements;
   #timer = null;
@@ -52,7 +53,7 @@ export class WordsView {
     this.#editor = editor;
     this.#elements = elements;
     this.actions = actions;
-    for (const name of ['whole', 'letters', 'move']) editor.addEventListener(name, () => this.#soon());
+    editor.on(['board', 'letters', 'cursor'], () => this.#soon());
     elements.filter.addEventListener('input', () => this.#list());
     elements.filter.addEventListener('keydown', (event) => this.#key(event));
     elements.order.addEventListener('change', () => this.#list());

@@ -1,0 +1,187 @@
+// The state of the editor, which changes by transactions: each says what it changes, and listeners are told of the parts that they name.
+import { Board } from './board.js';
+
+/** @typedef {import('./answers.js').Direction} Direction */
+
+// A step of the history, as the browser keeps it too.
+/** @typedef {{ puzzle: string, record: string, pencil: string[], originals: [string, string][], cursor: number, direction: Direction }} Step */
+
+// The word lists in use as one. `byGrade` has the number of words of each grade; `least` is the least score, and `grade` its grade; words
+// below the score `weak` are marked.
+/**
+ * @typedef {{
+ *   name: string, words: number, scored: boolean, best: number, byGrade: Uint32Array, leftOut: Record<string, number>, folded: number, least: number,
+ *   grade: number, weak: number, sources: Uint8Array[], personal: string,
+ * }} WordList
+ */
+
+// The parts of the state. Sets are never changed: another one comes in their place. Cells of the grid are named by index, but those in pencil by
+// coordinates.
+class Parts {
+  // the grid as the engine last told it, and its record
+  board = new Board();
+  record = '';
+  sym = 'none';
+  // the cell under the cursor, and the direction of its light
+  cursor = 0;
+  /** @type {Direction} */
+  direction = 'across';
+  // cells whose letters a fill entered; another fill may change them
+  /** @type {ReadonlySet<string>} */
+  pencil = new Set();
+  // what was typed into fields, as commands spell them, where it has characters that the engine cannot keep; the engine has near ones
+  /** @type {ReadonlyMap<string, string>} */
+  originals = new Map();
+  // names of the lights to fill; all if there are none
+  /** @type {ReadonlySet<string>} */
+  chosen = new Set();
+  // where the last entry was; null after other edits
+  /** @type {{ cell: number, direction: Direction } | null} */
+  edited = null;
+  // the cells of a reason, and the name of the light that they leave no word
+  reason = NO_REASON;
+  // whether long lights that no word matches wait for blocks, and the cells of other lights that no word matches
+  waits = false;
+  /** @type {ReadonlySet<number>} */
+  unmatched = new Set();
+  // cells of words that are not in use or stand twice
+  /** @type {ReadonlySet<number>} */
+  faulty = new Set();
+  // cells of words below the score that is chosen, and the directions of these words
+  /** @type {Record<Direction, ReadonlySet<number>>} */
+  weak = { across: new Set(), down: new Set() };
+  /** @type {WordList} */
+  list = { name: '', words: 0, scored: false, best: 0, byGrade: new Uint32Array(), leftOut: {}, folded: 0, least: 0, grade: 0, weak: 0, sources: [], personal: '' };
+  // names the puzzle: edits keep the name, another file or pattern has another one
+  puzzle = newPuzzleName();
+}
+
+/** @type {{ cells: ReadonlySet<number>, light: string }} */
+export const NO_REASON = { cells: new Set(), light: '' };
+
+// A name that no other puzzle has.
+export const newPuzzleName = () => `${Date.now().toString(36)}-${Math.random().toString(36).slice(2)}`;
+
+// What else a transaction tells: letters of the grid that changed, with all cells that changed with them, and how long the engine took; that there is
+// another step of the history, with the one before it; and that another puzzle comes in place of the one of a step.
+/** @typedef {{ letters: { cells: Set<number>, engine: number }, step: Step | undefined, left: Step }} Told */
+
+/** @typedef {Partial<Parts & Told>} Changes */
+// What was changed, and what was there before.
+/** @typedef {{ changes: Changes, before: Partial<Parts> }} Transaction */
+
+/** @returns {Transaction} */
+const nothing = () => ({ changes: {}, before: {} });
+
+export class EditorState {
+  #parts = new Parts();
+  #held = nothing();
+  #events = new EventTarget();
+
+  // Makes a transaction of these changes and of those that were held.
+  /** @param {Changes} changes */
+  change(changes) {
+    this.hold(changes);
+    this.tell();
+  }
+
+  // Changes parts of the state, which the next transaction tells.
+  /** @param {Changes} changes */
+  hold(changes) {
+    const { before } = this.#held;
+    for (const name of Object.keys(changes)) if (name in this.#parts && !(name in before)) before[name] = this.#parts[name];
+    Object.assign(this.#held.changes, changes);
+    for (const name of Object.keys(changes)) if (name in this.#parts) this.#parts[name] = changes[name];
+  }
+
+  // Tells what was held.
+  tell() {
+    const detail = this.#held;
+    this.#held = nothing();
+    if (Object.keys(detail.changes).length) this.#events.dispatchEvent(new CustomEvent('change', { detail }));
+  }
+
+  // Does something after each transaction that changes or tells one of these.
+  /**
+   * @param {(keyof Changes)[]} names
+   * @param {(transaction: Transaction) => void} action
+   */
+  on(names, action) {
+    this.#events.addEventListener('change', (/** @type {CustomEvent<Transaction>} */ { detail }) => names.some((name) => name in detail.changes) && action(detail));
+  }
+
+  get board() {
+    return this.#parts.board;
+  }
+
+  get record() {
+    return this.#parts.record;
+  }
+
+  get sym() {
+    return this.#parts.sym;
+  }
+
+  get cursor() {
+    return this.#parts.cursor;
+  }
+
+  get direction() {
+    return this.#parts.direction;
+  }
+
+  get pencil() {
+    return this.#parts.pencil;
+  }
+
+  get originals() {
+    return this.#parts.originals;
+  }
+
+  get chosen() {
+    return this.#parts.chosen;
+  }
+
+  get edited() {
+    return this.#parts.edited;
+  }
+
+  get reason() {
+    return this.#parts.reason;
+  }
+
+  get waits() {
+    return this.#parts.waits;
+  }
+
+  get unmatched() {
+    return this.#parts.unmatched;
+  }
+
+  get faulty() {
+    return this.#parts.faulty;
+  }
+
+  get weak() {
+    return this.#parts.weak;
+  }
+
+  get list() {
+    return this.#parts.list;
+  }
+
+  get puzzle() {
+    return this.#parts.puzzle;
+  }
+}
+
+// A set without some of its members; the same one if all stay.
+/**
+ * @template T
+ * @param {ReadonlySet<T>} set
+ * @param {(one: T) => boolean} stays
+ * @returns {ReadonlySet<T>}
+ */
+export function only(set, stays) {
+  return [...set].every(stays) ? set : new Set([...set].filter(stays));
+}
