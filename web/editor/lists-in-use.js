@@ -1,0 +1,158 @@
+// The word lists in use: their changes, one after another, the least score, and what is said of them.
+import { whyNotKept } from './keep.js';
+import { LeastView, leftOf } from './least.js';
+import { Lists } from './lists.js';
+import { ListsView } from './lists-view.js';
+import { endWarning, refusalText, refuseAsIs, say, sayAsIs, warn } from './messages.js';
+import { $ } from './page.js';
+import { foldedText, leftOutText, readList, wordCount } from './word-list.js';
+
+const MOST_FORMER = 10;
+
+export class ListsInUse {
+  /** @type {import('./editor.js').Editor} */
+  #editor;
+  /** @type {Lists} */
+  #lists;
+  // the lists before each change, the last one at the end
+  #former = [];
+  // the last change, after which the next one begins, and how often the lists are being kept now
+  #changing = Promise.resolve(true);
+  #storing = 0;
+  #least;
+  #view;
+
+  // `actions`: `mayEdit`, `stop` ends a fill, `soon` looks for dead ends, `shown` is told when other lists are shown, `toGrid`, `save` saves a text,
+  // `unforeseen` takes what fails.
+  constructor(editor, actions) {
+    this.#editor = editor;
+    this.actions = actions;
+    this.#least = new LeastView(
+      editor,
+      { row: $('least-row'), slider: $('least'), shown: $('least-shown'), left: $('least-left'), weak: $('weak') },
+      { mayChange: actions.mayEdit, use: (least) => this.#useLeast(least), kept: () => this.#keepLeast(), weak: (score) => this.#markBelow(score), toGrid: actions.toGrid },
+    );
+    this.#view = new ListsView(
+      {
+        list: $('lists'), undo: $('lists-undo'), summary: $('personal-summary'), edit: $('personal-edit'), export: $('personal-export'), dialog: $('personal-dialog'),
+        text: $('personal-text'), count: $('personal-count'), file: $('personal-file'), import: $('personal-import'),
+      },
+      {
+        change: (changed) => this.change(changed).catch(actions.unforeseen), undo: () => this.#undo().catch(actions.unforeseen),
+        export: (text) => actions.save(text, 'my-words.txt'),
+      },
+    );
+  }
+
+  // Takes over the lists that the browser keeps, or those that the editor began with.
+  take(lists) {
+    this.#lists = lists;
+  }
+
+  // Changes the lists, each time from what the change before has left, and keeps them. `change` tells whether others are in use then.
+  async #inOrder(change) {
+    const changed = this.#changing.then(change);
+    this.#changing = changed.catch(() => false);
+    if (!(await changed)) return false;
+    this.show();
+    await this.#store();
+    return true;
+  }
+
+  // Uses the word lists that a function makes of those in use, if the engine takes them. `name` and `bytes` are those of a list that is opened.
+  // Returns whether they are in use.
+  change(changed, name = '', bytes = new Uint8Array()) {
+    return this.#inOrder(async () => {
+      const before = this.#lists;
+      if (!(await this.#use(changed(before), name, bytes))) return false;
+      this.#former.push(before);
+      if (this.#former.length > MOST_FORMER) this.#former.shift();
+      return true;
+    });
+  }
+
+  // Takes the last change back.
+  #undo() {
+    return this.#inOrder(async () => {
+      const before = this.#former.at(-1);
+      if (!before || !(await this.#use(before))) return false;
+      this.#former.pop();
+      return true;
+    });
+  }
+
+  // Puts a word that was added or hidden in this puzzle into the personal list.
+  keepWord(word, isHidden) {
+    const line = `${isHidden ? '-' : ''}${word}`;
+    return this.change((now) => now.withPersonal([now.personal.trimEnd(), line].filter(Boolean).join('\n')));
+  }
+
+  // Has the engine use other lists, and says what they have, or why it refuses them. Returns whether they are in use.
+  async #use(other, name = '', bytes = new Uint8Array()) {
+    if (!this.actions.mayEdit()) return false;
+    this.actions.stop();
+    const fault = await this.#editor.useList(other.chosen);
+    if (fault) {
+      const why = fault === 'NoWord' ? leftOutText(readList(bytes).leftOut) : '';
+      refuseAsIs(`${name || 'the lists'}: ${[refusalText(fault), why].filter(Boolean).join('; ')}`);
+      this.show();
+      return false;
+    }
+    this.#lists = other;
+    const { name: used, words, scored } = this.#editor.list;
+    sayAsIs(`${used || 'no list'}: ${[`${wordCount(words)}${scored ? ', the best scores first' : ''}`, ...this.#notes()].join('; ')}`, 'good');
+    return true;
+  }
+
+  // What was left out of the lists, or changed.
+  #notes() {
+    const { leftOut, folded } = this.#editor.list;
+    return [foldedText(folded), leftOutText(leftOut)].filter(Boolean);
+  }
+
+  async #store() {
+    endWarning('list');
+    const tell = (step) => $('lists').setAttribute('aria-busy', String((this.#storing += step) > 0));
+    tell(1);
+    try {
+      await this.#lists.keep();
+    } catch (fault) {
+      warn('list', `The word lists are not kept: ${whyNotKept(fault)}. Load them again next time.`);
+    } finally {
+      tell(-1);
+    }
+  }
+
+  show() {
+    const { name, words: count } = this.#editor.list;
+    const none = 'No word list is in use, so no word is known: load one, or add words.';
+    $('list-name').textContent = name ? [`${name}: ${wordCount(count)}`, ...this.#notes()].join('; ') : none;
+    this.#least.show();
+    this.#view.show(this.#lists, this.#former.length > 0);
+    this.actions.shown();
+  }
+
+  // Has the engine take over a least score, which may lead into a dead end.
+  async #useLeast(least) {
+    this.actions.stop();
+    this.#editor.change({ edited: null });
+    await this.#editor.useLeast(least);
+    this.#lists = this.#lists.atLeast(least);
+    this.actions.shown();
+  }
+
+  #keepLeast() {
+    const { list, board } = this.#editor;
+    const left = leftOf(list, list.grade);
+    say(list.grade ? `${left.toLocaleString('en')} of ${wordCount(list.words)} have ${list.least} or more` : `all ${wordCount(list.words)} are in use`, left ? 'good' : 'bad');
+    if (board.lights.some((light) => light.count === 0 && !board.isEntered(light))) this.actions.soon();
+    this.#store();
+  }
+
+  #markBelow(score) {
+    this.#editor.markBelow(score);
+    this.#lists = this.#lists.markingBelow(score);
+    this.#store();
+    this.actions.toGrid();
+  }
+}

@@ -1,0 +1,98 @@
+// The menu and other parts that a button shows, and what buttons and keys do.
+import { say } from './messages.js';
+import { $, all, first, isText, pressed } from './page.js';
+
+// The keys of actions, with Ctrl.
+const CONTROL_KEYS = { o: 'open', s: 'save', p: 'print', f: 'fill', g: 'another', j: 'hardest' };
+
+// Has the buttons that name an action do it, and its keys. `keys` has what keys without Ctrl do now, by their names, and `takeTyped` has a text taken
+// over that is being typed.
+export function takeActions(actions, { keys, takeTyped, unforeseen }) {
+  document.addEventListener('click', (event) => {
+    const button = pressed(event, '[data-do]');
+    if (button) actions[button.dataset.do]()?.catch?.(unforeseen);
+  });
+  document.addEventListener('keydown', (event) => {
+    const action = actionOf(event, actions, keys, takeTyped);
+    if (!action) return;
+    event.preventDefault();
+    action()?.catch?.(unforeseen);
+  });
+}
+
+function actionOf(event, actions, keys, takeTyped) {
+  const key = event.key.toLowerCase();
+  const isInDialog = document.querySelector('dialog[open]') !== null;
+  if (!event.ctrlKey && !event.metaKey) return isInDialog && key === 'escape' ? null : keys()[key];
+  // the browser would save the page
+  if (event.altKey || (key !== 's' && isInDialog)) return null;
+  if (key === 'z' && !isText(event.target)) return event.shiftKey ? actions.redo : actions.undo;
+  if (key === 'y' && !isText(event.target)) return actions.redo;
+  const action = CONTROL_KEYS[key] && actions[CONTROL_KEYS[key]];
+  return action && (() => {
+    takeTyped();
+    return action();
+  });
+}
+
+// Goes from the grid to the tabs, to the menu, and back.
+export function toNextPane() {
+  const panes = [$('grid'), first('[role=tab][aria-selected=true]'), $('file')];
+  const here = panes.findIndex((pane) => pane === document.activeElement);
+  panes[(here + 1) % panes.length].focus();
+}
+
+// What a button shows and hides: the tools in a narrow window, and the messages.
+function showPart(button, part, isOpen) {
+  part.classList.toggle('open', isOpen);
+  if (part === $('history')) part.hidden = !isOpen;
+  button.setAttribute('aria-expanded', isOpen);
+}
+
+export function takeParts(toGrid) {
+  for (const [button, part] of [[$('more'), $('tools')], [$('messages'), $('history')]]) {
+    button.addEventListener('click', () => showPart(button, part, button.getAttribute('aria-expanded') !== 'true'));
+    document.addEventListener('click', (event) => {
+      if (!button.contains(event.target) && (!part.contains(event.target) || pressed(event, 'button'))) showPart(button, part, false);
+    });
+  }
+  $('toast-close').addEventListener('click', () => {
+    say('');
+    toGrid();
+  });
+}
+
+// The menu of files.
+export function takeMenu() {
+  const menu = first('.menu [role=menu]');
+  const show = (isOpen) => {
+    menu.hidden = !isOpen;
+    $('file').setAttribute('aria-expanded', isOpen);
+    if (isOpen) first('button', menu).focus();
+  };
+  $('file').addEventListener('click', () => show(menu.hidden));
+  menu.addEventListener('click', () => show(false));
+  document.addEventListener('pointerdown', (event) => {
+    if (!pressed(event, '.menu')) show(false);
+  });
+  menu.addEventListener('keydown', (event) => {
+    const items = all('button', menu);
+    const step = { ArrowDown: 1, ArrowUp: -1 }[event.key];
+    if (step) items[(items.indexOf(/** @type {HTMLElement} */ (document.activeElement)) + step + items.length) % items.length].focus();
+    if (event.key === 'Escape' || event.key === 'Tab') {
+      show(false);
+      $('file').focus();
+    }
+    if (step || event.key === 'Escape') event.preventDefault();
+  });
+}
+
+// Keys go to the grid after a dialog that was opened from the menu, whose item is hidden again.
+export function leaveDialogsTo(toGrid) {
+  for (const dialog of all('dialog')) {
+    dialog.addEventListener('close', () => {
+      const activeElement = /** @type {HTMLElement} */ (document.activeElement);
+      if (activeElement === document.body || dialog.contains(activeElement)) toGrid();
+    });
+  }
+}

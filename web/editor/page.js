@@ -1,0 +1,24 @@
+// The elements of the page.
+
+// An element, of whatever kind it is.
+/** @type {(id: string) => any} */
+export const $ = (id) => document.getElementById(id);
+
+// What a selector finds, in the page or in a part of it.
+/** @type {(selector: string, part?: ParentNode) => HTMLElement & Record<string, any>} */
+export const first = (selector, part = document) => part.querySelector(selector);
+
+/** @type {(selector: string, part?: ParentNode) => (HTMLElement & Record<string, any>)[]} */
+export const all = (selector, part = document) => [...part.querySelectorAll(selector)].map((element) => /** @type {HTMLElement} */ (element));
+
+// The element that an event is about, within those that a selector finds; or null.
+/** @type {(event: Event, selector: string) => HTMLElement & Record<string, any>} */
+export const pressed = ({ target }, selector) => /** @type {Element} */ (target).closest(selector);
+
+// Sets what differs, since the browser draws anew what is set.
+export function put(element, name, value) {
+  if (element[name] !== value) element[name] = value;
+}
+
+// Whether an element is a field of text, other than the one of the grid.
+export const isText = (element) => /** @type {Element} */ (element).matches('input:not([type=range], #typing), textarea');

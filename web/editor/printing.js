@@ -1,0 +1,46 @@
+// The dialog of what is printed.
+import { openDialog } from './dialogs.js';
+import { keepAddress, keptAddress } from './keep.js';
+import { $ } from './page.js';
+import { Printer } from './print.js';
+import { isBritishGrid } from './terms.js';
+
+export class PrintDialog {
+  /** @type {import('./editor.js').Editor} */
+  #editor;
+  #printer;
+  // whether it was chosen if clues get lengths: as a rule they have them in British puzzles, and not in American ones
+  #isLengthsChosen = false;
+
+  constructor(editor) {
+    this.#editor = editor;
+    this.#printer = new Printer(editor, $('sheet'));
+    $('print-lengths').addEventListener('input', () => {
+      this.#isLengthsChosen = true;
+    });
+    $('print-dialog').addEventListener('input', () => this.#preview());
+    $('print-dialog').addEventListener('close', () => this.#close());
+  }
+
+  async open() {
+    // with the edits that are under way
+    await this.#editor.inOrder(() => {});
+    $('print-address').value = keptAddress();
+    if (!this.#isLengthsChosen) $('print-lengths').checked = isBritishGrid(this.#editor.board);
+    this.#preview();
+    openDialog($('print-dialog'));
+  }
+
+  #preview() {
+    const chosen = (name) => $('print-dialog').querySelector(`[name=${name}]:checked`).value;
+    Object.assign(this.#printer, { parts: chosen('parts'), paper: chosen('paper'), hasLengths: $('print-lengths').checked, address: $('print-address').value });
+    $('print-sender').hidden = this.#printer.parts !== 'submission';
+    $('preview').replaceChildren(...this.#printer.pages());
+  }
+
+  #close() {
+    $('preview').replaceChildren();
+    keepAddress($('print-address').value);
+    if ($('print-dialog').returnValue === 'print') this.#printer.print();
+  }
+}

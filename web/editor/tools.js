@@ -1,0 +1,41 @@
+// What a click on a cell does while a tool is in hand, and the buttons of the tools.
+import { $, all, first, pressed } from './page.js';
+
+const MODES = {
+  block: 'Blocks: click a cell, or drag over several. Esc ends this.', right: 'Bars on the right: click a cell, or drag over several. Esc ends this.',
+  below: 'Bars below: click a cell, or drag over several. Esc ends this.', circle: 'Circles: click a cell, or drag over several. Esc ends this.',
+  pencil: 'Locks: click a letter in pencil to lock it, and a locked one to put it in pencil, or drag over several. Esc ends this.',
+};
+
+export class Tools {
+  #grid;
+
+  constructor(grid) {
+    this.#grid = grid;
+    document.addEventListener('click', (event) => {
+      const tool = pressed(event, '[data-tool].tool');
+      if (tool) this.#take(grid.tool === tool.dataset.tool ? null : tool.dataset.tool);
+    });
+  }
+
+  #take(tool) {
+    this.#grid.tool = tool;
+    this.show();
+    this.#grid.focus();
+  }
+
+  // Puts the tool away.
+  end() {
+    this.#take(null);
+  }
+
+  show() {
+    const { tool } = this.#grid;
+    const text = MODES[tool] ?? '';
+    $('mode').hidden = !text;
+    first('span', $('mode')).textContent = text;
+    $('more').setAttribute('aria-pressed', String(Boolean(text)));
+    for (const button of all('.tool')) button.setAttribute('aria-pressed', String(button.dataset.tool === tool));
+    $('grid').dataset.tool = tool ?? '';
+  }
+}
