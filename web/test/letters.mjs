@@ -2,7 +2,7 @@
 //
 //   node --experimental-websocket web/test/letters.mjs [--runs N] [--page FILE]
 //
-// It needs what editor.mjs needs. Each row is a run of 60 letters or more: medians, and 90th percentiles behind the stroke, in milliseconds from
+// It needs what page.mjs needs. Each row is a run of 60 letters or more: medians, and 90th percentiles behind the stroke, in milliseconds from
 // the time stamp of the key event (time.mjs says of what). At the end stands the least of the medians of the runs.
 import { mkdtempSync, readFileSync, rmSync, writeFileSync } from 'node:fs';
 import { tmpdir } from 'node:os';

@@ -1,0 +1,170 @@
+// What cases do with the page, by its own controls.
+import { execFileSync } from 'node:child_process';
+import { rmSync, writeFileSync } from 'node:fs';
+import { join } from 'node:path';
+import { Xw } from '../dist/xw.js';
+import { LIST, browser, expect, module, page, picture, pictures, program, room } from './page.mjs';
+
+export async function menu(name) {
+  await browser.click('#file');
+  await browser.click(`[data-do="${name}"]`);
+}
+
+// Moves the slider of the least score.
+export const slideLeast = (grade, events = ['input', 'change']) => browser.value(`(() => {
+  const slider = document.getElementById('least');
+  slider.value = ${grade};
+  for (const name of ${JSON.stringify(events)}) slider.dispatchEvent(new Event(name));
+})()`);
+
+// Waits until a candidate is the one that keys are for.
+export const pointedAt = (word) => browser.until(`document.querySelector('#candidates [aria-selected=true]')?.dataset.word === '${word}'`);
+
+// An older message is taken away, so that what is waited for is a new one.
+export const hush = () => browser.value("document.getElementById('status').textContent = '', window.said.length = 0");
+
+export async function begin(pattern) {
+  await menu('new');
+  await hush();
+  await browser.click(`#patterns .pattern:nth-child(${pattern})`);
+  await page.statusIs(/new puzzle|no words for/);
+}
+
+export async function openFile(path) {
+  await hush();
+  await browser.choose('#picker', path);
+}
+
+// Opens a session that has these lines.
+export async function openRecord(record) {
+  writeFileSync(join(room, 'record.xw'), record);
+  await openFile(join(room, 'record.xw'));
+  await page.statusIs(/record.xw is open/);
+}
+
+// Gives each light a clue, and returns their number.
+export async function writeClues() {
+  await browser.press('F3');
+  const count = await page.count('#clue-list input');
+  await browser.value("document.querySelector('#clue-list input').focus()");
+  for (let at = 0; at < count; at++) {
+    await browser.type(`clue ${at + 1}`);
+    await browser.press('Enter');
+  }
+  await browser.until("/every (light|entry) has a clue/.test(document.getElementById('clue-summary').textContent)");
+  return count;
+}
+
+// The lights of a saved file, which are so many and all filled.
+export function filledLights(bytes, count) {
+  const lights = lightsOf(bytes);
+  expect(lights.length === count && lights.every((line) => !line.includes('.')), 'the file has other lights');
+  return lights;
+}
+
+// What the program says of a saved file.
+export function judged(name) {
+  return program ? execFileSync(program, ['check', join(room, name)]).toString().trim() : 'not checked by the program';
+}
+
+// Does what saves a file, and waits for it.
+export async function saved(name, action) {
+  rmSync(join(room, name), { force: true });
+  const isSaved = browser.download();
+  await action();
+  const { name: given, bytes } = await isSaved;
+  expect(given === name, `the file is called ${given} and not ${name}; ${await page.status()}`);
+  writeFileSync(join(room, name), bytes);
+  return bytes;
+}
+
+// Asks for another fill, and waits for it.
+export async function another() {
+  await hush();
+  await browser.click('#another');
+  await page.statusIs(/^filled|no fill/);
+}
+// The words of the built-in list with scores from 0 to 100, the same in each run.
+export function scoredList() {
+  const score = (word) => [...word].reduce((sum, letter) => (31 * sum + letter.charCodeAt(0)) % 10007, 7) % 101;
+  return LIST.split('\n').map((word) => `${word};${score(word)}`);
+}
+
+// Has the page use that list.
+export async function openGraded() {
+  writeFileSync(join(room, 'graded.txt'), scoredList().join('\n'));
+  await openFile(join(room, 'graded.txt'));
+  await page.statusIs(/^graded.txt: 63,\d+ words/);
+}
+
+// The words of the lights of the grid, as rows tell it.
+export function wordsOf(rows) {
+  const columns = [...rows[0]].map((_, at) => rows.map((row) => row[at]).join(''));
+  return [...rows, ...columns].flatMap((line) => line.split('#').filter((word) => word.length > 1));
+}
+
+// Begins a blank grid.
+export async function beginBlank(width, height) {
+  await menu('new');
+  await browser.value(`document.getElementById('new-width').value = ${width}, document.getElementById('new-height').value = ${height}`);
+  await browser.click('#new-blank');
+  await page.factsAre(new RegExp(`^${width} × ${height} · 0 of`));
+}
+
+// Shows grids around entries in the dialog, and returns what is said of each.
+export async function showGrids(entries, style, sym = 'half') {
+  const set = (id, value) => browser.value(`document.getElementById('${id}').value = ${JSON.stringify(value)}`);
+  await set('themes-entries', entries);
+  await set('themes-style', style);
+  await set('themes-sym', sym);
+  await browser.click('#themes-show');
+  await browser.until("document.querySelectorAll('#themes-grids[aria-busy=false] .pattern').length > 1");
+  return browser.value("[...document.querySelectorAll('#themes-grids .pattern small')].map((verdict) => verdict.textContent)");
+}
+
+// Chooses a grid of which something is said.
+export async function choosing(verdict) {
+  const at = await browser.value(`[...document.querySelectorAll('#themes-grids .pattern small')].findIndex(({ textContent }) => textContent === '${verdict}')`);
+  expect(at >= 0, `of no grid is said: ${verdict}`);
+  await browser.click(`#themes-grids .pattern:nth-child(${at + 1})`);
+}
+
+export const hasWord = (rows, word) => rows.some((row) => row.includes(word)) || [...rows[0]].some((_, at) => rows.map((row) => row[at]).join('').includes(word));
+
+// Prints what the dialog shows. The browser's own dialog would stand in the way.
+export async function print() {
+  await browser.value('window.isPrinted = false, window.print = () => { window.isPrinted = true; }, 0');
+  await browser.click('#print-dialog [value=print]');
+  await browser.until('window.isPrinted');
+}
+
+// Fills the grid that is here, writes its clues, prints it and saves it, by the page's own controls.
+export async function wholePuzzle(name, title, form) {
+  await browser.press('Control+f');
+  await page.statusIs(/^filled/);
+  await picture(`${name}-filled`);
+  await browser.press('F4');
+  await browser.until("document.activeElement.id === 'title'");
+  await browser.type(title);
+  await browser.press('Tab');
+  await browser.type('A. Setter');
+  await browser.press('Tab');
+  const count = await writeClues();
+  await picture(`${name}-clues`);
+  await browser.click('#tab-puzzle');
+  await browser.until("document.querySelector('#checks li') && !/no clue|are empty/.test(document.getElementById('checks').textContent)");
+  await picture(`${name}-checks`);
+  const warnings = await browser.value("[...document.querySelectorAll('#checks li:not(.good)')].map(({ textContent }) => textContent)");
+  expect(warnings.every((text) => /one root|share/.test(text)), `warned of: ${warnings}`);
+  await browser.press('Control+p');
+  await browser.until(`document.querySelectorAll('#preview .page:first-child .clues p').length === ${count}`);
+  await picture(`${name}-print`);
+  await print();
+  if (pictures) writeFileSync(join(pictures, `${name}.pdf`), await browser.pdf());
+  const bytes = await saved(`${name}.${form}`, () => (form === 'puz' ? browser.press('Control+s') : menu('save-ipuz')));
+  if (form === 'puz') filledLights(bytes, count);
+  else expect(JSON.parse(bytes.toString()).solution.flat().every((letter) => /^[A-Z]$/.test(letter)), 'a letter is lost');
+  return form === 'puz' ? judged(`${name}.${form}`) : '';
+}
+
+export const lightsOf = (bytes) => Xw.open(module, { puzzle: bytes }).line('lights').lines;

@@ -1,0 +1,197 @@
+// Cases of clues and other texts, and the warnings of the usual rules.
+import { writeFileSync } from 'node:fs';
+import { join } from 'node:path';
+import { Xw } from '../../dist/xw.js';
+import { begin, menu, openFile, openRecord, print, saved } from '../doing.mjs';
+import { isDrafted } from '../holding.mjs';
+import { PAGE, browser, expect, module, page, picture, ready, reload, room, runAlone } from '../page.mjs';
+
+export const CASES = {
+  async 'lengths at the end of clues'() {
+    await begin(6);
+    await browser.press('Control+f');
+    await page.statusIs(/^filled/);
+    await browser.press('F3');
+    // a field may show what was there before, until the engine has answered
+    const valuesAre = (...wanted) => browser.until(`${JSON.stringify(wanted)}.every((text, at) => document.querySelectorAll('#clue-list input')[at].value === text)`);
+    await browser.until("document.getElementById('clue-lengths').disabled");
+    await browser.type('plain');
+    await browser.press('Enter');
+    await browser.type('phrase');
+    await browser.press('Enter');
+    await browser.type('sum (1,9)');
+    await valuesAre('plain', 'phrase');
+    await isDrafted(/phrase/);
+    // this clue is answered after the next one is typed over
+    await browser.value(`(() => {
+      const post = Worker.prototype.postMessage;
+      Worker.prototype.postMessage = function (message, transfer) {
+        if (message.call !== 'edit') return post.call(this, message, transfer);
+        Worker.prototype.postMessage = post;
+        window.heldClue = () => post.call(this, message, transfer);
+      };
+    })()`);
+    await browser.press('Enter');
+    await browser.until("window.heldClue && !document.getElementById('clue-lengths').disabled");
+    // a length is selected, so that another one can be typed over it
+    await browser.click('.clue:nth-of-type(2) .length');
+    const isSelected = () => browser.until("(({ value, selectionStart, selectionEnd }) => value === 'phrase (5)' && value.slice(selectionStart, selectionEnd) === '5')(document.activeElement)");
+    await isSelected();
+    await browser.value('window.heldClue()');
+    await isDrafted(/phrase \(5\)/);
+    await browser.until("/^3 of/.test(document.getElementById('clue-summary').textContent)");
+    await isSelected();
+    await browser.type('2,3');
+    await browser.press('Enter');
+    await valuesAre('plain', 'phrase (2,3)', 'sum (1,9)');
+    await picture('lengths');
+    await browser.click('#clue-lengths');
+    await page.statusIs(/^1 clue has a length now$/);
+    await valuesAre('plain (3)', 'phrase (2,3)', 'sum (1,9)');
+    await browser.until("document.getElementById('clue-lengths').disabled && document.querySelectorAll('.clue:nth-of-type(1) .length:disabled').length === 1");
+    await browser.until("/the clue of 5 Across says \\(1,9\\) and it has 5 letters|the clue of \\d+ Across says \\(1,9\\)/.test(document.getElementById('rules').textContent)");
+    await browser.click('#cell-2-2');
+    await browser.press('Control+z');
+    await browser.until("document.querySelectorAll('#clue-list input')[0].value === 'plain'");
+  },
+
+  async 'clues that have their enumerations'() {
+    const clues = ['Ice cream (3,5)', 'Plain', 'Hyphened (2-1)', 'Two of them (3 wds.)', 'Year of a revolution (1789)', 'Aside (see 1 Down)'];
+    const body = 'size 3 3\n' + clues.map((clue, at) => `text clue ${at < 3 ? at + 1 : 1} ${at < 3 ? 1 : at - 2} ${at < 3 ? 'across' : 'down'} ${clue}\n`).join('');
+    writeFileSync(join(room, 'enumerations.xw'), body);
+    await openFile(join(room, 'enumerations.xw'));
+    await page.statusIs(/is open/);
+    await browser.press('Control+p');
+    await browser.click('#print-lengths');
+    await print();
+    const printed = await browser.value("[...document.querySelectorAll('#sheet .clues p')].map((clue) => clue.textContent.replace(/^\\d+ /, '').trim())");
+    const wanted = ['Ice cream (3,5)', 'Plain (3)', 'Hyphened (2-1)', 'Two of them (3 wds.)', 'Year of a revolution (1789) (3)', 'Aside (see 1 Down) (3)'];
+    expect(printed.join('|') === wanted.join('|'), `printed: ${printed.join('|')}`);
+  },
+
+  async 'a text that is being typed'() {
+    await begin(6);
+    await browser.press('Control+f');
+    await page.statusIs(/^filled/);
+    await browser.press('F3');
+    await browser.until("document.activeElement.dataset.light === '1 across'");
+    const fieldIs = (text) => browser.until(`(({ value, selectionStart }) => value === '${text}' && selectionStart === value.length)(document.activeElement)`);
+    // it is saved as far as it is typed, and stays as it is in its field
+    await browser.insert('So far ');
+    const bytes = await saved('crossword.puz', () => browser.press('Control+s'));
+    expect(Xw.open(module, { puzzle: bytes }).line('texts').lines.some((line) => line.endsWith(' So far')), 'what is typed is not in the file');
+    await fieldIs('So far ');
+    await browser.insert('so good');
+    // and it is in the preview of a print
+    await browser.press('Control+p');
+    await browser.until("/1 +So far so good/.test(document.querySelector('#preview .clues p').textContent)");
+    await browser.press('Escape');
+    // and it is kept when the page goes
+    await browser.press('F3');
+    await browser.insert('Kept \u2192 here');
+    await browser.go(PAGE.href);
+    await ready();
+    await browser.until("document.querySelector('#clue-list input').value === 'Kept \u2192 here'");
+    await browser.press('F4');
+    await browser.insert('A title');
+    await browser.go(PAGE.href);
+    await ready();
+    await browser.until("document.getElementById('title').value === 'A title'");
+  },
+
+  async 'characters that a .puz cannot hold'() {
+    await openRecord('size 2 2\nset 1 1 A\nset 1 2 B\nset 2 1 C\nset 2 2 D\n');
+    const value = (id) => browser.value(`document.getElementById('${id}').value`);
+    await browser.click('#tab-puzzle');
+    await browser.value("document.getElementById('title').focus()");
+    await browser.insert('Čapek → 2');
+    await browser.press('Tab');
+    await page.statusIs(/“Č” stays here/);
+    await browser.press('F3');
+    await browser.insert('Łódź');
+    await browser.press('Enter');
+    await page.statusIs(/a .puz gets: Lódz/);
+    await isDrafted(/Čapek → 2[^]*Łódź/);
+    await reload();
+    expect((await value('title')) === 'Čapek → 2', `the title is ${await value('title')}`);
+    const bytes = await saved('capek-2.puz', () => browser.press('Control+s'));
+    await page.statusIs(/^saved: capek-2.puz, with near characters for “Č”, “Ł”$/);
+    const texts = Xw.open(module, { puzzle: bytes }).answer(Buffer.from('texts')).answer;
+    expect(Buffer.from(texts).toString('latin1').includes('title Capek -> 2\nclue 1 across L\u00f3dz'), Buffer.from(texts).toString('latin1'));
+    const ipuz = JSON.parse((await saved('capek-2.ipuz', () => menu('save-ipuz'))).toString());
+    expect(ipuz.title === 'Čapek → 2' && ipuz.clues.Across[0][1] === 'Łódź', JSON.stringify(ipuz));
+    await saved('capek-2.xw', () => menu('save-session'));
+    await begin(6);
+    await openFile(join(room, 'capek-2.xw'));
+    await page.statusIs(/is open/);
+    expect((await value('title')) === 'Čapek → 2', `the session has the title ${await value('title')}`);
+    await browser.click('#cell-1-1');
+    await browser.press('Control+z');
+    await page.factsAre(/^5 × 5/);
+    expect((await value('title')) === '', 'the title stays after undo');
+  },
+
+  async 'warnings while the grid changes'() {
+    await begin(1);
+    await browser.click('#tab-words');
+    await browser.until("document.getElementById('rules').hidden && / 76 words /.test(document.getElementById('facts').textContent)");
+    await browser.click('#cell-1-3');
+    await browser.press('.');
+    await browser.until("/has two letters|lights? have two letters|entries have two letters/.test(document.getElementById('rules').textContent) && Number(document.getElementById('rules-count').textContent) > 0");
+    await picture('warnings');
+    await browser.click('#rules');
+    await browser.until("!document.getElementById('puzzle').hidden && document.querySelector('#checks .warning')");
+    await browser.click('#cell-1-1');
+    await browser.press('Control+z');
+    await browser.until("document.getElementById('rules').hidden && document.getElementById('rules-count').hidden");
+    // a word twice
+    await browser.type('tone');
+    await browser.click('#cell-2-1');
+    if (await page.has('2-1', 'down')) await browser.press('Enter');
+    await browser.type('tone');
+    await browser.until("/TONE stands twice/.test(document.getElementById('rules').textContent)");
+    await browser.press('Control+z');
+    await browser.until("document.getElementById('rules').hidden");
+    await browser.type('z');
+    await browser.until("/^TONZ is not in your lists/.test(document.getElementById('rules').textContent) || document.getElementById('rules').title.includes('TONZ is not in your lists')");
+    await browser.press('Control+z');
+    await browser.until("document.getElementById('rules').hidden");
+    await browser.click('#tab-words');
+  },
+
+  async 'warnings of the usual rules'() {
+    const warned = (pattern) => browser.until(`[...document.querySelectorAll('#checks .warning')].some((item) => ${pattern}.test(item.textContent))`);
+    await browser.click('#tab-puzzle');
+    // two rows that a row of blocks parts, with lights of two letters down
+    await openRecord('size 6 5\nblock 3 1\nblock 3 2\nblock 3 3\nblock 3 4\nblock 3 5\nblock 3 6\n');
+    await warned(/12 (lights|entries) have two letters/);
+    await warned(/in 2 parts that do not connect/);
+    await openRecord(`size 7 2\n${['block 2 2', 'block 2 3', 'block 2 4'].join('\n')}\n`);
+    await warned(/1 Across has 3 unchecked cells in a row/);
+    // in an American grid each cell is in two entries
+    await openRecord(`size 9 9\nblock 1 2\nblock 3 1\nblock 9 8\nblock 7 9\nsym half\n`);
+    await warned(/^⚠ 2 cells are in one entry only: the first is in row 1, column 1$/);
+    await browser.click('#checks .warning button[data-cell="0"]');
+    await page.cursorAt('1-1');
+    const spell = (row, word) => [...word].map((letter, at) => `set ${row} ${at + 1} ${letter}`).join('\n');
+    await openRecord(`size 7 5\n${[2, 4].flatMap((row) => Array.from({ length: 7 }, (_, at) => `block ${row} ${at + 1}`)).join('\n')}\n${spell(1, 'BAKINGS')}\n${spell(3, 'UNBAKED')}\n${spell(5, 'BAKEDUP')}\n`);
+    await warned(/UNBAKED and BAKEDUP share BAKED/);
+    await openRecord(`size 4 7\n${[2, 4, 6].flatMap((row) => [1, 2, 3, 4].map((column) => `block ${row} ${column}`)).join('\n')}\nblock 1 4\nblock 3 4\nblock 7 4\n${spell(1, 'ERE')}\n${spell(3, 'ERR')}\n${spell(5, 'ODDS')}\n${spell(7, 'ODD')}\n`);
+    await warned(/ODDS and ODD have one root/);
+    expect(!(await browser.value("/ERE and ERR/.test(document.getElementById('checks').textContent)")), 'ERE and ERR have one root');
+    await openRecord(`size 15 15\n`);
+    await browser.until("!document.querySelector('#checks .warning')");
+    // the patterns keep the rules
+    const patterns = await page.count('#patterns .pattern');
+    for (let pattern = 1; pattern <= patterns; pattern++) {
+      await begin(pattern);
+      await browser.until("document.querySelector('#checks [data-cell]')?.textContent === `${document.querySelectorAll('.cell:not(.block)').length} cells are empty`");
+      expect((await page.count('#checks .warning')) === 0, `pattern ${pattern}: ${await browser.value("document.querySelector('#checks .warning')?.textContent")}`);
+    }
+  },
+};
+
+// What cases need that not every browser can do.
+export const NEEDS = { 'characters that a .puz cannot hold': ['blur'] };
+
+await runAlone(import.meta.url, { CASES, NEEDS });

@@ -1,0 +1,108 @@
+// Cases of dead ends and their reasons.
+import { begin, beginBlank, menu, openRecord } from '../doing.mjs';
+import { browser, expect, page, picture, runAlone } from '../page.mjs';
+
+export const CASES = {
+  async 'a dead end'() {
+    await begin(1);
+    await browser.type('sp');
+    await browser.click('#cell-2-1');
+    await browser.type('x');
+    await page.statusIs(/dead end/);
+    expect((await page.count('.cell.dead')) > 0, 'no cell is red');
+    await browser.click('#cell-3-2');
+    await page.statusIs(/no word, by/);
+    expect((await page.count('.cell.reason')) > 0, 'no reason is lit up');
+    await picture('dead-end');
+    await browser.press('Control+z');
+    await browser.until("document.querySelectorAll('.cell.dead').length === 0");
+  },
+
+  async 'a reason beside the last entry'() {
+    await begin(2);
+    await browser.click('#cell-1-7');
+    if (await browser.value("document.querySelector('.cursor').classList.contains('down')")) await browser.press('Enter');
+    await browser.type('jazzquake');
+    const told = await page.statusIs(/JAZZQUAKE leaves \d+ Down no word/);
+    await picture('reason');
+    const [, number] = /leaves (\d+) Down no word/.exec(told) ?? [];
+    expect(number >= 6 && number <= 14, `it does not cross 6 Across: ${told}`);
+    const box = (selector) => browser.value(`(({ x, y, width, height }) => ({ x, y, width, height }))(document.querySelector('${selector}').getBoundingClientRect())`);
+    const [frame, cell] = [await box('.reason-band'), await box(`#cell-1-${Number(number) + 1}`)];
+    expect(Math.abs(frame.x - cell.x) < 2 && Math.abs(frame.y - cell.y) < 2 && frame.height > 2 * cell.height, `the frame is not around ${number} Down`);
+    expect(await page.has(`1-${Number(number) + 1}`, 'reason'), `no letter of ${number} Down is framed: ${told}`);
+  },
+
+  async 'a dead end that is over before it is told'() {
+    await beginBlank(5, 1);
+    await browser.value("window.said.length = 0");
+    // the letters come faster than their answers; no word has the first ones, and the whole is an entry
+    await browser.value("for (const key of 'qqqqq') document.getElementById('grid').dispatchEvent(new KeyboardEvent('keydown', { key, bubbles: true, cancelable: true }))");
+    await browser.until("/QQQQQ is not in your lists/.test(document.getElementById('standing').textContent)");
+    expect(!/dead end/.test(await page.status()), `it says: ${await page.status()}`);
+    // what was told is taken back with its cause
+    await browser.press('Control+z');
+    await page.statusIs(/a dead end/);
+    await browser.press('q');
+    await browser.until("/QQQQQ is not in your lists/.test(document.getElementById('standing').textContent) && !/dead end|no word/.test(document.getElementById('status').textContent)");
+  },
+
+  async 'a dead part beside one that is alive'() {
+    const blocks = [1, 2, 3, 4, 5].map((column) => `block 4 ${column}`).join('\n');
+    await openRecord(`size 5 7\n${blocks}\nset 1 1 S\nset 1 2 T\n`);
+    await browser.click('#cell-1-3');
+    if (await page.has('1-3', 'down')) await browser.press('Enter');
+    await browser.type('j');
+    await page.statusIs(/dead end/);
+    // the part of the cause is red, its own light more so, and the other part is not
+    await browser.until("document.querySelectorAll('.cell.unmatched').length >= 5");
+    const red = await browser.value("[...document.querySelectorAll('.cell.dead')].map(({ id }) => Number(id.split('-')[1]))");
+    expect(red.length === 12 && red.every((row) => row < 4), `these rows are red: ${red}`);
+    await browser.press('Control+j');
+    await page.statusIs(/ left, the fewest/);
+    expect(await browser.value("Number(document.querySelector('.cursor').id.split('-')[1]) > 4"), 'the tightest light is dead');
+    await browser.press('Control+z');
+    await browser.until("!document.querySelector('.cell.dead, .cell.unmatched')");
+  },
+
+  async 'theme entries without blocks'() {
+    await menu('new');
+    await browser.value("document.getElementById('new-width').value = 15, document.getElementById('new-height').value = 15");
+    await browser.click('#new-blank');
+    await page.factsAre(/· 0 of 225/);
+    await browser.click('#cell-4-1');
+    if (await page.has('4-1', 'down')) await browser.press('Enter');
+    await browser.type('jazzquakezombix');
+    await browser.until("document.querySelectorAll('.cell.waiting').length > 100");
+    expect((await page.count('.cell.dead, .cell.unmatched')) === 0, 'a light that waits for blocks is red');
+    await page.statusIs(/wait for blocks/);
+    await picture('waiting');
+    // they wait as long as the grid has few blocks
+    await browser.click('#cell-1-5');
+    await browser.value(`(() => {
+      window.wasRed = false;
+      window.reds = new MutationObserver(() => { window.wasRed ||= document.querySelector('.cell.dead, .cell.unmatched') !== null; });
+      window.reds.observe(document.getElementById('grid'), { attributes: true, subtree: true });
+    })()`);
+    await browser.press('.');
+    await browser.until("document.querySelector('#cell-1-5.block')");
+    await page.statusIs(/wait for blocks/);
+    expect(!(await browser.value('window.reds.disconnect(), window.wasRed')), 'a light that waits for blocks is red for a moment');
+    expect((await page.count('.cell.waiting')) > 100 && (await page.count('.cell.dead, .cell.unmatched')) === 0, 'a light that waits for blocks is red');
+    // a short light that no word matches waits for nothing
+    await browser.click('#cell-1-1');
+    if (await page.has('1-1', 'down')) await browser.press('Enter');
+    await browser.type('qx');
+    await browser.until("document.querySelectorAll('.cell.unmatched').length === 4");
+    // a small grid is done without blocks
+    await menu('new');
+    await browser.value("document.getElementById('new-width').value = 4, document.getElementById('new-height').value = 4");
+    await browser.click('#new-blank');
+    await page.factsAre(/· 0 of 16/);
+    await browser.type('qxj');
+    await page.statusIs(/dead end/);
+    await browser.until("document.querySelector('.cell.unmatched') && !document.querySelector('.cell.waiting')");
+  },
+};
+
+await runAlone(import.meta.url, { CASES });

@@ -1,0 +1,177 @@
+// Cases of files that are opened and saved, and what is printed.
+import { mkdirSync, rmSync, writeFileSync } from 'node:fs';
+import { join } from 'node:path';
+import { Xw } from '../../dist/xw.js';
+import { begin, hush, menu, openFile, print, saved } from '../doing.mjs';
+import { browser, expect, module, page, picture, pictures, reload, room, runAlone } from '../page.mjs';
+
+export const CASES = {
+  async 'a .puz opened and saved again'() {
+    const xw = Xw.open(module, { record: 'size 4 4\ntext title Round trip\n' });
+    for (let row = 1; row <= 4; row++) for (let column = 1; column <= 4; column++) xw.line(`set ${row} ${column} ${'ABCDEFGHIJKLMNOP'[4 * (row - 1) + column - 1]}`);
+    xw.answer(Buffer.from([...Buffer.from('author '), 0xe9, 0x93, 0x81]));
+    xw.line('clue 1 across one \\ two');
+    xw.line('circle 2 2');
+    xw.line('text notes line one\\r\\nline two \\s');
+    const bytes = Buffer.from(xw.puz());
+    const path = join(room, 'given.puz');
+    writeFileSync(path, bytes);
+    await openFile(path);
+    await page.statusIs(/given.puz is open/);
+    expect(await page.has('2-2', 'circled'), 'the circle is lost');
+    const again = await saved('round-trip.puz', () => browser.press('Control+s'));
+    expect(again.equals(bytes), 'the bytes differ');
+    writeFileSync(path, bytes.fill(0, 0, 2));
+    await openFile(path);
+    await page.statusIs(/checksum/);
+    expect((await page.row(1)) === 'ABCD', 'a file that is refused has changed the grid');
+  },
+
+  async 'files that are refused by name'() {
+    await begin(6);
+    await browser.type('co');
+    await page.factsAre(/· 2 of/);
+    const rows = await page.rows();
+    const prose = 'It was the best of times, it was the worst of times, it was the age of\nwisdom, it was the age of foolishness, it was the epoch of belief, it was\nthe epoch of incredulity.\n';
+    const files = {
+      'none.puz': '', 'none.txt': '', 'none.xw': '', 'blank.txt': '\n\n \n', 'notes.xw': '# xw session 1\n\n# no more\n', 'prose.txt': prose,
+      'some.puz': 'cat\ncot\n', 'numbers.csv': '1,2\n3,4\n', 'folder.txt': null,
+      'sudoku.ipuz': JSON.stringify({ version: 'http://ipuz.org/v2', kind: ['http://ipuz.org/sudoku#1'], dimensions: { width: 2, height: 1 }, puzzle: [[1, 2]] }),
+      'rebus.ipuz': JSON.stringify({ version: 'http://ipuz.org/v2', kind: ['http://ipuz.org/crossword#1'], dimensions: { width: 2, height: 1 }, puzzle: [[1, 2]], solution: [['AB', 'C']] }),
+      'paper.pdf': '%PDF-1.4\n1 0 obj\n<< /Type /Catalog /Pages 2 0 R >>\nendobj\n2 0 obj\n<< /Type /Pages /Kids [] /Count 0 >>\nendobj\ntrailer\n<< /Root 1 0 R >>\nstartxref\n9\n%%EOF\n',
+      'picture.png': Buffer.from('89504e470d0a1a0a0000000d49484452000000010000000108060000001f15c489', 'hex'),
+    };
+    for (const [name, bytes] of Object.entries(files)) {
+      if (bytes === null) mkdirSync(join(room, name));
+      else writeFileSync(join(room, name), bytes);
+      await hush();
+      await browser.drop(join(room, name));
+      await page.statusIs(name === 'some.puz' ? /^some.puz: this is no .puz file$/ : new RegExp(`^${name}`), 'bad');
+      expect((await page.rows()).join() === rows.join(), `${name} changes the grid`);
+      await page.factsAre(/built-in list/);
+    }
+    rmSync(join(room, 'folder.txt'), { recursive: true });
+  },
+
+  async 'sessions with and without their first line'() {
+    const body = 'size 3 3\nblock 2 2\nsym half\nset 1 1 T\nset 1 2 O\nset 1 3 E\n';
+    const files = { 'head.txt': `# xw session 1\n${body}`, 'older.txt': body, 'noted.txt': `# a note\r\n\r\n${body.replaceAll('\n', '\r\n')}`, 'marked.txt': `\ufeff# xw session 1\n${body}`, 'head.xw': `# xw session 1\n${body}` };
+    for (const [name, text] of Object.entries(files)) {
+      await begin(6);
+      writeFileSync(join(room, name), text);
+      await openFile(join(room, name));
+      await page.statusIs(new RegExp(`^${name} is open`));
+      expect((await page.rows()).join() === 'TOE,.#.,...', `the grid is ${await page.rows()}`);
+    }
+    const lines = (await saved('crossword.xw', () => menu('save-session'))).toString().split('\n');
+    expect(lines[0] === '# xw session 1' && lines.filter((line) => line.startsWith('# xw')).length === 1, `the file begins with ${lines[0]}`);
+  },
+
+  async 'Ctrl S saves always'() {
+    await begin(6);
+    await browser.type('co');
+    await page.factsAre(/· 2 of/);
+    const session = (await saved('crossword.xw', () => browser.press('Control+s'))).toString();
+    await page.statusIs(/^saved: crossword.xw: the session, since row 1, column 4 is empty$/);
+    expect(/^# xw session 1$/m.test(session) && /set 1 3 O/.test(session), session);
+    await menu('print');
+    await browser.until("document.getElementById('print-dialog').open");
+    await saved('crossword.xw', () => browser.press('Control+s'));
+    await browser.press('Escape');
+    await browser.until("!document.querySelector('dialog[open]')");
+    await browser.press('|');
+    await browser.until("document.querySelector('.bar-right')");
+    await saved('crossword.xw', () => browser.press('Control+s'));
+    await page.statusIs(/since a .puz cannot hold bars/);
+  },
+
+  async 'files dropped on the page, and a session saved and opened'() {
+    await begin(6);
+    await browser.press('Control+f');
+    await page.statusIs(/^filled/);
+    const rows = await page.rows();
+    await saved('crossword.xw', () => menu('save-session'));
+    await begin(1);
+    await browser.drop(join(room, 'crossword.xw'));
+    await page.statusIs(/crossword.xw is open/);
+    expect((await page.rows()).join() === rows.join(), 'the session differs');
+    expect(await page.has('2-2', 'pencil'), 'the pencil is lost');
+    writeFileSync(join(room, 'wrong.xw'), 'size 3 3\nnonsense\n');
+    await openFile(join(room, 'wrong.xw'));
+    await page.statusIs(/a line of the file is no command/);
+    expect((await page.rows()).join() === rows.join(), 'a file that is refused has changed the grid');
+  },
+
+  async '.ipuz opened and saved, and sheets of clues'() {
+    const given = {
+      version: 'http://ipuz.org/v2', kind: ['http://ipuz.org/crossword#1'], title: 'Bars &amp; circles', author: 'A. Setter', dimensions: { width: 3, height: 3 },
+      puzzle: [[1, { cell: 2, style: { barred: 'R' } }, { cell: 0, style: { shapebg: 'circle' } }], [{ cell: 3, style: { barred: 'T' } }, '#', 0], [4, 0, null]],
+      solution: [['C', 'O', { value: 'T' }], ['A', '#', 'O'], ['T', '', '#']],
+      clues: { Across: [[1, 'Firm =\u2192'], { number: 4, clue: '=1+1', enumeration: '1,1' }], Down: [[3, 'A \u201cquoted\u201d, listed clue (1-1)']] },
+    };
+    writeFileSync(join(room, 'given.ipuz'), JSON.stringify(given));
+    await openFile(join(room, 'given.ipuz'));
+    await page.statusIs(/given.ipuz is open/);
+    expect((await page.rows()).join() === 'COT,A#O,T.#', `the grid is ${await page.rows()}`);
+    expect((await page.has('1-2', 'bar-right')) && (await page.has('1-1', 'bar-below')) && (await page.has('1-3', 'circled')), 'a bar or the circle is lost');
+    await picture('ipuz');
+    const saves = JSON.parse((await saved('bars-circles.ipuz', () => menu('save-ipuz'))).toString());
+    expect(saves.version === given.version && saves.title === 'Bars & circles' && saves.puzzle[1][1] === '#', JSON.stringify(saves));
+    expect(saves.puzzle[0][1].style.barred === 'R' && saves.puzzle[0][0].style.barred === 'B' && saves.puzzle[0][2].style.shapebg === 'circle', JSON.stringify(saves.puzzle));
+    expect(saves.solution[0].join('') === 'COT' && saves.solution[2][1] === null, JSON.stringify(saves.solution));
+    const across = Object.fromEntries(saves.clues.Across);
+    expect(across[1] === 'Firm =\u2192' && Object.values(across).includes('=1+1 (1,1)'), JSON.stringify(saves.clues));
+    const csv = (await saved('bars-circles.csv', () => menu('clues-csv'))).toString();
+    expect(csv.startsWith('\ufeff"Number","Direction","Clue","Length","Answer"\r\n') && csv.includes('"Firm =\u2192","(2)","CO"') && csv.includes(`"'=1+1","(1,1)"`), csv);
+    expect(csv.includes('"A \u201cquoted\u201d, listed clue","(1-1)","AT"'), csv);
+    const html = (await saved('bars-circles.html', () => menu('clues-html'))).toString();
+    expect(html.includes('<h1>Bars &amp; circles</h1>') && html.includes('<td>Firm =\u2192</td><td>(2)</td><td>CO</td>'), html);
+  },
+
+  async 'printing'() {
+    await reload();
+    // as a rule clues have lengths in British puzzles alone
+    for (const [pattern, hasLengths] of [[3, true], [1, false]]) {
+      await begin(pattern);
+      await browser.press('Control+p');
+      await browser.until(`document.getElementById('print-dialog').open && document.getElementById('print-lengths').checked === ${hasLengths}`);
+      await browser.until(`(document.querySelectorAll('#preview .clues .length').length > 30) === ${hasLengths}`);
+      await browser.press('Escape');
+    }
+    await browser.press('Control+f');
+    await page.statusIs(/^filled/);
+    for (const [paper, width] of [['A4', 595], ['letter', 612]]) {
+      await browser.press('Control+p');
+      await browser.until("document.querySelectorAll('#preview .page').length === 2");
+      await browser.click(`[name=paper][value=${paper}]`);
+      await print();
+      const pdf = await browser.pdf();
+      if (pictures) writeFileSync(join(pictures, `print-${paper}.pdf`), pdf);
+      const text = pdf.toString('latin1');
+      const box = /\/MediaBox\s*\[\s*0\s+0\s+([\d.]+)/.exec(text);
+      expect(Math.abs(Number(box[1]) - width) < 2, `the paper is ${box[1]} points wide`);
+      const pages = (text.match(/\/Type\s*\/Page\b/g) ?? []).length;
+      expect(pages === 2, `${pages} pages`);
+    }
+    await browser.press('Control+p');
+    await browser.click('[name=parts][value=submission]');
+    await browser.value("document.getElementById('print-address').focus()");
+    await browser.insert('1 Grid Road');
+    await browser.until("document.querySelector('#preview .address').textContent.includes('1 Grid Road') && document.querySelectorAll('#preview .answers tr').length > 60");
+    expect(await browser.value("[...document.querySelectorAll('#preview .page')].every((page) => page.scrollHeight <= page.clientHeight)"), 'a page of the preview is cut off');
+    await picture('print');
+    await print();
+    expect((await page.count('#sheet .answers')) > 0, 'the answers are not printed');
+    const pdf = await browser.pdf();
+    if (pictures) writeFileSync(join(pictures, 'submission.pdf'), pdf);
+    await browser.press('Control+p');
+    await browser.until("document.getElementById('print-address').value === '1 Grid Road'");
+    await browser.click('[name=parts][value=both]');
+    await browser.click('#print-dialog [value=cancel]');
+  },
+};
+
+// What cases need that not every browser can do.
+export const NEEDS = { 'files that are refused by name': ['folders'], printing: ['pdf'] };
+
+await runAlone(import.meta.url, { CASES, NEEDS });

@@ -1,0 +1,271 @@
+// Cases of the grid: letters, blocks, bars and circles, the cursor and the keys.
+import { writeFileSync } from 'node:fs';
+import { join } from 'node:path';
+import { begin, menu, openFile } from '../doing.mjs';
+import { changeEdit, workOfLetter } from '../holding.mjs';
+import { browser, expect, page, picture, reload, room, runAlone } from '../page.mjs';
+
+export const CASES = {
+  async 'a first letter'() {
+    await reload();
+    await browser.press('q');
+    await browser.until("document.getElementById('cell-1-1').textContent.includes('Q')");
+    await browser.until("/only U/.test(document.getElementById('cell-2-1').ariaLabel)");
+    expect(await page.has('2-1', 'only'), 'the only letter is not grey');
+  },
+
+  async 'the work of a letter'() {
+    await begin(1);
+    return workOfLetter('s');
+  },
+
+  async 'blocks, bars, circles and symmetry'() {
+    await menu('new');
+    await browser.value("document.getElementById('new-width').value = 9, document.getElementById('new-height').value = 7");
+    await browser.click('#new-blank');
+    await page.factsAre(/^9 × 7/);
+    await browser.press('.');
+    await browser.until("document.getElementById('cell-7-9').classList.contains('block')");
+    expect(await page.has('1-1', 'block'), 'no block under the cursor');
+    await page.cursorAt('1-2');
+    await browser.press('|');
+    await browser.until("document.getElementById('cell-1-2').classList.contains('bar-right')");
+    expect(await page.has('7-7', 'bar-right'), 'the bar has no image');
+    await browser.press('_');
+    await browser.until("document.getElementById('cell-1-2').classList.contains('bar-below')");
+    await browser.press('*');
+    await browser.until("document.getElementById('cell-1-2').classList.contains('circled')");
+    await browser.click('#cell-7-8');
+    await browser.press('a');
+    await browser.until("document.getElementById('cell-7-8').textContent.includes('A')");
+    await browser.click('#cell-1-2');
+    await browser.press('.');
+    await page.statusIs(/letter at row 7, column 8 is in the way/);
+    await browser.click('[data-tool=block]');
+    await browser.click('#cell-4-5');
+    await browser.until("document.getElementById('cell-4-5').classList.contains('block')");
+    await browser.click('[data-tool=block]');
+    await menu('save-puz');
+    await page.statusIs(/cannot hold bars/);
+    await picture('bars');
+  },
+
+  async 'tools as modes'() {
+    await begin(1);
+    const mode = (text) => browser.until(`document.getElementById('mode').textContent.startsWith('${text}')`);
+    const isBlock = (...cells) => browser.until(`${JSON.stringify(cells)}.every((cell) => document.getElementById('cell-' + cell).classList.contains('block'))`);
+    await browser.click('[data-tool=block]');
+    await mode('Blocks');
+    await picture('mode');
+    // through the middle of the grid, over cells that images have made already: each is blocked once
+    await browser.drag('#cell-8-5', '#cell-8-11');
+    await isBlock('8-5', '8-6', '8-7', '8-8', '8-9', '8-10', '8-11');
+    // one drag is one step
+    await browser.press('Control+z');
+    await browser.until("!document.querySelector('#cell-8-5.block, #cell-8-8.block, #cell-8-11.block')");
+    await browser.press('Control+y');
+    await isBlock('8-5', '8-11');
+    await browser.press('Control+z');
+    await browser.until("!document.querySelector('#cell-8-5.block, #cell-8-8.block, #cell-8-11.block')");
+    await browser.press('Escape');
+    await browser.until("document.getElementById('mode').hidden");
+    await browser.click('[data-tool=circle]');
+    await mode('Circles');
+    await browser.drag('#cell-1-1', '#cell-1-3');
+    await browser.until("document.querySelectorAll('.circled').length === 3");
+    await browser.drag('#cell-1-2', '#cell-1-3');
+    await browser.until("document.querySelectorAll('.circled').length === 1");
+    await browser.click('#mode button');
+    await browser.until("document.getElementById('mode').hidden && !document.querySelector('.tool[aria-pressed=true]')");
+    await browser.press('Control+z');
+    await browser.until("document.querySelectorAll('.circled').length === 3");
+    await browser.press('Control+z');
+    await browser.until("!document.querySelector('.circled')");
+    // bars, and locks of letters
+    await browser.type('tone');
+    await page.factsAre(/· 4 of/);
+    await browser.click('[data-tool=pencil]');
+    await browser.drag('#cell-1-1', '#cell-1-4');
+    await browser.until("document.querySelectorAll('.cell.pencil').length === 4");
+    await browser.click('[data-tool=right]');
+    await mode('Bars on the right');
+    await browser.drag('#cell-3-1', '#cell-5-1');
+    await browser.until("['3-1', '4-1', '5-1', '13-14', '12-14', '11-14'].every((cell) => document.getElementById(`cell-${cell}`).classList.contains('bar-right'))");
+    await browser.press('Escape');
+    await browser.press('Control+z');
+    await browser.until("!document.querySelector('.bar-right') && document.querySelectorAll('.cell.pencil').length === 4");
+    await browser.press('Control+z');
+    await browser.until("!document.querySelector('.cell.pencil')");
+  },
+
+  async 'entries and lights'() {
+    await begin(3);
+    if (await page.has('1-1', 'down')) await browser.press('Enter');
+    await browser.type('culturex');
+    await page.statusIs(/^the light ends here/);
+    await browser.click('#tab-clues');
+    await browser.until("/^0 of \\d+ lights have a clue/.test(document.getElementById('clue-summary').textContent)");
+    await begin(1);
+    await browser.until("/^0 of 76 entries have a clue/.test(document.getElementById('clue-summary').textContent)");
+    await browser.click('#tab-words');
+    // names and texts are as they are
+    writeFileSync(join(room, 'light verse.txt'), 'cat\ncot\n');
+    await openFile(join(room, 'light verse.txt'));
+    await page.statusIs(/^light verse.txt: 2 words/);
+    await menu('built-in');
+    await page.factsAre(/built-in list/);
+  },
+
+  async 'the keys of a Mac'() {
+    const unload = await browser.preload("Object.defineProperty(Navigator.prototype, 'platform', { get: () => 'MacIntel' });");
+    try {
+      await reload();
+      expect((await browser.value("document.getElementById('fill').title")).includes('⌘F'), 'a button has another key');
+      expect(!(await browser.value("document.body.textContent.replace(/<script[^]*/, '') && [...document.querySelectorAll('kbd, [title]')].some((one) => /Ctrl/.test(one.title + (one.matches('kbd') ? one.textContent : '')))")), 'a key is called Ctrl');
+      await begin(6);
+      await browser.press('Shift+Backspace');
+      await browser.type('co');
+      await page.factsAre(/· 2 of/);
+      await browser.press('Shift+Backspace');
+      await page.factsAre(/· 0 of/);
+    } finally {
+      await unload();
+      await reload();
+    }
+  },
+
+  async 'keys of the grid that are one too many'() {
+    await begin(1);
+    await browser.type('tonex');
+    await page.statusIs(/the entry ends here/);
+    await page.factsAre(/· 4 of/);
+    expect((await page.row(1)).startsWith('TONE'), `the row is ${await page.row(1)}`);
+    await browser.press('Backspace');
+    await browser.type('s');
+    await browser.until("document.querySelector('#cell-1-4 .letter').textContent === 'S'");
+    await browser.press('Shift+Delete');
+    await page.factsAre(/· 0 of/);
+    await browser.type('e');
+    await browser.until("document.querySelector('#cell-1-4 .letter').textContent === 'E'");
+    await browser.click('#cell-1-1');
+    if (await page.has('1-1', 'down')) await browser.press('Enter');
+    await browser.type('ton');
+    await page.factsAre(/· 4 of/);
+    await browser.press('5');
+    await page.statusIs(/“5” does nothing here/);
+    await browser.click('#cell-1-6');
+    if (await page.has('1-6', 'down')) await browser.press('Enter');
+    await browser.value("(() => { const data = new DataTransfer(); data.setData('text', 'ou\u00ef-ja'); document.getElementById('grid').dispatchEvent(new ClipboardEvent('paste', { clipboardData: data, dataType: 'text/plain', data: 'ou\u00ef-ja', bubbles: true, cancelable: true })); })()");
+    await browser.until("document.querySelector('#cell-1-10 .letter').textContent === 'A'");
+    expect((await page.row(1)).slice(5, 10) === 'OUIJA', `the row is ${await page.row(1)}`);
+    await browser.press('Control+z');
+    await page.factsAre(/· 4 of/);
+    // a block over ink asks, over pencil does not
+    await browser.click('#cell-1-1');
+    await browser.press('.');
+    await page.statusIs(/T is entered here/);
+    expect(!(await page.has('1-1', 'block')), 'the letter is gone');
+    await browser.press('=');
+    await browser.until("document.querySelector('#cell-1-1.pencil')");
+    await browser.press('.');
+    await browser.until("document.querySelector('#cell-1-1.block') && document.querySelector('#cell-15-15.block')");
+    // blocks are painted along a drag, each once
+    await browser.click('[data-tool=block]');
+    await browser.drag('#cell-7-1', '#cell-7-3');
+    await browser.until("['7-1', '7-2', '7-3', '9-15', '9-14', '9-13'].every((cell) => document.getElementById(`cell-${cell}`).classList.contains('block'))");
+    await browser.press('Escape');
+    // Tab leaves the grid after Escape
+    await browser.press('Escape');
+    await browser.press('Tab');
+    expect(!(await browser.value("document.activeElement.id === 'grid'")), 'Tab does not leave the grid');
+    // F6 goes from the grid to the panel, to the menu, and back
+    await browser.click('#cell-2-2');
+    for (const id of ['tab-words', 'file', 'grid']) {
+      await browser.press('F6');
+      await browser.until(`document.activeElement.id === '${id}'`);
+    }
+    expect(await browser.value("/F6.*leave the grid/.test(document.getElementById('help-dialog').textContent)"), 'the help does not say how to leave the grid');
+  },
+
+  async 'undo of all'() {
+    await begin(6);
+    const blank = await page.rows();
+    await browser.type('co');
+    await browser.press('Control+f');
+    await page.statusIs(/^filled/);
+    await browser.press('Backspace');
+    await browser.click('#cell-3-3');
+    await browser.press('*');
+    await browser.press('|');
+    await browser.until("document.querySelector('.bar-right')");
+    await browser.press('F3');
+    await browser.type('A clue');
+    await browser.press('Enter');
+    await browser.press('F4');
+    await browser.click('#word');
+    await browser.type('zzyzx');
+    await browser.press('Enter');
+    await page.statusIs(/ZZYZX is added/);
+    await browser.click('#cell-2-2');
+    const full = await page.rows();
+    const steps = 8;
+    for (let step = 0; step < steps; step++) await browser.press('Control+z');
+    await page.factsAre(/· 0 of/);
+    const undone = await page.rows();
+    expect(undone.join() === blank.join(), `undo does not come to the blank grid, but to ${undone}`);
+    expect((await page.count('.circled, .bar-right')) === 0, 'a circle or a bar stays');
+    for (let step = 0; step < steps; step++) await browser.press('Control+y');
+    await browser.until(`document.querySelectorAll('.circled').length === 1 && document.getElementById('redo').disabled`);
+    expect((await page.rows()).join() === full.join(), 'redo does not come to the end');
+  },
+
+  async 'a message while a letter is under way'() {
+    await begin(6);
+    // the edit is done when the record after it is there
+    await browser.value(`(() => {
+      const post = Worker.prototype.postMessage;
+      Worker.prototype.postMessage = function (message, transfer) {
+        if (window.heldEdit && message.call === 'record') {
+          Worker.prototype.postMessage = post;
+          this.addEventListener('message', ({ data }) => { if (data.id === message.id) window.isDone = true; });
+        }
+        if (message.call !== 'edit') return post.call(this, message, transfer);
+        window.heldEdit = () => post.call(this, message, transfer);
+      };
+    })()`);
+    await browser.press('c');
+    await browser.until('window.heldEdit');
+    writeFileSync(join(room, 'empty.puz'), '');
+    await browser.drop(join(room, 'empty.puz'));
+    await page.statusIs(/^empty.puz is empty/, 'bad');
+    // the letter is answered after the file is refused, and says nothing of it
+    await browser.value('window.heldEdit()');
+    await browser.until('window.isDone');
+    expect((await page.status()).startsWith('empty.puz is empty'), `the page says: ${await page.status()}`);
+  },
+
+  async 'a letter that the engine refuses'() {
+    await begin(1);
+    await browser.type('lard');
+    await browser.click('#fill');
+    await page.statusIs(/^filled/);
+    await browser.click('#cell-4-2');
+    if (await browser.value("document.querySelector('.cursor').classList.contains('down')")) await browser.press('Enter');
+    // all that the cells show. Words that are not in the list are marked a while after an edit, and so is that they are gone
+    await browser.value("window.shown = () => [...document.querySelectorAll('.cell')].map((cell) => `${cell.className} ${cell.textContent} ${cell.ariaLabel}`).join(), window.before = window.shown()");
+    // no letter of an open cell is refused, so the command is changed on its way into one that is
+    await changeEdit('set 4 2 Q', "{ ...message, sent: { ...message.sent, lines: ['set 99 99 Q'] } }");
+    await browser.press('q');
+    await page.statusIs(/that cell is outside the grid/);
+    await browser.until('window.shown() === window.before');
+    await page.cursorAt('4-2');
+    await browser.press('z');
+    await browser.until("document.querySelector('#cell-4-2 .letter').textContent === 'Z' && !document.getElementById('cell-4-2').classList.contains('pencil')");
+    await browser.press('Control+z');
+    await browser.until("document.querySelector('#cell-4-2 .letter').textContent !== 'Z'");
+    await browser.click('#cell-4-2');
+    await browser.until('window.shown() === window.before');
+  },
+};
+
+await runAlone(import.meta.url, { CASES });

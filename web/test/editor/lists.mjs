@@ -1,0 +1,163 @@
+// Cases of word lists: large ones, what is left out of one, several, and the personal one.
+import { writeFileSync } from 'node:fs';
+import { join } from 'node:path';
+import { largeList } from '../time.mjs';
+import { begin, menu, openFile, openRecord, saved, slideLeast } from '../doing.mjs';
+import { raiseInTime, raiseToTheEnd, workOfLetter } from '../holding.mjs';
+import { browser, expect, forget, page, picture, reload, room, runAlone } from '../page.mjs';
+
+export const CASES = {
+  async 'a list of 277,620 words'() {
+    const path = join(room, 'large.txt');
+    writeFileSync(path, largeList().join('\n'));
+    await begin(1);
+    await browser.type('to');
+    await openFile(path);
+    await page.factsAre(/large.txt, 277,620 words/);
+    expect((await page.row(1)).startsWith('TO'), 'the puzzle is lost');
+    await begin(1);
+    const told = await workOfLetter('s');
+    await reload();
+    await page.factsAre(/large.txt, 277,620 words/);
+    return told;
+  },
+
+  async 'a list of 300,000 words with scores'() {
+    const path = join(room, 'many-scores.txt');
+    const letter = (number, at) => 'etaoinshrd'[Math.floor(number / 10 ** at) % 10];
+    const line = (_, number) => `${Array.from({ length: 6 }, (__, at) => letter(number, at)).join('')};${number % 101}`;
+    writeFileSync(path, Array.from({ length: 300000 }, line).join('\n'));
+    await begin(1);
+    await openFile(path);
+    await page.factsAre(/many-scores.txt, 300,000 words/);
+    await page.statusIs(/^many-scores.txt: 300,000 words, the best scores first$/);
+    await slideLeast(40);
+    await page.statusIs(/of 300,000 words have 40 or more$/);
+    // three words across
+    await openRecord(`size 6 5\n${[1, 2, 3, 4, 5, 6].flatMap((column) => [2, 4].map((row) => `block ${row} ${column}`)).join('\n')}\n`);
+    await browser.until("document.querySelector('#candidates[aria-busy=false] li')");
+    const work = await workOfLetter('t');
+    await raiseToTheEnd();
+    await browser.press('Control+f');
+    await page.statusIs(/^filled: worst 100, mean 100$/);
+    await raiseInTime();
+    await menu('built-in');
+    await page.factsAre(/built-in list/);
+    return work;
+  },
+
+  async 'lines of a list that are left out'() {
+    const open = async (name, bytes, told) => {
+      writeFileSync(join(room, name), bytes);
+      await openFile(join(room, name));
+      const said = await page.statusIs(new RegExp(`^${name}: .*words`));
+      expect(said === `${name}: ${told}`, `${name}: the page says: ${said}`);
+      expect((await browser.value("document.getElementById('list-name').textContent")) === `${name}: ${told.replace(', the best scores first', '')}`, 'the tab says otherwise');
+    };
+    await begin(6);
+    await open('marked.txt', '\ufeffcat\r\ncot\r\n\r\ncut', '3 words');
+    await open('accents.txt', 'caf\u00e9\ncat\nna\u00efve\ndon\u2019t\ncot\nstra\u00dfe\n\u0153uvre\n\u0434\u0430\n', '6 words; 4 without their accents; 2 lines left out: 1 with letters other than A to Z, 1 with signs that are not ASCII');
+    await open('latin.txt', Buffer.from('caf\u00e9\ncat\ncot\n', 'latin1'), '3 words; 1 without its accent');
+    await openFile(join(room, 'accents.txt'));
+    await page.statusIs(/6 words/);
+    writeFileSync(join(room, 'greek.txt'), '\u03b3\u03b7\n\u03b8\u03b5\u03ac\n');
+    await openFile(join(room, 'greek.txt'));
+    await page.statusIs(/^greek.txt: there is no word that the list can take; 2 lines left out: 2 with letters other than A to Z$/);
+    await page.factsAre(/accents.txt, 6 words/);
+    await open('short.txt', 'a\ncat\nCat\ncot\n', '2 words; 2 lines left out: 1 with fewer than 2 letters, 1 that repeats a word');
+    const scored = '\ufeffcat;10\ncot;-5\ncut;50\near;-1\n\u00e9t\u00e9;90\nword list\noar;20\ntea;70';
+    await open('scores.txt', scored, '5 words, the best scores first; 1 without its accent; 3 lines left out: 1 without a score, 2 with scores below 0');
+    await slideLeast(50);
+    await page.statusIs(/^3 of 5 words have 50 or more$/);
+    await menu('new');
+    await browser.value("document.getElementById('new-width').value = 3, document.getElementById('new-height').value = 1");
+    await browser.click('#new-blank');
+    await browser.click('#tab-words');
+    await browser.until("[...document.querySelectorAll('#candidates li')].map((row) => row.dataset.word).join() === 'ETE,TEA,CUT'");
+    await menu('built-in');
+    await page.factsAre(/built-in list/);
+  },
+
+  async 'several lists, and my own words'() {
+    await forget();
+    await reload();
+    for (const [name, text] of [['one.txt', 'cat\ncot\n'], ['two.txt', 'cut;50\near;90\ncat;70\n']]) {
+      writeFileSync(join(room, name), text);
+      await openFile(join(room, name));
+      await page.factsAre(new RegExp(name));
+    }
+    await browser.click('#tab-puzzle');
+    const isOn = (name) => browser.value(`document.querySelector('#lists [data-name="${name}"]').checked`);
+    expect((await isOn('two.txt')) && !(await isOn('one.txt')) && !(await isOn('built-in list')), 'other lists are in use');
+    // changes that come at once are all made
+    await browser.value(`['one.txt', 'built-in list'].forEach((name) => document.querySelector('#lists [data-name="' + name + '"]').click())`);
+    await page.factsAre(/3 lists, 63,\d+ words/);
+    await browser.click('#lists [data-name="built-in list"]');
+    await page.factsAre(/2 lists, 4 words/);
+    // words of one's own: added, graded again, hidden
+    await browser.click('#personal-edit');
+    await browser.insert('dot;95\ncut;99 # a note\n-ear\n?');
+    await browser.until("/2 added, 1 hidden; no word: \\?/.test(document.getElementById('personal-count').textContent)");
+    await picture('my-words');
+    await browser.click('#personal-dialog [value=save]');
+    await page.statusIs(/^2 lists: 4 words, the best scores first$/);
+    await menu('new');
+    await browser.value("document.getElementById('new-width').value = 3, document.getElementById('new-height').value = 1");
+    await browser.click('#new-blank');
+    await browser.click('#tab-words');
+    await browser.until("[...document.querySelectorAll('#candidates li')].map((row) => `${row.dataset.word} ${row.querySelector('.score').textContent}`).join() === 'CUT 99,DOT 95,CAT 70,COT '");
+    // they stay
+    await reload();
+    await page.factsAre(/2 lists, 4 words/);
+    await browser.click('#tab-puzzle');
+    await picture('lists');
+    expect((await saved('my-words.txt', () => browser.click('#personal-export'))).toString() === 'dot;95\ncut;99 # a note\n-ear\n?', 'the export differs');
+    // a word of the puzzle becomes one's own
+    await browser.value("document.getElementById('word').focus()");
+    await browser.type('toe');
+    await browser.press('Enter');
+    await browser.click('#changed [data-keep=TOE]');
+    await page.statusIs(/5 words/);
+    await menu('built-in');
+    await page.factsAre(/built-in list, 63,\d+ words/);
+    await browser.click('#lists [data-remove="one.txt"]');
+    await browser.until("!document.querySelector('#lists [data-name=\"one.txt\"]')");
+    // each change of the lists is taken back
+    await browser.click('#lists-undo');
+    await browser.until("document.querySelector('#lists [data-name=\"one.txt\"]:not(:checked)')");
+    await browser.click('#lists-undo');
+    await page.factsAre(/2 lists, 5 words/);
+    await menu('built-in');
+    await page.factsAre(/built-in list, 63,\d+ words/);
+    await browser.click('#lists [data-remove="one.txt"]');
+    await browser.until("!document.querySelector('#lists [data-name=\"one.txt\"]')");
+    await browser.value("document.getElementById('lists-undo').click(), document.getElementById('lists-undo').click()");
+    await page.factsAre(/2 lists, 5 words/);
+    await menu('built-in');
+    await page.factsAre(/built-in list, 63,\d+ words/);
+    await browser.click('#lists [data-remove="one.txt"]');
+    await browser.until("!document.querySelector('#lists [data-name=\"one.txt\"]')");
+    // words of a file are taken over, and the others are counted
+    writeFileSync(join(room, 'more-words.txt'), 'toe\nowl;70 # of a friend\n-ear\n-emu\n\u00e9t\u00e9\n?\n');
+    await browser.click('#personal-edit');
+    await browser.choose('#personal-file', join(room, 'more-words.txt'));
+    await browser.until("document.getElementById('personal-count').textContent === 'more-words.txt: 3 taken; 3 dropped: 2 there already, 1 with no word'");
+    expect((await browser.value("document.getElementById('personal-text').value")).endsWith('TOE\nowl;70 # of a friend\n-emu\n\u00e9t\u00e9'), 'other words are taken over');
+    await browser.value("document.getElementById('personal-text').value = ''");
+    await browser.click('#personal-dialog [value=save]');
+    await browser.until("document.getElementById('personal-summary').textContent === 'none yet'");
+    // Esc keeps nothing, also after words were saved
+    await browser.click('#personal-edit');
+    await browser.insert('emu');
+    await browser.press('Escape');
+    await browser.until("!document.getElementById('personal-dialog').open");
+    // changes are made in order, so words that were saved would be there before this list
+    await browser.click('#lists [data-name="two.txt"]');
+    await page.factsAre(/2 lists, 63,\d+ words/);
+    expect((await browser.value("document.getElementById('personal-summary').textContent")) === 'none yet', 'words that were not saved are kept');
+    await menu('built-in');
+    await page.factsAre(/built-in list, 63,\d+ words/);
+  },
+};
+
+await runAlone(import.meta.url, { CASES });

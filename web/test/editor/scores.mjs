@@ -1,0 +1,341 @@
+// Cases of scores: raised fills and the least score.
+import { writeFileSync } from 'node:fs';
+import { join } from 'node:path';
+import { another, begin, beginBlank, menu, openFile, openGraded, pointedAt, scoredList, slideLeast, wordsOf } from '../doing.mjs';
+import { holdFill, holdRaising, isDrafted, isHeld, raiseInTime, raiseToTheEnd } from '../holding.mjs';
+import { browser, expect, page, picture, reload, room, runAlone } from '../page.mjs';
+
+export const CASES = {
+  async 'a list with scores'() {
+    const path = join(room, 'scored.txt');
+    const list = ['cat;10', 'cot;90', 'cut;50', 'ear;60', 'oar;20', 'tea;40', 'toe;70', 'are;30', 'tar;80', 'ate;55'];
+    writeFileSync(path, `${list.join('\n')}\n`);
+    await openFile(path);
+    await page.factsAre(/scored.txt, 10 words/);
+    await menu('new');
+    await browser.value("document.getElementById('new-width').value = 3, document.getElementById('new-height').value = 1");
+    await browser.click('#new-blank');
+    await browser.until("document.querySelectorAll('#candidates li').length === 10");
+    const first = await browser.value("[...document.querySelectorAll('#candidates li')].slice(0, 3).map((row) => row.dataset.word).join()");
+    expect(first === 'COT,TAR,TOE', `the order is ${first}`);
+    await slideLeast(50);
+    await page.factsAre(/scored.txt, 6 of 10 words/);
+    await menu('built-in');
+    await page.factsAre(/built-in list/);
+  },
+
+  async 'a fill that is raised until none is better'() {
+    // AB over CD has the worst word BD, EF over GH the worst word EG; each can be entered in two ways
+    writeFileSync(join(room, 'squares.txt'), 'ab;90\ncd;80\nac;70\nbd;60\nef;75\ngh;85\neg;65\nfh;95\n');
+    await openFile(join(room, 'squares.txt'));
+    await page.factsAre(/squares.txt, 8 words/);
+    await beginBlank(2, 2);
+    await raiseToTheEnd();
+    await browser.press('Control+f');
+    await page.statusIs(/^filled: worst 65, mean 80; no fill is better$/);
+    await raiseInTime();
+    await browser.until("document.getElementById('figures-text').textContent === 'worst 65, mean 80; no fill is better'");
+    expect(['EF,GH', 'EG,FH'].includes((await page.rows()).join()), `the grid is ${await page.rows()}`);
+    // the words below a score are marked
+    await browser.value("document.getElementById('weak').value = 70, document.getElementById('weak').dispatchEvent(new Event('change'))");
+    await browser.until("document.querySelectorAll('.weak-across, .weak-down').length === 2");
+    await browser.until("/^worst 65, mean 80, 1 under 70/.test(document.getElementById('figures-text').textContent)");
+    await browser.click('#figures-worst');
+    await browser.until("document.getElementById('light-letters').textContent === 'EG'");
+    // both fills are one step
+    await browser.press('Control+z');
+    await page.factsAre(/· 0 of/);
+    await browser.until("document.getElementById('figures').hidden && !document.querySelector('.weak-across, .weak-down')");
+    await browser.press('Control+y');
+    await page.factsAre(/filled/);
+    // what is proved holds for the letters in ink that were there
+    await browser.until("/no fill is better/.test(document.getElementById('figures-text').textContent)");
+    await browser.press('=');
+    await browser.until("document.getElementById('figures-text').textContent === 'worst 65, mean 80, 1 under 70'");
+    await menu('built-in');
+    await page.factsAre(/built-in list/);
+    await browser.until("document.getElementById('figures').hidden && document.getElementById('least-row').hidden");
+  },
+
+  async 'a raising that leaps ahead'() {
+    writeFileSync(join(room, 'leaps.txt'), 'cat;10\ncot;11\ncut;12\near;13\noar;14\ntea;15\ntoe;16\nare;17\ntar;18\nate;19\n');
+    await openFile(join(room, 'leaps.txt'));
+    await page.factsAre(/leaps.txt, 10 words/);
+    await beginBlank(3, 1);
+    await raiseToTheEnd();
+    // the one worker is answered for
+    await browser.value(`(() => {
+      Object.defineProperty(navigator, 'hardwareConcurrency', { value: 2, configurable: true });
+      window.asked = [];
+      const post = Worker.prototype.postMessage;
+      Worker.prototype.postMessage = function (message, transfer) {
+        if (message.call !== 'best') return post.call(this, message, transfer);
+        window.answer = (value) => this.dispatchEvent(new MessageEvent('message', { data: { id: message.id, value } }));
+        window.asked.push([message.sent.least, message.sent.isQuick]);
+      };
+    })()`);
+    await browser.press('Control+f');
+    const answered = async (count, value) => {
+      await browser.until(`window.asked.length === ${count}`);
+      await browser.value(`window.answer(${JSON.stringify(value)})`);
+    };
+    await answered(1, { answer: 'limit', bound: 97 });
+    // a leap that finds nothing in two slices is given up, and after a slice for the next grade comes a shorter one
+    await answered(2, { answer: 'limit', bound: null });
+    await answered(3, { answer: 'limit', bound: null });
+    await answered(4, { answer: 'limit', bound: 97 });
+    await answered(5, { answer: 'nofill', bound: null });
+    await browser.until('window.asked.length === 6');
+    const asked = await browser.value('window.asked');
+    const grade = asked[0][0] - 1;
+    const leap = (to) => Math.floor(grade + (to - grade) / 4);
+    const wanted = [[grade + 1, false], [leap(97), true], [null, true], [grade + 1, false], [leap(leap(97)), true], [grade + 1, false]];
+    expect(JSON.stringify(asked) === JSON.stringify(wanted), `asked for ${JSON.stringify(asked)}, and not ${JSON.stringify(wanted)}`);
+    await browser.press('Escape');
+    await page.statusIs(/^stopped: worst \d+/);
+    await reload();
+    await menu('built-in');
+    await page.factsAre(/built-in list/);
+  },
+
+  async 'a raised fill of a 15 by 15'() {
+    await openGraded();
+    await begin(1);
+    await browser.press('Control+f');
+    await page.statusIs(/^filled; its worst word is raised/);
+    const told = await page.statusIs(/^filled: worst \d+/);
+    const [, worst, better] = /worst (\d+),.*?(?:no fill is better than (\d+))?$/.exec(told);
+    await picture('raised');
+    const scores = new Map(scoredList().map((line) => line.toUpperCase().split(';')));
+    const own = wordsOf(await page.rows()).map((word) => Number(scores.get(word)));
+    expect(Math.min(...own) === Number(worst) && own.length > 70, `${told}; the scores are ${own}`);
+    expect(better === undefined || Number(better) > Number(worst), `the bound is below the fill: ${told}`);
+    expect((await page.count('.cell.pencil')) === (await page.count('.cell:not(.block)')), 'a letter is not in pencil');
+    // once more goes on with the fill that is there
+    await browser.press('Control+f');
+    const again = await page.statusIs(/^filled: worst \d+/);
+    expect(Number(/worst (\d+)/.exec(again)[1]) >= Number(worst), `it is worse: ${again}`);
+    await another();
+    await page.statusIs(/^filled: worst \d+/);
+    await browser.until("document.querySelectorAll('#fills-list .fill').length >= 3 && [...document.querySelectorAll('#fills-list small')].every(({ textContent }) => /worst \\d+, mean \\d+/.test(textContent))");
+    await picture('raised-fills');
+    return told;
+  },
+
+  async 'a raising that ends'() {
+    await openGraded();
+    const startRaising = async () => {
+      await begin(1);
+      await holdRaising();
+      await browser.press('Control+f');
+      await isHeld();
+      await browser.until("!document.getElementById('stop').hidden && !document.getElementById('fill').disabled");
+      return page.rows();
+    };
+    const isEnded = () => browser.until("document.getElementById('stop').hidden");
+    // by Esc, after which the first fill stays
+    let rows = await startRaising();
+    await browser.press('Escape');
+    await page.statusIs(/^stopped: worst \d+/);
+    await isEnded();
+    await browser.value('window.release()');
+    expect((await page.rows()).join() === rows.join(), 'the fill is lost');
+    // by a letter
+    rows = await startRaising();
+    await browser.click('#cell-1-1');
+    await browser.type(rows[0][0] === 'Q' ? 'z' : 'q');
+    await isEnded();
+    await browser.value('window.release()');
+    await page.factsAre(/filled/);
+    expect((await page.rows()).slice(1).join() === rows.slice(1).join() && !(await page.has('1-1', 'pencil')), 'another letter has changed');
+    // by undo, in one step
+    await startRaising();
+    await browser.press('Control+z');
+    await page.factsAre(/· 0 of/);
+    await isEnded();
+    await browser.value('window.release()');
+    // by the button, by another least score, and by another list
+    await startRaising();
+    await browser.click('#stop');
+    await page.statusIs(/^stopped: worst \d+/);
+    await browser.value('window.release()');
+    await startRaising();
+    await slideLeast(20);
+    await page.factsAre(/of 63,\d+ words/);
+    await isEnded();
+    await browser.value('window.release()');
+    await slideLeast(0);
+    await page.factsAre(/graded.txt, 63,\d+ words/);
+    // by a reload, after which the first fill is there
+    rows = await startRaising();
+    await browser.until(`window.drafts().split('set ').length > 150`);
+    await reload();
+    expect((await page.rows()).join() === rows.join(), 'the fill is lost');
+    await page.factsAre(/graded.txt/);
+  },
+
+  async 'raising by several workers'() {
+    await openGraded();
+    await begin(1);
+    await holdRaising();
+    await browser.value(`(() => {
+      Object.defineProperty(navigator, 'hardwareConcurrency', { value: 4, configurable: true });
+      window.raisers = new Map();
+      const post = Worker.prototype.postMessage;
+      Worker.prototype.postMessage = function (message, transfer) {
+        if (message.call === 'best') window.raisers.set(this, message.sent.limits.split(' ')[1]);
+        post.call(this, message, transfer);
+      };
+    })()`);
+    await browser.press('Control+f');
+    await browser.until('window.raisers.size === 3 && new Set(window.raisers.values()).size === 3');
+    await browser.press('Escape');
+    await page.statusIs(/^stopped: worst \d+/);
+    await reload();
+    await menu('built-in');
+    await page.factsAre(/built-in list/);
+  },
+
+  async 'better fills that come at once'() {
+    writeFileSync(join(room, 'scored.txt'), 'cat;10\ncot;90\ncut;50\near;60\noar;20\ntea;40\ntoe;70\nare;30\ntar;80\nate;55\n');
+    await openFile(join(room, 'scored.txt'));
+    await page.factsAre(/scored.txt, 10 words/);
+    await beginBlank(3, 1);
+    await raiseToTheEnd();
+    // two workers are answered for, and the edit that the first answer leads to is held back
+    await browser.value(`(() => {
+      Object.defineProperty(navigator, 'hardwareConcurrency', { value: 3, configurable: true });
+      window.asked = [];
+      window.isTold = false;
+      const post = Worker.prototype.postMessage;
+      Worker.prototype.postMessage = function (message, transfer) {
+        if (message.call === 'best') window.asked.push((value) => this.dispatchEvent(new MessageEvent('message', { data: { id: message.id, value } })));
+        else if (message.call === 'edit' && window.isTold && !window.heldEdit) window.heldEdit = () => post.call(this, message, transfer);
+        else post.call(this, message, transfer);
+      };
+    })()`);
+    await browser.press('Control+f');
+    await browser.until('window.asked.length === 2');
+    await browser.value(`(() => {
+      window.isTold = true;
+      const [one, other] = window.asked.splice(0);
+      const letters = (word) => [...word].map((letter, at) => 'set 1 ' + (at + 1) + ' ' + letter);
+      one({ answer: 'filled', grade: 91, bound: 101, letters: letters('TAR') });
+      other({ answer: 'filled', grade: 92, bound: 93, letters: letters('TOE') });
+    })()`);
+    await browser.until('window.heldEdit');
+    await browser.value('window.heldEdit()');
+    // the better one is in the grid, and its words are told
+    await page.statusIs(/^filled: worst 70, mean 70; no fill is better than 92$/);
+    expect((await page.row(1)) === 'TOE', `the row is ${await page.row(1)}`);
+    await browser.press('Control+z');
+    await page.factsAre(/· 0 of/);
+    await reload();
+    await menu('built-in');
+    await page.factsAre(/built-in list/);
+  },
+
+  async 'the least score, slid'() {
+    writeFileSync(join(room, 'scored.txt'), 'cat;10\ncot;90\ncut;50\near;60\noar;20\ntea;40\ntoe;70\nare;30\ntar;80\nate;55\n');
+    await openFile(join(room, 'scored.txt'));
+    await page.factsAre(/scored.txt, 10 words/);
+    await beginBlank(3, 1);
+    const listed = (words) => browser.until(`[...document.querySelectorAll('#candidates li')].map((row) => row.dataset.word).join() === '${words}'`);
+    await listed('COT,TAR,TOE,EAR,ATE,CUT,TEA,ARE,OAR,CAT');
+    // no list is opened anew, and each place of the slider is shown
+    await browser.value(`(() => {
+      window.opened = 0;
+      const post = Worker.prototype.postMessage;
+      Worker.prototype.postMessage = function (message, transfer) {
+        if (message.call === 'open') window.opened++;
+        post.call(this, message, transfer);
+      };
+    })()`);
+    await slideLeast(60, ['input']);
+    await browser.until("document.getElementById('least-left').textContent === '4 of 10 words' && document.getElementById('least-shown').textContent === '60'");
+    await listed('COT,TAR,TOE,EAR');
+    await slideLeast(85, ['input']);
+    await listed('COT');
+    await slideLeast(50, ['input', 'change']);
+    await page.statusIs(/^6 of 10 words have 50 or more$/);
+    await listed('COT,TAR,TOE,EAR,ATE,CUT');
+    expect((await browser.value('window.opened')) === 0, 'the list is opened anew');
+    await picture('least');
+    // a word below it is called that, in the grid and in the tab of the puzzle
+    await browser.click('#cell-1-1');
+    await browser.type('cat');
+    await browser.until("/^CAT \\(10\\) is below your least score, 50/.test(document.getElementById('standing').textContent)");
+    await browser.press('Control+j');
+    await page.statusIs(/CAT \(10\) is below your least score, 50: 1 Across/);
+    await browser.click('#tab-puzzle');
+    await browser.until("/CAT \\(10\\) is below your least score, 50: 1 Across/.test(document.getElementById('checks').textContent)");
+    await browser.click('#tab-words');
+    await browser.click('#standing button:nth-of-type(1)');
+    await page.statusIs(/CAT is added/);
+    await browser.until("document.getElementById('standing').hidden");
+    // undo leads to where it was, with the grade of the list
+    await browser.click('#cell-1-1');
+    await browser.press('Control+z');
+    await browser.until("/^CAT \\(10\\) is below/.test(document.getElementById('standing').textContent)");
+    await slideLeast(10);
+    await browser.until("document.getElementById('standing').hidden");
+    await slideLeast(11);
+    await browser.until("/^CAT \\(10\\) is below your least score, 11/.test(document.getElementById('standing').textContent)");
+    // hidden words are called that
+    await browser.press('Control+z');
+    await browser.press('Control+z');
+    await browser.press('Control+z');
+    await page.factsAre(/· 0 of/);
+    await listed('COT,TAR,TOE,EAR,ATE,CUT,TEA,ARE,OAR');
+    // a word that is pointed at stays that when the list is asked for anew
+    await browser.press('/');
+    await browser.press('ArrowDown');
+    await pointedAt('COT');
+    await slideLeast(21, ['input']);
+    await listed('COT,TAR,TOE,EAR,ATE,CUT,TEA,ARE');
+    await pointedAt('COT');
+    await slideLeast(11);
+    await listed('COT,TAR,TOE,EAR,ATE,CUT,TEA,ARE,OAR');
+    await pointedAt('COT');
+    await browser.press('Shift+Delete');
+    await page.statusIs(/COT is hidden/);
+    await browser.click('#cell-1-1');
+    await browser.type('cot');
+    await browser.until("/^COT is hidden in this puzzle/.test(document.getElementById('standing').textContent)");
+    // it stays over a reload, and the puzzle has none of it
+    await isDrafted(/strike COT[^]*set 1 3 T/);
+    expect(!(await browser.value('/least/.test(window.drafts())')), 'the puzzle has the least score');
+    await reload();
+    await page.factsAre(/scored.txt, 9 of 10 words/);
+    expect((await browser.value("document.getElementById('least').value")) === '11', 'the least score is lost');
+    // a search is not disturbed
+    await beginBlank(3, 3);
+    await holdFill();
+    await browser.press('Control+f');
+    await browser.until("!document.getElementById('stop').hidden && window.heldFill");
+    await slideLeast(70);
+    await page.statusIs(/a fill is running/);
+    expect((await browser.value("document.getElementById('least').value")) === '11', 'the slider does not go back');
+    await browser.press('Escape');
+    await browser.value('window.heldFill()');
+    await page.statusIs(/^stopped/);
+    await menu('built-in');
+    await page.factsAre(/built-in list/);
+  },
+
+  async 'scores above 100'() {
+    writeFileSync(join(room, 'high.txt'), 'cat;250\ncot;125\ncut;124\near;3\n');
+    await openFile(join(room, 'high.txt'));
+    await page.factsAre(/high.txt, 4 words/);
+    await beginBlank(3, 1);
+    await slideLeast(50);
+    await page.statusIs(/^2 of 4 words have 125 or more$/);
+    await browser.until("[...document.querySelectorAll('#candidates li')].map((row) => `${row.dataset.word} ${row.querySelector('.score').textContent}`).join() === 'CAT 250,COT 125'");
+    await browser.type('cut');
+    await browser.until("/^CUT \\(124\\) is below your least score, 125/.test(document.getElementById('standing').textContent)");
+    await menu('built-in');
+    await page.factsAre(/built-in list/);
+  },
+};
+
+await runAlone(import.meta.url, { CASES });

@@ -1,0 +1,217 @@
+// Cases of the page as a whole: browsers, screens, messages and failures.
+import { begin } from '../doing.mjs';
+import { changeEdit } from '../holding.mjs';
+import { PAGE, browser, expect, page, picture, reload, runAlone } from '../page.mjs';
+
+export const CASES = {
+  async 'a browser that cannot run the page'() {
+    const faults = { 'delete window.DecompressionStream': /cannot unpack the engine/, 'delete window.WebAssembly': /cannot run the engine/ };
+    for (const [source, pattern] of Object.entries(faults)) {
+      const unload = await browser.preload(source);
+      await browser.go(PAGE.href);
+      await browser.until(`(({ hidden, textContent }) => !hidden && ${pattern}.test(textContent) && /Firefox \\d+/.test(textContent))(document.getElementById('cannot'))`);
+      await picture('cannot');
+      await unload();
+    }
+    await reload();
+    expect(await browser.value("document.getElementById('cannot').hidden"), 'a browser that can run the page is refused');
+  },
+
+  async 'messages, and those before them'() {
+    await begin(6);
+    await browser.press('5');
+    await page.statusIs(/“5” does nothing here/);
+    await browser.press('Control+z');
+    await browser.until("!document.getElementById('redo').disabled");
+    await browser.press('Control+y');
+    await browser.until("document.getElementById('redo').disabled");
+    await browser.click('#messages');
+    await browser.until("!document.getElementById('history').hidden && /“5” does nothing here/.test(document.getElementById('history').textContent) && /a new puzzle/.test(document.getElementById('history').textContent)");
+    await picture('messages');
+    await browser.click('#messages');
+    await browser.until("document.getElementById('history').hidden");
+    await browser.click('#cell-2-2');
+    await browser.press('5');
+    await page.statusIs(/“5” does nothing here/);
+    await browser.click('#toast-close');
+    await browser.until("!document.getElementById('status').textContent && document.activeElement.id === 'grid'");
+  },
+
+  async 'a failure of the engine'() {
+    await begin(1);
+    await browser.type('rot');
+    await page.factsAre(/· 3 of/);
+    await changeEdit('set 1 4 E', "{ ...message, call: 'nonsense' }");
+    await browser.type('e');
+    await page.statusIs(/the engine failed/);
+    await page.factsAre(/· 3 of/);
+    expect((await page.row(1)).startsWith('ROT.'), `the grid is lost: ${await page.row(1)}`);
+    await browser.click('#cell-2-1');
+    await browser.type('a');
+    await browser.until("document.querySelector('#cell-2-1 .letter').textContent === 'A'");
+    await page.factsAre(/· 4 of/);
+  },
+
+  async 'a screen that is touched'() {
+    await begin(1);
+    await browser.view(390, 844, { isTouched: true });
+    try {
+      await browser.tap('#cell-1-1');
+      await browser.until("document.activeElement.id === 'typing'");
+      await browser.insert('ro');
+      await page.cursorAt('1-3');
+      await browser.until("document.querySelector('#cell-1-2 .letter').textContent === 'O'");
+      await browser.erase();
+      await page.cursorAt('1-2');
+      await browser.until("document.querySelector('#cell-1-2 .letter').textContent === ''");
+      await browser.insert('A');
+      await browser.tap('#cell-1-1');
+      await browser.until("document.querySelector('#cell-1-1.cursor.across')");
+      await browser.tap('#cell-1-1');
+      await browser.until("document.querySelector('#cell-1-1.cursor.down')");
+      await browser.insert('re');
+      await page.cursorAt('3-1');
+      await browser.until("['1-1', '1-2', '2-1'].map((cell) => document.querySelector(`#cell-${cell} .letter`).textContent).join('') === 'RAE'");
+      await picture('touch');
+      await browser.until("document.querySelector('#candidates[aria-busy=false] li')");
+      const word = await browser.value("document.querySelector('#candidates li').dataset.word");
+      await browser.tap('#candidates li');
+      await browser.until(`document.querySelector('#cell-4-1 .letter').textContent === '${word[3]}'`);
+      await browser.until("document.activeElement.id === 'grid'");
+      // what is too large for the screen pans, to the cursor too
+      await browser.value("document.querySelector('[data-do=new]').click(), document.querySelector('#patterns .pattern:nth-child(7)').click()");
+      await page.factsAre(/^21 × 21/);
+      expect((await browser.value("document.getElementById('cell-1-1').offsetWidth")) >= 22, 'a cell is too small');
+      await browser.tap('#cell-1-1');
+      await browser.press('End');
+      await browser.press('Tab');
+      await browser.press('Tab');
+      await browser.until("(({ right }) => right <= innerWidth)(document.querySelector('.cursor').getBoundingClientRect())");
+      await picture('touch-21');
+    } finally {
+      await browser.view(1400, 900);
+    }
+  },
+
+  async 'sizes of type, of targets and of contrasts'() {
+    await begin(1);
+    await browser.type('to');
+    // colours as red, green and blue, and their contrast
+    const colours = `
+      const canvas = new OffscreenCanvas(1, 1).getContext('2d', { willReadFrequently: true });
+      const rgb = (colors) => { canvas.clearRect(0, 0, 1, 1); for (const color of colors) { canvas.fillStyle = color; canvas.fillRect(0, 0, 1, 1); } return [...canvas.getImageData(0, 0, 1, 1).data].slice(0, 3); };
+      const light = (color) => color.map((part) => part / 255).map((part) => (part <= 0.03928 ? part / 12.92 : ((part + 0.055) / 1.055) ** 2.4)).reduce((sum, part, at) => sum + part * [0.2126, 0.7152, 0.0722][at], 0);
+      const contrast = (colors, others) => { const [one, other] = [light(rgb(colors)), light(rgb(others))].sort((a, b) => b - a); return (one + 0.05) / (other + 0.05); };
+      const behind = (element) => { const colors = []; for (let one = element; one; one = one.parentElement) colors.unshift(getComputedStyle(one).backgroundColor); return colors; };`;
+    // text, and what lies behind it
+    const measure = () => browser.value(`(() => {
+      ${colours}
+      const faults = [];
+      for (const element of document.querySelectorAll('body *')) {
+        const text = [...element.childNodes].find((node) => node.nodeType === 3 && node.data.trim());
+        const { width, height } = element.getBoundingClientRect();
+        if (!text || !width || !height || element.closest('svg, .late, :disabled, option, .typing') || getComputedStyle(element).visibility === 'hidden') continue;
+        const style = getComputedStyle(element);
+        if (parseFloat(style.fontSize) < 12) faults.push(text.data + ' has ' + style.fontSize);
+        const told = contrast([...behind(element), style.color], behind(element));
+        if (told < 4.5) faults.push(text.data + ' has a contrast of ' + told.toFixed(2));
+      }
+      return faults;
+    })()`);
+    // What carries meaning without being text: colours of cells, and of marks in cells, each beside what it stands out from.
+    const meanings = () => browser.value(`(() => {
+      ${colours}
+      const cell = document.createElement('div');
+      document.querySelector('#grid .row').append(cell);
+      const root = getComputedStyle(document.documentElement);
+      const of = (name) => { cell.className = 'cell ' + name; const { backgroundColor, backgroundImage, boxShadow } = getComputedStyle(cell); return { color: backgroundColor, mark: (backgroundImage + boxShadow).match(/(rgba?|color|oklab)\\([^)]*\\)/g)?.find((one) => !/^rgba.*, 0\\)$/.test(one)) }; };
+      const pairs = Array.from({ length: 8 }, (_, at) => ['shade-' + (at + 1), of('shade-' + (at + 1))]).map(([name, { color, mark }]) => [name, mark, color]);
+      for (const name of ['dead', 'waiting', 'unmatched', 'chosen', 'within', 'reason', 'cursor', 'weak-across', 'weak-down']) { const { color, mark } = of(name); if (mark) pairs.push([name, mark, color]); }
+      pairs.push(['block', of('block').color, of('').color], ['bar', root.getPropertyValue('--ink'), of('').color], ['band', root.getPropertyValue('--cursor'), of('').color]);
+      for (const name of ['accent', 'edge', 'reason', 'good', 'few-mark']) pairs.push([name, root.getPropertyValue('--' + name), root.getPropertyValue('--panel')]);
+      const spans = ['number', 'letter'].map((className) => cell.appendChild(Object.assign(document.createElement('span'), { className })));
+      const texts = ['', 'pencil', 'only', 'reason', 'dead', 'unmatched', 'waiting', 'faulty', 'chosen', 'cursor', 'shade-8'].flatMap((name) => spans.map((span) => {
+        const { color } = of(name);
+        const ink = getComputedStyle(span).color;
+        // alone, in the light of the cursor, in the one that crosses it, and in both
+        return [[], [root.getPropertyValue('--band')], [root.getPropertyValue('--crossing-band')], [root.getPropertyValue('--band'), root.getPropertyValue('--crossing-band')]]
+          .map((bands) => [name + ' ' + span.className + ' under ' + bands.length, contrast([color, ink, ...bands], [color, ...bands])]);
+      })).flat();
+      cell.remove();
+      return { texts, marks: pairs.filter(([, mark]) => mark).map(([name, one, other]) => [name, contrast([other, one], [other])]) };
+    })()`);
+    for (const scheme of ['light', 'dark']) {
+      await browser.scheme(scheme);
+      const { marks, texts } = await meanings();
+      const weak = [...marks.filter(([, contrast]) => contrast < 3), ...texts.filter(([, contrast]) => contrast < 4.5)];
+      expect(marks.length >= 20 && texts.length >= 80 && !weak.length, `${scheme}: ${marks.length} marks; ${weak.map(([name, contrast]) => `${name} ${contrast.toFixed(2)}`).join(', ')}`);
+      for (const tab of ['words', 'clues', 'puzzle']) {
+        await browser.click(`#tab-${tab}`);
+        await browser.until("!document.querySelector('.late')");
+        const faults = await measure();
+        expect(!faults.length, `${scheme}, ${tab}: ${faults.slice(0, 5).join('; ')}`);
+      }
+    }
+    // the dialogs, light and dark
+    const opened = async (name, action) => {
+      await browser.value(`document.querySelector('[data-do=${name}]').click()`);
+      await browser.until("document.querySelector('dialog[open]')");
+      await action(name);
+      await browser.value("document.querySelector('dialog[open]').close()");
+    };
+    const dialogs = ['new', 'themes', 'library', 'print', 'help'];
+    for (const scheme of ['dark', 'light']) {
+      await browser.scheme(scheme);
+      for (const name of dialogs) await opened(name, async () => {
+        const faults = await measure();
+        expect(!faults.length, `${scheme}, ${name}: ${faults.slice(0, 5).join('; ')}`);
+      });
+    }
+    // what a finger has to hit, and what does not fit on the screen
+    const small = async (where) => {
+      const found = await browser.value(`(() => {
+        const targets = [...document.querySelectorAll('button, select, summary, textarea, #candidates li, label:has([type=checkbox], [type=radio]), input:not([type=range], [type=radio], [type=checkbox], #typing)')];
+        const shown = targets.filter((one) => one.offsetWidth && getComputedStyle(one).visibility === 'visible' && (!document.querySelector('dialog[open]') || one.closest('dialog[open]')));
+        const least = shown.map((one) => [one.id || one.className || one.textContent, one.offsetWidth, one.offsetHeight]).filter(([, width, height]) => width < 44 || height < 44);
+        return [...least.map((one) => one.join(' ')), ...(document.documentElement.scrollWidth > innerWidth ? ['the page is ' + document.documentElement.scrollWidth + ' wide'] : [])];
+      })()`);
+      expect(!found.length, `${where}: too small for a finger: ${found.slice(0, 6).join('; ')}`);
+    };
+    // a clue can be read where it is written
+    await browser.view(1280, 800);
+    await browser.click('#tab-clues');
+    await browser.until("document.querySelector('#clue-list input').offsetWidth >= 300 && document.getElementById('grid').offsetHeight > 660");
+    await browser.click('#tab-words');
+    for (const [width, height] of [[390, 844], [820, 1180]]) {
+      await browser.view(width, height, { isTouched: true });
+      try {
+        await browser.until("parseFloat(getComputedStyle(document.querySelector('.cell .number')).fontSize) >= 12 && document.querySelector('.cell').offsetWidth >= 22");
+        // what is below a letter, or else at the foot of the cell, is in sight
+        const isFaultShown = `(() => {
+          const cell = document.querySelector('#grid .row:nth-child(2)').appendChild(Object.assign(document.createElement('div'), { className: 'cell faulty', innerHTML: '<span class="letter">A</span>' }));
+          const shadowOf = (className) => Object.assign(cell, { className }) && getComputedStyle(cell).boxShadow;
+          const isUnderlined = getComputedStyle(cell.firstChild).textDecorationLine === 'underline';
+          const isShown = (isUnderlined || shadowOf('cell faulty') !== 'none') && shadowOf('cell faulty reason') === shadowOf('cell reason') && isUnderlined === cell.offsetHeight >= 30;
+          cell.remove();
+          return isShown;
+        })()`;
+        expect(await browser.value(isFaultShown), `${width}: the mark of a word that is not in the list is not shown`);
+        for (const tab of ['puzzle', 'clues', 'words']) {
+          await browser.value(`document.getElementById('tab-${tab}').click()`);
+          await small(`${width}, ${tab}`);
+        }
+        await browser.value("document.querySelector('[data-tool=block]').click()");
+        await small(`${width}, mode`);
+        await browser.value("document.querySelector('#mode button').click()");
+        for (const name of dialogs) await opened(name, () => small(`${width}, ${name}`));
+      } finally {
+        await browser.view(1400, 900);
+      }
+    }
+  },
+};
+
+// What cases need that not every browser can do.
+export const NEEDS = { 'a screen that is touched': ['touch'], 'sizes of type, of targets and of contrasts': ['touch', 'scheme'] };
+
+await runAlone(import.meta.url, { CASES, NEEDS });

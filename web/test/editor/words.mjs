@@ -1,0 +1,285 @@
+// Cases of the tab of words: candidates, crossings, and what is said of words.
+import { writeFileSync } from 'node:fs';
+import { join } from 'node:path';
+import { Xw } from '../../dist/xw.js';
+import { PATTERNS, recordOf, rowsOf } from '../../editor/patterns.js';
+import { begin, beginBlank, menu, openFile } from '../doing.mjs';
+import { isDrafted } from '../holding.mjs';
+import { LIST, PAGE, browser, expect, module, page, picture, ready, room, runAlone } from '../page.mjs';
+
+export const CASES = {
+  async 'candidates filtered and placed'() {
+    await begin(1);
+    await browser.press('/');
+    await browser.until("document.activeElement.id === 'filter' && document.querySelectorAll('#candidates[aria-busy=false] li').length > 100");
+    await browser.type('?a*e');
+    await browser.until("[...document.querySelectorAll('#candidates li')].every((row) => /^.A/.test(row.dataset.word))");
+    await browser.until("document.querySelector('#candidates .left')");
+    await picture('candidates');
+    await browser.press('ArrowDown');
+    await browser.press('ArrowDown');
+    const word = await browser.value("document.querySelector('#candidates [aria-selected=true]').dataset.word");
+    await browser.press('Enter');
+    await browser.until(`document.getElementById('cell-1-4').textContent.includes('${word[3]}')`);
+    expect((await page.row(1)).startsWith(word), `${word} is not placed`);
+    await browser.until("document.activeElement.id === 'grid'");
+    await browser.press('Tab');
+    await browser.until("document.querySelector('#light-name').textContent === '5 Across' && document.querySelector('#candidates[aria-busy=false] li:nth-child(3)')");
+    const other = await browser.value("document.querySelector('#candidates li:nth-child(3)').dataset.word");
+    await browser.click('#candidates li:nth-child(3)');
+    await browser.until(`document.getElementById('cell-1-6').textContent.includes('${other[0]}')`);
+    await browser.click('#cell-2-2');
+    await browser.until("document.getElementById('cell-coordinates').textContent === 'Row 2, column 2' && document.querySelector('#letters[aria-busy=false] button')");
+    const letter = await browser.value("document.querySelector('#letters button').dataset.letter");
+    await browser.click('#letters button');
+    await browser.until(`document.querySelector('#cell-2-2 .letter').textContent === '${letter}'`);
+  },
+
+  async 'filters of the candidates'() {
+    await begin(1);
+    await browser.press('/');
+    await browser.until("document.querySelectorAll('#candidates[aria-busy=false] li').length > 100");
+    const words = LIST.toUpperCase().split('\n').filter((word) => word.length === 4);
+    const shown = () => browser.value("[...document.querySelectorAll('#candidates li')].map((row) => row.dataset.word)");
+    const cases = {
+      'q??t': /^Q..T$/, '*zz*': /ZZ/, '[aeiou]?[xyz]*': /^[AEIOU].[XYZ]/, '/.*(oo|ee).*/': /OO|EE/, '/q.+/': /^Q/,
+    };
+    for (const [typed, pattern] of Object.entries(cases)) {
+      await browser.value("document.getElementById('filter').value = ''");
+      await browser.insert(typed);
+      // the words of the empty grid that have a fill are most of the list
+      await browser.until(`(() => { const words = [...document.querySelectorAll('#candidates li')].map((row) => row.dataset.word); return words.length > 0 && words.every((word) => ${pattern}.test(word)); })()`);
+      expect((await shown()).every((word) => words.includes(word)), 'a word is not of the list');
+    }
+    await browser.value("document.getElementById('filter').value = ''");
+    await browser.insert('@tops');
+    const anagrams = words.filter((word) => [...word].sort().join('') === 'OPST').sort();
+    await browser.until(`[...document.querySelectorAll('#candidates li')].map((row) => row.dataset.word).sort().join() === '${anagrams}'`);
+    // words that are equal come in no order that the alphabet gives, unless it is asked for
+    await browser.value("document.getElementById('filter').value = ''");
+    await browser.insert('*s*');
+    await browser.until("(({ length }) => length > 50)(document.querySelectorAll('#candidates li')) && [...document.querySelectorAll('#candidates li')].every((row) => row.dataset.word.includes('S'))");
+    const isSorted = (list) => list.join() === [...list].sort().join();
+    expect(!isSorted(await shown()), 'the words come in the order of the alphabet');
+    await browser.value("document.getElementById('order').value = 'abc', document.getElementById('order').dispatchEvent(new Event('change'))");
+    expect(isSorted(await shown()), 'the words are not sorted');
+    await browser.value("document.getElementById('order').value = 'list', document.getElementById('order').dispatchEvent(new Event('change'))");
+  },
+
+  async 'the lights that cross one'() {
+    await begin(1);
+    await browser.type('toe');
+    await page.cursorAt('1-4');
+    const shown = "[...document.querySelectorAll('#crossings .crossing')].map((row) => row.innerText.replaceAll(/\\s+/g, ' '))";
+    const xw = Xw.open(module, { list: LIST, record: recordOf(rowsOf(PATTERNS[0]), 'half') });
+    [...'TOE'].forEach((letter, at) => xw.line(`set 1 ${at + 1} ${letter}`));
+    const counts = xw.line('counts').lines.map((line) => line.split(' ')).filter(([number, direction]) => Number(number) <= 4 && direction === 'down');
+    const wanted = counts.map(([number, , count]) => `${number} Down ${'TOE'[number - 1] ?? '·'}······ ${Number(count).toLocaleString('en')}`);
+    await browser.until(`${shown}.join() === ${JSON.stringify(wanted.join())}`);
+    await picture('crossings');
+    await browser.click('#crossings .crossing:nth-child(2)');
+    await browser.until("document.getElementById('light-name').textContent === '2 Down' && document.querySelector('#crossings .crossing').innerText.includes('TOE·')");
+    await page.cursorAt('1-2');
+  },
+
+  async 'other words for a light that is entered'() {
+    await begin(6);
+    await browser.press('Control+f');
+    await page.statusIs(/^filled/);
+    const before = await page.rows();
+    await browser.click('#cell-2-1');
+    if (await page.has('2-1', 'down')) await browser.press('Enter');
+    await browser.until("/fit/.test(document.getElementById('light-summary').textContent) && document.querySelector('#candidates[aria-busy=false]')");
+    expect((await page.rows()).join() === before.join(), 'the grid has changed');
+    await browser.until("document.getElementById('legend').textContent.startsWith('beside a word')");
+    const shown = await browser.value(`(({ bottom }) => [...document.querySelectorAll('#candidates li')].map((row) =>
+      [row.dataset.word, row.className, row.querySelector('.left').title.replace('changes ', ''), row.getBoundingClientRect().bottom < bottom]))(document.getElementById('candidates').getBoundingClientRect())`);
+    const isOther = ([, name]) => /needs/.test(name);
+    expect(!shown.some(([word]) => word === before[1]), 'the word that stands is among its alternatives');
+    // each is as the engine says of the grid without the light, and then without what is in pencil
+    const blocks = ['size 5 5', ...[[1, 1], [1, 5], [5, 1], [5, 5]].map((cell) => `block ${cell.join(' ')}`)];
+    const grid = (isStanding) => [...blocks, ...before.flatMap((row, at) => [...row].flatMap((letter, column) => (letter !== '#' && at !== 1 && isStanding(column) ? [`set ${at + 1} ${column + 1} ${letter}`] : [])))];
+    const over = (isStanding) => Xw.open(module, { list: LIST, record: `${grid(isStanding).join('\n')}\n` });
+    const wordsOver = (isStanding) => over(isStanding).line('words 4 across').lines.slice(1);
+    const fit = wordsOver(() => true).filter((word) => word !== before[1]);
+    expect(shown.filter((row) => !isOther(row)).map(([word]) => word).sort().join() === fit.sort().join(), `these fit: ${fit}; shown: ${shown.map(([word]) => word)}`);
+    const wide = new Set(wordsOver(() => false));
+    const others = shown.filter(isOther);
+    expect(others.length > 0 && others.every(([word, , needs]) => wide.has(word) && /^\d+D|all crossings/.test(needs)), `others: ${others}`);
+    // a word that needs others changed is a dead end if a light has no word when their letters are gone
+    const columnOf = new Map(['4', '1', '2', '3', '5'].map((number, at) => [`${number}D`, at]));
+    const isDeadEnd = (word, needs) => {
+      const gone = needs === 'all crossings' ? [0, 1, 2, 3, 4] : needs.split(' ').map((name) => columnOf.get(name));
+      const xw = over((column) => !gone.includes(column));
+      xw.line(`place 4 across ${word}`);
+      const open = xw.line('lights').lines.map((line) => line.slice(line.lastIndexOf(' ')).includes('.'));
+      return Math.min(...xw.line('counts').lines.filter((_, at) => open[at]).map((line) => Number(line.split(' ')[2]))) === 0;
+    };
+    const inSight = others.filter(([, , , isInSight]) => isInSight);
+    for (const [word, name, needs] of inSight) expect(isDeadEnd(word, needs) === /dead/.test(name), `${word} ${name}, which changes ${needs}`);
+    expect(inSight.length > 0 && inSight.every(([, name]) => /dead/.test(name)) === false, `all are dead ends: ${inSight}`);
+    await picture('alternatives');
+    const [[word, , needs]] = others;
+    await browser.click(`#candidates [data-word=${word}]`);
+    await browser.until(`[...document.querySelectorAll('[id^="cell-2-"]')].map((cell) => cell.querySelector('.letter').textContent).join('') === '${word}'`);
+    expect((await page.rows()).some((row) => row.includes('.')), `no letter of ${needs} is cleared`);
+    await browser.press('Control+z');
+    await page.factsAre(/filled/);
+    expect((await page.rows()).join() === before.join(), 'undo does not lead back');
+  },
+
+  async 'other words that are dead ends'() {
+    const list = ['baa', 'bcd', 'aab', 'acd', 'dcb', 'dac', 'cda'];
+    writeFileSync(join(room, 'seven.txt'), list.join('\n'));
+    await openFile(join(room, 'seven.txt'));
+    await page.factsAre(/seven.txt, 7 words/);
+    await beginBlank(3, 3);
+    await browser.type('acd');
+    // what the engine says when each is entered
+    const left = (word) => {
+      const xw = Xw.open(module, { list: list.join('\n'), record: 'size 3 3\n' });
+      xw.line(`place 1 across ${word}`);
+      return Math.min(...xw.line('counts').lines.slice(1).map((line) => Number(line.split(' ')[2])));
+    };
+    const wanted = list.filter((word) => word !== 'acd').map((word) => `${word.toUpperCase()} ${left(word) || 'dead end'}`).sort();
+    expect(wanted.filter((line) => /dead/.test(line)).length === 2, `the engine says ${wanted}`);
+    await browser.until(`[...document.querySelectorAll('#candidates li')].map((row) => \`\${row.dataset.word} \${row.querySelector('.left').textContent}\`).sort().join() === '${wanted}'`);
+    expect((await page.count('#candidates li.dead')) === 2 && (await page.count('#candidates li.needs')) === 0, 'the dead ends are not struck through');
+    expect((await page.row(1)) === 'ACD' && (await page.row(2)) === '...', `the grid is ${await page.rows()}`);
+    await picture('dead-alternatives');
+    // the grid is as it was to the engine too
+    await browser.click('#candidates [data-word=BCD]');
+    await browser.until("document.querySelector('#cell-1-1 .letter').textContent === 'B'");
+    expect((await page.row(1)) === 'BCD', `the row is ${await page.row(1)}`);
+    // where there is no other word, that is said in place of a list
+    writeFileSync(join(room, 'one-word.txt'), 'cat');
+    await openFile(join(room, 'one-word.txt'));
+    await page.factsAre(/one-word.txt, 1 word/);
+    await beginBlank(3, 1);
+    await browser.type('cat');
+    await browser.until("document.getElementById('candidates').hidden && document.getElementById('legend').textContent === 'no other word of your lists fits here'");
+    await menu('built-in');
+    await page.factsAre(/built-in list/);
+  },
+
+  async 'a word that is not in the list, where it stands'() {
+    await begin(6);
+    await browser.type('zzq');
+    await browser.until("document.querySelectorAll('.cell.faulty').length === 3");
+    await browser.until("/^ZZQ is not in your lists/.test(document.getElementById('standing').textContent)");
+    await picture('unlisted');
+    await browser.click('#standing button:nth-of-type(2)');
+    await browser.until("document.getElementById('standing').hidden && !document.querySelector('.cell.faulty')");
+    await browser.click('#cell-1-2');
+    if (await page.has('1-2', 'down')) await browser.press('Enter');
+    await browser.type('zzq');
+    await browser.until("/^ZZQ/.test(document.getElementById('standing').textContent) && document.querySelector('#candidates[aria-busy=false]')");
+    await browser.click('#standing button:nth-of-type(1)');
+    await page.statusIs(/ZZQ is added/);
+    await browser.until("document.getElementById('standing').hidden && !document.querySelector('.cell.faulty')");
+    // done is said when nothing is left
+    await menu('new');
+    await browser.value("document.getElementById('new-width').value = 3, document.getElementById('new-height').value = 1");
+    await browser.click('#new-blank');
+    await page.factsAre(/^3 × 1/);
+    await browser.type('qqz');
+    await browser.until("/QQZ/.test(document.getElementById('standing').textContent)");
+    await browser.press('Control+j');
+    await page.statusIs(/every light is entered, but QQZ is not in your lists: 1 Across/);
+    await browser.click('#standing button:nth-of-type(1)');
+    await browser.until("document.getElementById('standing').hidden");
+    await browser.press('Control+j');
+    await page.statusIs(/every light is entered; one has no clue yet/);
+  },
+
+  async 'words added and struck, repeats and unlisted words'() {
+    await begin(6);
+    await browser.type('zzq');
+    await page.cursorAt('1-4');
+    await browser.press('F4');
+    await browser.until("/ZZQ is not in your lists/.test(document.getElementById('checks').textContent)");
+    await picture('puzzle');
+    await browser.click('#checks [data-add=ZZQ]');
+    await page.statusIs(/ZZQ is added/);
+    await browser.until("!/ZZQ is not in your lists/.test(document.getElementById('checks').textContent)");
+    await browser.click('#cell-5-2');
+    await browser.type('zzq');
+    await browser.press('F4');
+    await browser.until("/ZZQ stands twice/.test(document.getElementById('checks').textContent)");
+    await browser.click('#changed [data-strike=ZZQ]');
+    await browser.until("/ZZQ is not in your lists/.test(document.getElementById('checks').textContent)");
+    await browser.click('#title');
+    await browser.value("document.getElementById('title').value = 'a → b', document.getElementById('title').dispatchEvent(new Event('change'))");
+    await page.statusIs(/“→” stays here and in .ipuz; a .puz gets: a -> b/);
+  },
+
+  async 'a key while choices are counted'() {
+    await begin(1);
+    // notes when an edit goes to the worker, and the answers that come back
+    await browser.value(`(() => {
+      const post = Worker.prototype.postMessage;
+      Worker.prototype.postMessage = function (message, transfer) {
+        window.engineWorker ??= this;
+        if (message.call === 'edit' && window.told) {
+          window.told.push('key');
+          window.keyId = message.id;
+        }
+        post.call(this, message, transfer);
+      };
+    })()`);
+    await browser.press('s');
+    await browser.until("document.querySelector('#candidates[aria-busy=false] .left') && !document.getElementById('legend').textContent.startsWith('counting')");
+    await browser.value(`(() => {
+      window.told = [];
+      window.engineWorker.addEventListener('message', ({ data }) => window.told.push(data.id));
+      // the first query keeps the worker busy until the key is there
+      for (const count of [400, ...Array(40).fill(40)]) window.engineWorker.postMessage({ id: 'choices', call: 'ask', sent: { line: \`choices 5 across \${count}\` } });
+      document.getElementById('grid').dispatchEvent(new KeyboardEvent('keydown', { key: 'p', bubbles: true, cancelable: true }));
+    })()`);
+    await browser.until("window.told.filter((id) => id === 'choices').length === 41");
+    const told = await browser.value('window.told');
+    const [sent, answered] = [told.indexOf('key'), told.indexOf(await browser.value('window.keyId'))];
+    const [ahead, behind] = [answered - sent - 1, told.length - answered - 1];
+    expect(sent >= 0 && ahead <= 2 && behind > 10, `${ahead} queries were answered ahead of the key, and ${behind} after it`);
+    await browser.go(PAGE.href);
+    await ready();
+    return `${ahead} of ${ahead + behind} queries that waited were answered ahead of the key`;
+  },
+
+  async 'a new puzzle while words are counted'() {
+    await browser.click('#tab-words');
+    await begin(1);
+    await browser.click('#cell-1-12');
+    await browser.until("document.getElementById('light-name').textContent === '10 Across'");
+    // the next count waits until the worker has the edit that takes the light away
+    await browser.value(`(() => {
+      const post = Worker.prototype.postMessage;
+      Worker.prototype.postMessage = function (message, transfer) {
+        if (message.call === 'probe' && !window.late) {
+          window.late = message;
+          this.addEventListener('message', ({ data }) => {
+            if (data.id === message.id) window.lateAnswer = data;
+          });
+          return;
+        }
+        post.call(this, message, transfer);
+        if (!window.late || !message.sent.lines?.some((line) => line.startsWith('size 5 5'))) return;
+        Worker.prototype.postMessage = post;
+        post.call(this, window.late);
+      };
+    })()`);
+    await browser.click('#cell-1-13');
+    await browser.until('window.late');
+    await menu('new');
+    await browser.click('.pattern:nth-child(6)');
+    await browser.until('window.lateAnswer');
+    expect(!(await browser.value('window.lateAnswer.fault')), 'the count fails');
+    await page.factsAre(/^5 × 5/);
+    await browser.type('a');
+    await isDrafted(/size 5 5[^]*set 1 2 A/);
+    expect(!/fail/.test(await page.status()), await page.status());
+    expect((await page.row(1)) === '#A..#', `the grid is ${await page.rows()}`);
+  },
+};
+
+await runAlone(import.meta.url, { CASES });

@@ -1,0 +1,201 @@
+// The built page in a headless browser, and how cases are run on it.
+//
+// Each file of web/test/editor/ has the cases of one subject, and can be run alone; web/test/editor.mjs runs them all:
+//
+//   node --experimental-websocket FILE [--firefox] [--pictures DIR] [--xw PROGRAM] [--slow MS] [CASE..]
+//
+// It needs web/dist/xw.html (./build web), Debian's packages chromium (with --firefox: firefox-esr), nodejs and wamerican, and a Node with
+// WebSocket (20.10 with the option above, or 22). With --xw the saved .puz is checked by the program. No case depends on time: each waits for what
+// the page shows or sends, and counts the work. With --slow the page gets each answer of the engine up to MS milliseconds late, at random, on a
+// slower processor: a case that fails then does depend on time. letters.mjs measures times. The last line is 'N passed, M failed'.
+import { createServer } from 'node:http';
+import { mkdirSync, mkdtempSync, readFileSync, realpathSync, rmSync, writeFileSync } from 'node:fs';
+import { tmpdir } from 'node:os';
+import { join } from 'node:path';
+import { fileURLToPath } from 'node:url';
+import { load } from '../dist/xw.js';
+import { Browser } from './browser.mjs';
+import { FirefoxBrowser } from './firefox-browser.mjs';
+
+const words = process.argv.slice(2);
+const option = (name) => {
+  const at = words.indexOf(name);
+  return at < 0 ? null : words.splice(at, 2)[1];
+};
+export const [pictures, program, slow] = [option('--pictures'), option('--xw'), Number(option('--slow'))];
+export const isFirefox = words.includes('--firefox') && words.splice(words.indexOf('--firefox'), 1).length > 0;
+const chosen = words;
+
+export const room = mkdtempSync(join(tmpdir(), 'xw-test-'));
+// Chromium has the page from disk. There each file has a store of its own in Firefox, which has it from a server.
+export const server = isFirefox ? await serve() : null;
+export const PAGE = server ? new URL(`http://localhost:${server.address().port}/xw.html`) : new URL('../dist/xw.html', import.meta.url);
+export const module = await load(readFileSync(new URL('../dist/xw.wasm', import.meta.url)));
+export const browser = await (isFirefox ? FirefoxBrowser : Browser).open();
+export const pause = (time) => new Promise((resolve) => setTimeout(resolve, time));
+// the words of the built-in list
+export const LIST = readFileSync('/usr/share/dict/american-english', 'latin1').split('\n').filter((word) => /^[a-z]{3,}$/.test(word)).join('\n');
+
+// A server of the page, and of an empty one.
+function serve() {
+  const dist = new URL('../dist/xw.html', import.meta.url);
+  const made = createServer(({ url }, response) => {
+    response.setHeader('Content-Type', 'text/html; charset=utf-8');
+    response.end(url === '/xw.html' ? readFileSync(dist) : '');
+  });
+  return new Promise((resolve) => made.listen(0, 'localhost', () => resolve(made)));
+}
+
+export function expect(isSo, what) {
+  if (!isSo) throw new Error(what);
+}
+
+// What the page shows.
+export const page = {
+  status: () => browser.value("document.getElementById('status').textContent"),
+  facts: () => browser.value("document.getElementById('facts').textContent"),
+  // the letters of the rows, with # for a block and . for no entry, all as they are at one moment
+  rows: () => browser.value(`[...document.querySelectorAll('#grid .row')].map((row) => [...row.querySelectorAll('.cell')].map((cell) => cell.classList.contains('block') ? '#' :
+    cell.classList.contains('only') ? '.' : cell.querySelector('.letter').textContent || '.').join(''))`),
+  row: async (row) => (await page.rows())[row - 1],
+  has: (cell, name) => browser.value(`document.getElementById('cell-${cell}').classList.contains('${name}')`),
+  count: (selector) => browser.value(`document.querySelectorAll(${JSON.stringify(selector)}).length`),
+  // waits for one of the messages since the last key, click or file, and returns it: others may take its place at once
+  statusIs: (pattern, tone = '') => browser.until(`window.messages().find(({ text, tone }) => ${pattern}.test(text) && (${!tone} || tone === '${tone}'))?.text`),
+  factsAre: (pattern) => browser.until(`${pattern}.test(document.getElementById('facts').textContent)`),
+  cursorAt: (cell) => browser.until(`document.querySelector('.cursor')?.id === 'cell-${cell}'`),
+};
+
+export async function picture(name) {
+  if (!pictures) return;
+  mkdirSync(pictures, { recursive: true });
+  for (const scheme of browser.lacks.has('scheme') ? ['light'] : ['light', 'dark']) {
+    if (!browser.lacks.has('scheme')) await browser.scheme(scheme);
+    await pause(120);
+    writeFileSync(join(pictures, `${name}-${scheme}.png`), await browser.picture());
+  }
+}
+
+// Notes the messages of the page, each as long as no key, click or file comes after it.
+const NOTES = `
+  window.said = [];
+  addEventListener('error', ({ message }) => { window.fault = message; });
+  for (const event of ['keydown', 'pointerdown', 'drop']) addEventListener(event, () => { window.said.length = 0; }, true);
+  new MutationObserver((records) => {
+    for (const { target, addedNodes } of records) if (target.id === 'status') for (const { textContent: text } of addedNodes) window.said.push({ text, tone: target.dataset.tone });
+  }).observe(document, { subtree: true, childList: true });
+  window.messages = () => window.said;
+  window.drafts = () => Object.keys(localStorage).filter((name) => name.startsWith('xw-editor/')).map((name) => localStorage.getItem(name)).join();`;
+
+// Gives the page the answers of its workers late, in order, each to all that listen at once.
+const SLOWLY = `
+  const listen = Worker.prototype.addEventListener;
+  const late = new WeakMap();
+  Worker.prototype.addEventListener = function (name, listener, ...more) {
+    if (name !== 'message') return listen.call(this, name, listener, ...more);
+    if (!late.has(this)) {
+      const { port1, port2 } = new MessageChannel();
+      let last = Promise.resolve();
+      const wait = () => new Promise((resolve) => setTimeout(resolve, Math.random() * ${slow}));
+      listen.call(this, name, ({ data }) => { last = last.then(wait).then(() => port1.postMessage(data)); });
+      port2.start();
+      late.set(this, port2);
+    }
+    late.get(this).addEventListener(name, listener, ...more);
+  };`;
+// how many times slower the processor is then
+const SLOWER = 3;
+
+export async function ready() {
+  await browser.until("window.fault || /words$|word list$/.test(document.getElementById('facts').textContent) || /cannot start/.test(document.getElementById('status').textContent)");
+  expect(!(await browser.value('window.fault')), `the page fails: ${await browser.value('window.fault')}`);
+}
+
+// Waits until the word lists that are in use are kept, so that the page can be left.
+export const areListsKept = () => browser.until("!document.querySelector('#lists[aria-busy=true]')");
+
+// Leaves the page for an empty one of the same origin, and takes all away that the browser keeps.
+export async function forget() {
+  await areListsKept();
+  const blank = join(room, 'blank.html');
+  writeFileSync(blank, '');
+  await browser.go(server ? new URL('blank.html', PAGE).href : `file://${blank}`);
+  await browser.value(`new Promise((resolve, reject) => {
+    localStorage.clear();
+    sessionStorage.clear();
+    const request = indexedDB.deleteDatabase('xw-editor');
+    request.onsuccess = () => resolve(true);
+    request.onerror = reject;
+  })`);
+}
+
+// The page as a first visitor finds it.
+export async function fresh() {
+  await forget();
+  await reload();
+}
+
+export async function reload() {
+  await areListsKept();
+  await browser.go(PAGE.href);
+  await ready();
+}
+
+async function run(name, action) {
+  try {
+    const told = await action();
+    expect(browser.faults.length === 0, `the console has: ${browser.faults.join('; ')}`);
+    console.log(`ok   ${name}${told ? `: ${told}` : ''}`);
+    return true;
+  } catch (error) {
+    console.log(`FAIL ${name}: ${error.message}; the status line: ${await page.status().catch(() => '')}`);
+    if (pictures) writeFileSync(join(pictures, 'failed.png'), await browser.picture());
+    browser.faults.length = 0;
+    // what the case left open, such as a dialog, is none of the next one
+    await reload().catch(() => {});
+    return false;
+  }
+}
+
+async function prepare() {
+  await browser.view(1400, 900);
+  if (!isFirefox) await browser.saveInto(room);
+  await browser.preload(NOTES);
+  if (slow) {
+    await browser.preload(SLOWLY);
+    await browser.send('Emulation.setCPUThrottlingRate', { rate: SLOWER });
+  }
+  if (pictures) mkdirSync(pictures, { recursive: true });
+}
+
+// Runs the cases of subjects, each subject on the page as a first visitor finds it, and ends the process. `NEEDS` of a subject has what its cases need
+// that not every browser can do.
+export async function runAll(subjects) {
+  let [passed, failed] = [0, 0];
+  try {
+    await prepare();
+    for (const { CASES, NEEDS = {} } of subjects) {
+      const isDue = (name) => (!chosen.length || chosen.some((part) => name.includes(part))) && !NEEDS[name]?.some((need) => browser.lacks.has(need));
+      const due = Object.keys(CASES).filter(isDue);
+      if (due.length) await fresh();
+      for (const name of due) {
+        if (await run(name, CASES[name])) passed++;
+        else failed++;
+      }
+    }
+  } catch (error) {
+    console.log(`FAIL ${error.stack}`);
+    failed++;
+  } finally {
+    await browser.close();
+    server?.close();
+    rmSync(room, { recursive: true, force: true });
+  }
+  console.log(`${passed} passed, ${failed} failed`);
+  process.exitCode = failed || !passed ? 1 : 0;
+}
+
+// Runs the cases of a subject if its file is the one that node was called with.
+export async function runAlone(url, subject) {
+  if (realpathSync(process.argv[1]) === fileURLToPath(url)) await runAll([subject]);
+}
