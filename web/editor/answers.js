@@ -111,6 +111,13 @@ export const match = (pattern) => query(`match ${pattern}`, (lines) => lines);
 // The feasible words of a light. The first line is their number.
 export const words = (light) => query(`words ${light}`, ([, ...found]) => found);
 
+// Many words as one text, which is posted to the page faster than a list.
+/** @param {string[]} list */
+export const packed = (list) => list.join('\n');
+
+/** @param {string} text */
+export const unpacked = (text) => (text ? text.split('\n') : []);
+
 // What each of the first words of a light leaves.
 export const choices = (light, most) => listed(`choices ${light} ${most}`, (word, left) => ({ word, left: left === 'done' ? left : Number(left) }));
 

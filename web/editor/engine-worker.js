@@ -313,10 +313,10 @@ const calls = {
     return ask(line);
   },
 
-  // The feasible words of a light, one on each line, with the scores of those that have one.
+  // The feasible words of a light, packed, with the scores of those that have one.
   words({ light }) {
     const words = asked(answers.words(light));
-    return { words: words.join('\n'), scores: scores.size ? words.map((word) => scores.get(word) ?? null) : null };
+    return { words: answers.packed(words), scores: scores.size ? words.map((word) => scores.get(word) ?? null) : null };
   },
 
   // The scores of words, or null for those that have none.

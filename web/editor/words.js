@@ -1,5 +1,5 @@
 // The tab of words: the candidates of the light under the cursor, and the letters of its cell.
-import { choices, match, tally } from './answers.js';
+import { choices, match, tally, unpacked } from './answers.js';
 import { filtered } from './filter.js';
 import { onceIdle, whenIdle } from './idle.js';
 import { refuse, refusalText } from './messages.js';
@@ -139,7 +139,7 @@ export class WordsView {
       const { words, scores } = await editor.engine.call('words', { light: light.name });
       if (turn !== this.#turn) return;
       const isDead = light.count === 0;
-      const told = isDead ? await this.#matches(light) : words.split('\n').filter(Boolean);
+      const told = isDead ? await this.#matches(light) : unpacked(words);
       if (turn !== this.#turn) return;
       this.#left = new Map();
       this.#isDead = isDead;

@@ -4,6 +4,7 @@
 //
 // The last line is 'N passed, M failed'.
 import { deepStrictEqual } from 'node:assert/strict';
+import { Count } from './count.mjs';
 import { pageModules } from './page-modules.mjs';
 
 const answers = await pageModules('answers');
@@ -46,20 +47,12 @@ const CHECKS = {
   'bars below': () => deepStrictEqual(gridOf(['- A', '=  ', 'B -']), { size: '2 2', told: '-= A B -' }),
   'a grid of one column': () => deepStrictEqual(gridOf(['A', '=', '-']), { size: '1 2', told: 'A= -' }),
   'the cells of a light': () => deepStrictEqual(answers.cellsOf({ ...down[2], row: 1, column: 3, letters: 'O.' }), [{ coordinates: '1 3', letter: 'O' }, { coordinates: '2 3', letter: '.' }]),
+  'words in one text': () => [[], ['AT'], ['AS', 'AT']].forEach((words) => deepStrictEqual(answers.unpacked(answers.packed(words)), words)),
   best: () => deepStrictEqual(answers.outcomeOf({ lines: ['filled', 'least 40', 'bound 41'], refusal: null }), { answer: 'filled', least: 40, bound: 41 }),
   'best without a fill': () => deepStrictEqual(answers.outcomeOf({ lines: ['limit', 'bound 81'], refusal: null }), { answer: 'limit', least: null, bound: 81 }),
   'a search that is refused': () => deepStrictEqual(answers.outcomeOf({ lines: [], refusal: 'NoLight' }), { answer: 'NoLight', least: null, bound: null }),
 };
 
-let [passed, failed] = [0, 0];
-for (const [name, check] of Object.entries(CHECKS)) {
-  try {
-    check();
-    passed++;
-  } catch (error) {
-    console.log(`FAIL ${name}: ${error.message}`);
-    failed++;
-  }
-}
-console.log(`${passed} passed, ${failed} failed`);
-process.exitCode = failed ? 1 : 0;
+const count = new Count();
+await count.runAll(CHECKS);
+count.end();

@@ -4,6 +4,7 @@
 //   node --experimental-websocket web/test/firefox.mjs
 //
 // It needs web/dist/xw.html (./build web) and Debian's package firefox-esr. The last line is 'N passed, M failed'.
+import { Count } from './count.mjs';
 import { FirefoxBrowser } from './firefox-browser.mjs';
 
 const PAGE = new URL('../dist/xw.html', import.meta.url).href;
@@ -80,20 +81,10 @@ async function raisedFill() {
   await firefox.until("/there is no fill/.test(document.getElementById('status').textContent)");
 }
 
-let [passed, failed] = [0, 0];
+const count = new Count();
 try {
-  for (const [name, test] of Object.entries(CASES)) {
-    try {
-      await test();
-      console.log(`ok   ${name}`);
-      passed++;
-    } catch (error) {
-      console.log(`FAIL ${name}: ${error.message}`);
-      failed++;
-    }
-  }
+  await count.runAll(CASES);
 } finally {
   await firefox.close();
 }
-console.log(`${passed} passed, ${failed} failed`);
-process.exitCode = failed || !passed ? 1 : 0;
+count.end();

@@ -6,6 +6,7 @@
 // The last line is 'N passed, M failed'.
 import { readFileSync } from 'node:fs';
 import { Xw, load } from '../dist/xw.js';
+import { Count } from './count.mjs';
 import { pageModules } from './page-modules.mjs';
 
 const { PATTERNS, Turns, checkWanted, gridFrom, mostUnchecked, recordOf, recordOfGrid, rowsOf } = await pageModules('themes', 'symmetry', 'patterns', 'barred');
@@ -143,16 +144,6 @@ const CASES = {
   },
 };
 
-let [passed, failed] = [0, 0];
-for (const [name, test] of Object.entries(CASES)) {
-  try {
-    const told = await test();
-    console.log(`ok   ${name}${told ? `: ${told}` : ''}`);
-    passed++;
-  } catch (error) {
-    console.log(`FAIL ${name}: ${error.message}`);
-    failed++;
-  }
-}
-console.log(`${passed} passed, ${failed} failed`);
-process.exitCode = failed ? 1 : 0;
+const count = new Count();
+await count.runAll(CASES);
+count.end();

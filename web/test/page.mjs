@@ -15,6 +15,7 @@ import { join } from 'node:path';
 import { fileURLToPath } from 'node:url';
 import { load } from '../dist/xw.js';
 import { Browser } from './browser.mjs';
+import { Count } from './count.mjs';
 import { FirefoxBrowser } from './firefox-browser.mjs';
 
 const words = process.argv.slice(2);
@@ -141,20 +142,20 @@ export async function reload() {
   await ready();
 }
 
-async function run(name, action) {
-  try {
-    const told = await action();
-    expect(browser.faults.length === 0, `the console has: ${browser.faults.join('; ')}`);
-    console.log(`ok   ${name}${told ? `: ${told}` : ''}`);
-    return true;
-  } catch (error) {
-    console.log(`FAIL ${name}: ${error.message}; the status line: ${await page.status().catch(() => '')}`);
-    if (pictures) writeFileSync(join(pictures, 'failed.png'), await browser.picture());
-    browser.faults.length = 0;
-    // what the case left open, such as a dialog, is none of the next one
-    await reload().catch(() => {});
-    return false;
-  }
+// Runs a case; the console of the page has no fault after it.
+async function checked(action) {
+  const told = await action();
+  expect(browser.faults.length === 0, `the console has: ${browser.faults.join('; ')}`);
+  return told;
+}
+
+// Why a case fails. What it left open, such as a dialog, is none of the next one.
+async function whyFailed({ message }) {
+  const status = await page.status().catch(() => '');
+  if (pictures) writeFileSync(join(pictures, 'failed.png'), await browser.picture());
+  browser.faults.length = 0;
+  await reload().catch(() => {});
+  return `${message}; the status line: ${status}`;
 }
 
 async function prepare() {
@@ -171,28 +172,23 @@ async function prepare() {
 // Runs the cases of subjects, each subject on the page as a first visitor finds it, and ends the process. `NEEDS` of a subject has what its cases need
 // that not every browser can do.
 export async function runAll(subjects) {
-  let [passed, failed] = [0, 0];
+  const count = new Count();
   try {
     await prepare();
     for (const { CASES, NEEDS = {} } of subjects) {
       const isDue = (name) => (!chosen.length || chosen.some((part) => name.includes(part))) && !NEEDS[name]?.some((need) => browser.lacks.has(need));
       const due = Object.keys(CASES).filter(isDue);
       if (due.length) await fresh();
-      for (const name of due) {
-        if (await run(name, CASES[name])) passed++;
-        else failed++;
-      }
+      for (const name of due) await count.run(name, () => checked(CASES[name]), whyFailed);
     }
   } catch (error) {
-    console.log(`FAIL ${error.stack}`);
-    failed++;
+    await count.run('the page', () => Promise.reject(error), async ({ stack }) => stack);
   } finally {
     await browser.close();
     server?.close();
     rmSync(room, { recursive: true, force: true });
   }
-  console.log(`${passed} passed, ${failed} failed`);
-  process.exitCode = failed || !passed ? 1 : 0;
+  count.end();
 }
 
 // Runs the cases of a subject if its file is the one that node was called with.
