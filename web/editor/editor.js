@@ -1,7 +1,7 @@
 // The session: edits go to the engine in order, and each is kept in a history of records.
 import { Engine } from './engine.js';
 import { gradeOf, usualWeak } from './grades.js';
-import { bodyOf, nearestText, parseRecord, transition, unescapeText } from './record.js';
+import { bodyOf, letterIn, nearestText, parseRecord, placeOf, transition, unescapeText } from './record.js';
 import { refusalText, refuse } from './messages.js';
 import { EditorState, NO_REASON, newPuzzleName, only } from './state.js';
 import { whenIdle } from './idle.js';
@@ -202,12 +202,12 @@ export class Editor extends EditorState {
 
   // Takes a line `set R C L` or `clear R C`, and returns the index of the cell. What was typed there since stays.
   #takeLetter(line) {
-    const [, row, column, letter = ''] = line.split(' ');
-    const index = this.board.index(Number(row), Number(column));
-    const isSame = (other) => other === `clear ${row} ${column}` || other.startsWith(`set ${row} ${column} `);
-    const isLater = this.#due.some((lines, at) => at > 0 && lines?.some(isSame));
+    const [coordinates, letter] = letterIn(line);
+    const [row, column] = placeOf(coordinates);
+    const index = this.board.index(row, column);
+    const isLater = this.#due.some((lines, at) => at > 0 && lines?.some((other) => other === `clear ${coordinates}` || other.startsWith(`set ${coordinates} `)));
     if (!isLater) this.board.cells[index].letter = letter;
-    this.#takeInk(`${row} ${column}`);
+    this.#takeInk(coordinates);
     return index;
   }
 

@@ -88,7 +88,7 @@ function takeLine(state, line) {
       state.circles.add(rest);
       break;
     case 'set':
-      state.letters.set(...entryIn(rest));
+      state.letters.set(rest.slice(0, -2), rest.slice(-1));
       break;
     case 'text':
     case 'more':
@@ -113,11 +113,12 @@ function takeText(texts, name, rest) {
 // The lines of a record that enter letters.
 export const lettersOf = (record) => record.split('\n').filter((line) => line.startsWith('set '));
 
-// What such a line enters: the coordinates of a cell, and its letter.
-export const letterIn = (line) => entryIn(line.slice('set '.length));
-
+// What a line `set R C L` or `clear R C` enters: the coordinates of a cell, and its letter or ''.
 /** @returns {[string, string]} */
-const entryIn = (rest) => [rest.slice(0, -2), rest.slice(-1)];
+export function letterIn(line) {
+  const [, row, column, letter = ''] = line.split(' ');
+  return [`${row} ${column}`, letter];
+}
 
 // The row and the column of coordinates.
 export const placeOf = (coordinates) => coordinates.split(' ').map(Number);
