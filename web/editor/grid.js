@@ -81,6 +81,7 @@ export class GridView {
   draw() {
     const { board, chosen } = this.#editor;
     this.#undrawn.clear();
+    this.#wasBlank = this.isBlank;
     this.#isOpenGrid = board.isOpenGrid || (this.#editor.waits && board.isSparse);
     if (!chosen.size) this.#anchor = this.#far = null;
     if (this.#cells.length !== board.cells.length || this.width !== board.width) this.#make(board);
@@ -227,6 +228,7 @@ export class GridView {
     element.style.height = cells(rows);
   }
 
+  // whether the grid was empty when it was drawn
   #wasBlank = true;
 
   // Shows what a transaction changed.
@@ -236,7 +238,6 @@ export class GridView {
     const { letters } = changes;
     // cells without a letter left look other once there is an entry
     const isTurned = Boolean(letters) && this.isBlank !== this.#wasBlank;
-    if (letters) this.#wasBlank = this.isBlank;
     if (letters) this.#drawUndrawn();
     if (isTurned || ['board', 'reason', 'unmatched'].some((name) => name in changes)) this.draw();
     else for (const index of this.#changedBy(transaction)) if (this.#cells[index]) this.paint(index);

@@ -1,7 +1,6 @@
 // The word lists in use: their changes, one after another, the least score, and what is said of them.
 import { whyNotKept } from './keep.js';
 import { LeastView, leftOf } from './least.js';
-import { Lists } from './lists.js';
 import { ListsView } from './lists-view.js';
 import { endWarning, refusalText, refuseAsIs, say, sayAsIs, warn } from './messages.js';
 import { $ } from './page.js';
@@ -12,7 +11,7 @@ const MOST_FORMER = 10;
 export class ListsInUse {
   /** @type {import('./editor.js').Editor} */
   #editor;
-  /** @type {Lists} */
+  /** @type {import('./lists.js').Lists} */
   #lists;
   // the lists before each change, the last one at the end
   #former = [];
