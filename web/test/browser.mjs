@@ -283,12 +283,20 @@ export class Browser {
     const ended = exitCode === null && signalCode === null ? new Promise((resolve) => this.#process.on('exit', resolve)) : null;
     this.send('Browser.close').catch(() => this.#process.kill());
     await ended;
-    removeFolder(this.#folder);
+    await removeFolder(this.#folder);
   }
 }
 
-// Removes a folder of a browser that has ended. Its helpers may write into it a moment longer.
-export const removeFolder = (folder) => rmSync(folder, { recursive: true, force: true, maxRetries: 50, retryDelay: LOOKS_EACH });
+// Removes a folder of a browser that has ended. Its helpers may write into it a moment longer, and another try finds what they wrote.
+export async function removeFolder(folder, tries = 50) {
+  try {
+    rmSync(folder, { recursive: true, force: true });
+  } catch (fault) {
+    if (tries === 0) throw fault;
+    await new Promise((resolve) => setTimeout(resolve, LOOKS_EACH));
+    await removeFolder(folder, tries - 1);
+  }
+}
 
 // The keys that the page takes wherever the focus is.
 const ANYWHERE = /^(F\d+|Escape)$|^(Control|Alt)\+/;

@@ -226,6 +226,6 @@ export class FirefoxBrowser {
     const ended = exitCode === null && signalCode === null ? new Promise((resolve) => this.process.on('exit', resolve)) : null;
     this.process.kill();
     await ended;
-    for (const folder of [this.folder, this.downloads]) removeFolder(folder);
+    for (const folder of [this.folder, this.downloads]) await removeFolder(folder);
   }
 }
