@@ -268,8 +268,7 @@ fn is_joined(grid: &Grid, direction: Direction, cell: Cell) -> bool
         Direction::Across => Side::Right,
         Direction::Down => Side::Below,
     };
-    grid.well_formed();
-    grid.is_open(cell) && grid.is_open(step(direction, cell, 1)) && !grid.is_barred(cell, side)
+    grid.joins(cell, side)
 }
 
 fn previous(direction: Direction, cell: Cell) -> Cell

@@ -32,6 +32,7 @@ mod spread;
 mod support;
 mod tally;
 mod touch;
+mod urgent;
 mod worklist;
 
 pub use change::Change;

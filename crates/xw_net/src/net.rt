@@ -178,7 +178,7 @@ impl Net {
         let slot = 2 * cell + side(&board.light(light));
         let pending = self.pending[slot];
         self.pending[slot] = pending.with(gone);
-        self.queue.insert(light);
+        self.queue.insert_urgent(light, true);
     }
 
     /// Removes all letters of a cell, and makes them pending for the crossing light. `_first` is one
@@ -372,6 +372,9 @@ impl Net {
                     best = at;
                     fewest = words;
                 }
+                if words == 0 {
+                    return best;
+                }
             }
         }
         best
@@ -381,6 +384,9 @@ impl Net {
     /// words removes most letters, so it comes first, unless the lights are processed in turn. This decides
     /// the order of stripping only, so the contract promises nothing.
     fn index_of_next(&self, last: usize, in_turn: bool) -> usize {
+        if self.queue.has_urgent() {
+            return last;
+        }
         if in_turn {
             let next = last.saturating_add(1);
             if next < self.queue.len() { next } else { 0 }

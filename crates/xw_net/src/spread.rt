@@ -150,7 +150,7 @@ fn bring_words(
     bring_row(base, light, rows);
     entered[light] = has_all_entries(board, &board.light(light));
     restart_light(board, light, restart);
-    queue.insert(light);
+    queue.insert_urgent(light, rows[light].count() == 0);
 }
 
 /// Puts words and letters back along the chain that starts at the marked lights: all base words of

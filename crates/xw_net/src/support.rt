@@ -38,7 +38,7 @@ fn first_support<R: Rows>(
 
 /// Removes from the row the words that have a pending letter at the position. If fewer letters are
 /// left than are pending, it keeps the words with one of the letters left instead, which reads
-/// fewer columns.
+/// fewer columns. If no letter is left, no word is.
 fn strike_words<R: Rows>(
     rows: &mut R,
     row: &mut BitRow,
@@ -55,6 +55,10 @@ fn strike_words<R: Rows>(
     ensures room { row.new.room ≡ row.old.room }
     ensures cost { R.ticks rows.new ≤ R.ticks rows.old + chunks_of (length row.old.bits) * letter_count pending }
 {
+    if alive.is_same(LetterSet::new()) {
+        row.clear();
+        return;
+    }
     if alive.len() < pending.len() {
         rows.keep_columns(len, position, alive, row);
     } else {

@@ -3,6 +3,7 @@ ghost use Rattle.std.specs.Prelude.{◌≡◌, ◌+◌, ◌*◌, ◌^◌, ◌<�
 ghost use Rattle.std.specs.List.Sorted.{IsPermutation};
 ghost use Rattle.xw_net.specs.Worklist.{is_marked, is_waiting, Grows, IsIdle, IsRoomierList};
 
+use crate::urgent::Urgent;
 use std::alloc::{AllocError, Global};
 use std::marker::Model;
 
@@ -13,6 +14,8 @@ use std::marker::Model;
 pub struct Worklist {
     marks: Vec<bool>,
     lights: Vec<usize>,
+    /// The lights to take first, after `renew` and until the list is empty.
+    urgent: Urgent,
 }
 
 impl Model for Worklist {
@@ -34,6 +37,7 @@ impl Worklist {
         Ok(Worklist {
             marks: vec![in alloc; false; count]?,
             lights: Vec::with_capacity(alloc, count)?,
+            urgent: Urgent::new(alloc, count)?,
         })
     }
 
@@ -55,8 +59,28 @@ impl Worklist {
     {
         if !self.marks[light] {
             self.marks[light] = true;
+            self.urgent.put(light, self.lights.len());
             let _ = self.lights.push(light);
         }
+    }
+
+    /// As `insert`. An urgent light is taken before others.
+    pub(crate) fn insert_urgent(&mut self, light: usize, is_urgent: bool)
+        requires { light < length self.old.marks }
+        ensures marks { self.new.marks ≡ slice_set self.old.marks light true }
+        ensures lights { self.new.lights ≡ (if is_marked self.old.marks light then self.old.lights else self.old.lights ++ light ∷ []) }
+        ensures room { self.old.room ≤ self.new.room }
+        ensures grows { Grows self.old self.new }
+    {
+        if is_urgent {
+            self.urgent.add(light);
+        }
+        self.insert(light);
+    }
+
+    /// Whether an urgent light may wait.
+    pub(crate) fn has_urgent(&self) -> bool {
+        self.urgent.has_any()
     }
 
     /// Takes the last light. It stays marked.
@@ -78,8 +102,8 @@ impl Worklist {
         &self.lights
     }
 
-    /// Takes the light at index `at` of the list, or the first one if the list is not that long. It
-    /// stays marked.
+    /// Takes an urgent light if one waits, and otherwise the light at index `at` of the list, or the first one if the
+    /// list is not that long. It stays marked.
     pub(crate) fn take_at(&mut self, at: usize) -> Option<usize>
         ensures taken { IfSome result (λ light. IsPermutation self.old.lights (light ∷ self.new.lights)) }
         ensures marked { IfSome result (λ light. is_marked self.old.marks light ≡ true) }
@@ -89,7 +113,10 @@ impl Worklist {
         ensures left { IfNone result (self.new.lights ≡ []) }
         ensures rest { self.new ≡ record self.old { lights = self.new.lights } }
     {
-        take_from(&mut self.lights, at)
+        let from = self.urgent.next_place(&self.lights, at);
+        let taken = take_from(&mut self.lights, from);
+        self.urgent.note_moved(&self.lights, from);
+        taken
     }
 
     /// Unmarks a light that was taken.
@@ -107,6 +134,7 @@ impl Worklist {
     {
         self.lights.clear();
         self.marks.as_mut_slice().fill(false);
+        self.urgent.stop();
     }
 
     /// Reserves room for `count` lights in total.
@@ -117,16 +145,18 @@ impl Worklist {
         if self.lights.len() < count {
             self.lights.reserve_exact(count - self.lights.len())?;
         }
-        Ok(())
+        self.urgent.reserve(count)
     }
 
-    /// Takes all lights off the list, and replaces the marks by those of other lights.
+    /// Takes all lights off the list, and replaces the marks by those of other lights. Until the list is empty, urgent
+    /// lights are taken first.
     pub(crate) fn renew(&mut self, marks: Vec<bool>)
         requires { vec_len marks ≤ self.old.room }
         ensures { self.new ≡ record self.old { marks = marks.items; lights = [] } }
     {
         self.lights.clear();
         self.marks = marks;
+        self.urgent.start();
     }
 
     /// The number of lights that wait.

@@ -1,10 +1,10 @@
 //! Bars: whether an edge is barred, and toggling its orbit.
-ghost use Rattle.std.specs.Prelude.{◌≡◌, true, All, Ok, Err, OnOk, IfErr, OnErr, IsOk};
-ghost use Rattle.xw_grid.specs.Grid.{IsGrid, is_inside, is_edge, is_barred as is_barred_edge, beyond as cell_beyond};
+ghost use Rattle.std.specs.Prelude.{◌≡◌, ◌<◌, ◌&&◌, not, true, length, slice_get, All, Ok, Err, OnOk, IfErr, OnErr, IsOk};
+ghost use Rattle.xw_grid.specs.Grid.{IsGrid, is_inside, is_edge, is_open as is_open_cell, is_open_square, is_barred as is_barred_edge, beyond as cell_beyond};
 ghost use Rattle.xw_grid.specs.Edit.{toggle_bar as bar_toggled, with_bar, with_edges};
 ghost use Rattle.xw_grid.specs.Orbit.{moved as moved_cell, images_of, IsEdgeBetween, AreEdgesBetween};
 
-use crate::cell::{Cell, Edge, Side};
+use crate::cell::{Cell, Edge, Side, Square};
 use crate::fault::GridFault;
 use crate::grid::Grid;
 use crate::orbit::edge_between;
@@ -22,6 +22,33 @@ impl Grid {
             Side::Right => self.right[index],
             Side::Below => self.below[index],
         }
+    }
+
+    /// Whether a cell and the next one on a side are open, with no bar between them.
+    pub(crate) fn joins(&self, cell: Cell, side: Side) -> bool
+        ensures { result ≡ ((is_open_cell self.now cell && is_open_cell self.now (cell_beyond side cell)) && not (is_barred_edge self.now cell side)) }
+    {
+        if !self.contains(cell) {
+            return false;
+        }
+        let next = self.beyond(cell, side);
+        if !self.contains(next) {
+            return false;
+        }
+        let index = self.index_inside(cell);
+        let is_free = match side {
+            Side::Right => !self.right[index],
+            Side::Below => !self.below[index],
+        };
+        is_free && self.is_open_at(index) && self.is_open_at(self.index_inside(next))
+    }
+
+    /// Whether the square at an index is open.
+    fn is_open_at(&self, index: usize) -> bool
+        requires { index < length self.now.squares }
+        ensures { result ≡ is_open_square (slice_get self.now.squares index) }
+    {
+        matches!(self.squares[index], Square::Open(_))
     }
 
     /// Whether `toggle_bar` would succeed, or why it would not.

@@ -7,7 +7,7 @@ use Rattle.xw_net.proofs.Revivals.WordsComeBack.{lit_bring}
 use Rattle.xw_net.proofs.spread.bring_words.Goals as goal
 
 pub returns-clause-listed : goal.returns-clause-listed
-returns-clause-listed c listed light on = waits_grow c.args.queue.now c.insert.new.self light c.insert.ensures.grows (listed light) on
+returns-clause-listed c listed light on = waits_grow c.args.queue.now c.insert_urgent.new.self light c.insert_urgent.ensures.grows (listed light) on
 
 pub returns-clause-lit : goal.returns-clause-lit
 returns-clause-lit c start marked waiting left on quieter is_lit =
@@ -18,4 +18,4 @@ returns-clause-lit c start marked waiting left on quieter is_lit =
     c.restart_light.ensures.len c.restart_light.ensures.on c.restart_light.ensures.off c.restart_light.ensures.more is_lit in
     let P : Bool → List Bool → Type 0 = λ e q. IsLit c.args.board.now c.args.base.now start (record { rows = c.bring_row.new.rows; entered = set c.args.entered.now c.args.light e; restart = c.restart_light.new.restart; queued = q }) marked left in
     let with_entered = subst (λ e. P e (set c.args.queue.now.marks c.args.light true)) entered brought in
-    subst (P c.has_all_entries.result) (sym c.insert.ensures.marks) with_entered
+    subst (P c.has_all_entries.result) (sym c.insert_urgent.ensures.marks) with_entered

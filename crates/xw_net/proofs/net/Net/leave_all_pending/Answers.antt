@@ -22,7 +22,7 @@ returns-clause-shaped c =
       held = shaped.held;
       restart = shaped.restart;
       pending = shaped.pending;
-      queue = c.insert.ensures.grows.size ∙ shaped.queue;
+      queue = c.insert_urgent.ensures.grows.size ∙ shaped.queue;
     }
 
 pub returns-clause-pending : goal.returns-clause-pending
@@ -41,11 +41,11 @@ pub returns-clause-queued : goal.returns-clause-queued
 unfolding queued_in
 returns-clause-queued c other =
     let within : c.args.light < length c.args.self.now.queue.marks = omega (arith, c.requires.light, c.requires.shaped.queue) in
-    ap (λ marks. get_or marks other false) c.insert.ensures.marks ∙ queued_more c.args.self.now.queue.marks c.args.light within other
+    ap (λ marks. get_or marks other false) c.insert_urgent.ensures.marks ∙ queued_more c.args.self.now.queue.marks c.args.light within other
 
 pub returns-clause-waits : goal.returns-clause-waits
 unfolding queued_in is_marked
-returns-clause-waits c other waits is = waits_grow c.args.self.now.queue c.insert.new.self other c.insert.ensures.grows waits is
+returns-clause-waits c other waits is = waits_grow c.args.self.now.queue c.insert_urgent.new.self other c.insert_urgent.ensures.grows waits is
 
 pub returns-clause-longer : goal.returns-clause-longer
-returns-clause-longer c = omega (arith, ap length c.insert.ensures.lights, grown_longer (is_marked c.args.self.now.queue.marks c.args.light) c.args.self.now.queue.lights c.args.light)
+returns-clause-longer c = omega (arith, ap length c.insert_urgent.ensures.lights, grown_longer (is_marked c.args.self.now.queue.marks c.args.light) c.args.self.now.queue.lights c.args.light)

@@ -24,20 +24,20 @@ below marks None on = tt
 
 pub invariant_of-self : goal.invariant_of-self
 invariant_of-self c =
-    let t = c.take_from.ensures in
-    subst (IsWorklist c.self.inside.marks.items c.take_from.new.lights.items) (sym t.capacity)
-    (stays c.self.inside.marks.items c.self.inside.lights.items c.take_from.new.lights.items _ c.take_from.result c.self.invariant t.taken t.none t.left)
+    let t = c.take_from-taken.ensures in
+    subst (IsWorklist c.self.inside.marks.items c.take_from-taken.new.lights.items) (sym t.capacity)
+    (stays c.self.inside.marks.items c.self.inside.lights.items c.take_from-taken.new.lights.items _ c.take_from-taken.result c.self.invariant t.taken t.none t.left)
 
 pub returns-clause-marked : goal.returns-clause-marked
 returns-clause-marked c =
-    subst (λ (l : ListOfLights). IfSome c.take_from.result (λ light. is_marked l.marks light ≡ true)) c.self.view_is
-    (is_on c.self.inside.marks.items c.self.inside.lights.items c.take_from.new.lights.items _ c.take_from.result c.self.invariant c.take_from.ensures.taken)
+    subst (λ (l : ListOfLights). IfSome c.take_from-taken.result (λ light. is_marked l.marks light ≡ true)) c.self.view_is
+    (is_on c.self.inside.marks.items c.self.inside.lights.items c.take_from-taken.new.lights.items _ c.take_from-taken.result c.self.invariant c.take_from-taken.ensures.taken)
 
 pub returns-clause-once : goal.returns-clause-once
 returns-clause-once c =
-    is_gone c.self.inside.marks.items c.self.inside.lights.items c.take_from.new.lights.items _ c.take_from.result c.self.invariant c.take_from.ensures.taken
+    is_gone c.self.inside.marks.items c.self.inside.lights.items c.take_from-taken.new.lights.items _ c.take_from-taken.result c.self.invariant c.take_from-taken.ensures.taken
 
 pub returns-clause-within : goal.returns-clause-within
 returns-clause-within c =
-    subst (λ (l : ListOfLights). IfSome c.take_from.result (λ light. light < length l.marks)) c.self.view_is
-    (below c.self.inside.marks.items c.take_from.result (is_on c.self.inside.marks.items c.self.inside.lights.items c.take_from.new.lights.items _ c.take_from.result c.self.invariant c.take_from.ensures.taken))
+    subst (λ (l : ListOfLights). IfSome c.take_from-taken.result (λ light. light < length l.marks)) c.self.view_is
+    (below c.self.inside.marks.items c.take_from-taken.result (is_on c.self.inside.marks.items c.self.inside.lights.items c.take_from-taken.new.lights.items _ c.take_from-taken.result c.self.invariant c.take_from-taken.ensures.taken))
