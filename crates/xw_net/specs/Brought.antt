@@ -43,8 +43,8 @@ pub record IsBrought (board : Board) (dictionary : Dictionary) (old new : Marks)
   -- a light on the chain has all its base words; any other light has the words it had
   pub words_on : (light choice : ℕ) → chain light ≡ true → new.words light choice ≡ is_base_at board dictionary light choice
   pub words_off : (light choice : ℕ) → chain light ≡ false → new.words light choice ≡ old.words light choice
-  -- the cells of the chain have all letters that they allow
-  pub letters_on : (light position : ℕ) → IsPositionIn board light position → chain light ≡ true → HasAll board new.letters (cell_at board light position)
+  -- the cells of each light of the chain that has a base word have all letters that they allow
+  pub letters_on : (light position choice : ℕ) → IsPositionIn board light position → chain light ≡ true → is_base_at board dictionary light choice ≡ true → HasAll board new.letters (cell_at board light position)
   -- each light through a cell where a letter came back is on the chain
   pub letters_off : (light position letter : ℕ) → IsPositionIn board light position
       → new.letters (cell_at board light position) letter ≡ true → old.letters (cell_at board light position) letter ≡ false → chain light ≡ true

@@ -1,5 +1,5 @@
 -- How words and letters come back along a chain of lights.
-use Rattle.std.specs.Prelude.{◌≡◌, ℕ, ◌<◌, Bool, true, false, ◌&&◌, ◌||◌, nat_le, ◌==◌, List, length, slice_get, slice_index_or}
+use Rattle.std.specs.Prelude.{◌≡◌, ℕ, ◌<◌, Bool, true, false, not, ◌&&◌, ◌||◌, nat_le, ◌==◌, List, length, count_by, slice_get, slice_index_or}
 use Rattle.xw_bits.specs.Bits.{RowOfBits}
 use Rattle.xw_letters.specs.Letter.{is_capital}
 use Rattle.xw_feas.specs.Board.{Board, light_at, is_wholly_entered}
@@ -12,6 +12,10 @@ use Rattle.xw_net.specs.Worklist.{ListOfLights, is_marked, is_waiting}
 -- the positions of a light from one on
 abbrev pub positions_from : ℕ → ℕ → ℕ → ℕ → Bool
 positions_from light position other other_position = (other == light) && nat_le position other_position
+
+-- the positions that are among one set or among another
+abbrev pub either_position : (ℕ → ℕ → Bool) → (ℕ → ℕ → Bool) → ℕ → ℕ → Bool
+either_position some others light position = some light position || others light position
 
 -- no positions
 abbrev pub no_positions : ℕ → ℕ → Bool
@@ -44,6 +48,14 @@ pub record Lit : Type 0 where
 -- the arrays that a revival changes, as a record
 abbrev pub lit : List RowOfBits → List Bool → List ℕ → ListOfLights → Lit
 lit rows entered restart queue = record { rows = rows; entered = entered; restart = restart; queued = queue.marks }
+
+-- whether a light has no base word: no bit of its base row is set, and some cell of it has no letter
+abbrev pub is_barren : Board → List RowOfBits → ℕ → Bool
+is_barren board base light = (count_by (λ bit. bit) (bits_in base light) == 0) && not (is_wholly_entered board (light_at board light))
+
+-- the positions of the lights without a base word
+abbrev pub barren_positions : Board → List RowOfBits → ℕ → ℕ → Bool
+barren_positions board base light position = is_barren board base light
 
 module _ (board : Board) where
   -- each light's row has as many bits as its base row

@@ -6,7 +6,7 @@ ghost use Rattle.xw_feas.specs.Feasible.{may_stand};
 ghost use Rattle.xw_feas.specs.Flags.{set_has};
 ghost use Rattle.xw_net.specs.Marks.{IsPositionIn, cell_at, AreByCell, AreBySlot, HasFewCells};
 ghost use Rattle.xw_net.specs.Room.{KeepRoom};
-ghost use Rattle.xw_net.specs.Spread.{RestartsLight, OtherSlotsStay, positions_from, no_positions, bits_in, AreAsLong, HasAll, IsThrough, IsSpread, SpreadsOn, ReachesFrom, Reaches, Brings, lit, IsLit, IsListed, none_waits, OtherRowsStay, IsAsLong};
+ghost use Rattle.xw_net.specs.Spread.{RestartsLight, OtherSlotsStay, positions_from, either_position, is_barren as is_barren_of, barren_positions, bits_in, AreAsLong, HasAll, IsThrough, IsSpread, SpreadsOn, ReachesFrom, Reaches, Brings, lit, IsLit, IsListed, none_waits, OtherRowsStay, IsAsLong};
 ghost use Rattle.xw_net.specs.Worklist.{is_marked, HasSeeds, Grows, MarksAll, MarksOnly, HasLights};
 
 use crate::net::Net;
@@ -88,12 +88,47 @@ fn raise_light(board: &Board<'_>, light: usize, letters: &mut [LetterSet], chain
     requires marked { is_marked chain.old.marks light ≡ true }
     ensures letters { length letters.new ≡ length letters.old }
     ensures grows { Grows chain.old chain.new }
-    ensures spread { (start : ℕ → ℕ → Bool) → SpreadsOn board.now start (positions_from light 0) letters.old chain.old no_positions letters.new chain.new }
-    ensures within { (start : ℕ → ℕ → Bool) → ReachesFrom board.now start (positions_from light 0) letters.old chain.old chain.new }
+    ensures spread { (start coming : ℕ → ℕ → Bool) → SpreadsOn board.now start (either_position (positions_from light 0) coming) letters.old chain.old coming letters.new chain.new }
+    ensures within { (start coming : ℕ → ℕ → Bool) → ReachesFrom board.now start (either_position (positions_from light 0) coming) letters.old chain.old chain.new }
 {
     for position in 0..board.light(light).len() {
         raise_position(board, light, position, letters, chain);
     }
+}
+
+/// Whether a light has no base word.
+fn is_barren(board: &Board<'_>, base: &[BitRow], light: usize) -> bool
+    requires light { light < length board.now.lights }
+    requires base { light < length base.now }
+    ensures { result ≡ is_barren_of board.now base.now light }
+{
+    base[light].count() == 0 && !has_all_entries(board, &board.light(light))
+}
+
+/// As `raise_light`, unless the light has no base word: it gets no word back, so its letters need not come back, and its
+/// cells are not a way to other lights.
+fn raise_if_worded(
+    board: &Board<'_>,
+    base: &[BitRow],
+    light: usize,
+    letters: &mut [LetterSet],
+    chain: &mut Worklist,
+)
+    requires few { HasFewCells board.now }
+    requires light { light < length board.now.lights }
+    requires base { light < length base.now }
+    requires letters { AreByCell board.now letters.old }
+    requires chain { HasLights board.now chain.old }
+    requires marked { is_marked chain.old.marks light ≡ true }
+    ensures letters { length letters.new ≡ length letters.old }
+    ensures grows { Grows chain.old chain.new }
+    ensures spread { (start : ℕ → ℕ → Bool) → SpreadsOn board.now start (either_position (positions_from light 0) (barren_positions board.now base.now)) letters.old chain.old (barren_positions board.now base.now) letters.new chain.new }
+    ensures within { (start : ℕ → ℕ → Bool) → ReachesFrom board.now start (either_position (positions_from light 0) (barren_positions board.now base.now)) letters.old chain.old chain.new }
+{
+    if is_barren(board, base, light) {
+        return;
+    }
+    raise_light(board, light, letters, chain);
 }
 
 /// Makes each search for a support in a light start at the first word again.
@@ -154,8 +189,8 @@ fn bring_words(
 }
 
 /// Puts words and letters back along the chain that starts at the marked lights: all base words of
-/// each of its lights, and all letters that their cells allow. The chain reaches a crossing light
-/// only if a letter comes back at the shared cell.
+/// each of its lights, and all letters that the cells of a light with a base word allow. The chain reaches a crossing
+/// light only if a letter comes back at the shared cell.
 pub(crate) fn spread(
     board: &Board<'_>,
     base: &[BitRow],
@@ -183,12 +218,12 @@ pub(crate) fn spread(
     ensures size { length chain.new.marks ≡ length chain.old.marks }
     ensures more { (light : ℕ) → is_marked chain.old.marks light ≡ true → is_marked chain.new.marks light ≡ true }
     ensures words { IsLit board.now base.now (lit rows.old entered.old restart.old queue.old) (lit rows.new entered.new restart.new queue.new) (is_marked chain.new.marks) none_waits }
-    ensures spread { IsSpread board.now (set_has letters.old) (set_has letters.new) (is_marked chain.new.marks) none_waits no_positions }
+    ensures spread { IsSpread board.now (set_has letters.old) (set_has letters.new) (is_marked chain.new.marks) none_waits (barren_positions board.now base.now) }
     ensures within { Reaches board.now (set_has letters.old) chain.old chain.new }
 {
     while let Some(light) = chain.take_last() {
         bring_words(board, base, light, rows, entered, restart, queue);
-        raise_light(board, light, letters, chain);
+        raise_if_worded(board, base, light, letters, chain);
     }
 }
 

@@ -59,7 +59,7 @@ module _ (before after : Board) (old new : Dictionary) (same : ℕ → Option �
             | inr later ↦ on_chain light choice (brought.letters_off light k letter (in_board, below) stands later) base
           ];
       letters_follow = λ choice k base below stands not_stood may. elim (cases_Bool (chain light)) [
-        | inl on ↦ brought.letters_on light k (in_board, below) on (slice_index (choice_at after new light choice) k) may
+        | inl on ↦ brought.letters_on light k choice (in_board, below) on base (slice_index (choice_at after new light choice) k) may
         | inr off ↦ absurd (not_stood ((begun.words_kept light choice in_board (not_seed seed chain light seeded off)).0 (sym (brought.words_off light choice off) ∙ stands)).1)
       ];
     };
@@ -138,7 +138,7 @@ module _ (board : Board) (dictionary : Dictionary) (laid_out : IsLaidOut board) 
         let may = base_letter_may board dictionary laid_out are_words light choice position here.1 (base_now light choice stands) in
         or_left (now.letters cell letter) (now.pending (slot_at board light position) letter)
         (elim (cases_Bool (chain light)) [
-          | inl on ↦ brought.letters_on light position here on letter may
+          | inl on ↦ brought.letters_on light position choice here on (base_now light choice stands) letter may
           | inr off ↦ brought.letters_stay cell letter may (was_ready.spelled light position choice here (off_seed light off) (sym (brought.words_off light choice off) ∙ stands))
         ]);
     pending_gone = λ light position letter here pends. absurd (none_pending light position letter here pends);

@@ -1,5 +1,5 @@
 -- Letters that come back along a chain of lights.
-use Rattle.std.proofs.Common.{◌≡◌, ℕ, ◌+◌, ◌<◌, Bool, true, false, eqb, leb, cond, List, [], ◌∷◌, ◌++◌, length, set, refl, subst, sym, ap, ◌∙◌, inl, inr, arith}
+use Rattle.std.proofs.Common.{◌≡◌, ℕ, ◌+◌, ◌<◌, Bool, true, false, ◌||◌, eqb, leb, cond, List, [], ◌∷◌, ◌++◌, length, set, refl, subst, sym, ap, ◌∙◌, inl, inr, arith}
 use Rattle.std.specs.Prelude.{filter, bytes_eq}
 use Rattle.std.proofs.lemmas.Bool.{and_parts, and_from, or_left, or_right, cases_eq, cases_Bool, both_ways, eq-eqb, eqb-true, le-leb, leb-true, false_from_ne_true}
 use Rattle.std.proofs.lemmas.List.{get_or-set_same, get_or-set_other}
@@ -10,7 +10,7 @@ use Rattle.xw_feas.specs.Board.{Board}
 use Rattle.xw_feas.specs.Feasible.{may_stand}
 use Rattle.xw_feas.specs.Flags.{set_has}
 use Rattle.xw_net.specs.Marks.{IsPositionIn, cell_at}
-use Rattle.xw_net.specs.Spread.{HasAll, IsSpread, positions_from, no_positions, none_waits}
+use Rattle.xw_net.specs.Spread.{HasAll, IsSpread, positions_from, either_position, no_positions, none_waits}
 use Rattle.xw_net.specs.Worklist.{ListOfLights, is_marked, is_waiting, Grows}
 use Rattle.xw_net.proofs.Lists.ListsOfLights.{quiet_pop}
 
@@ -31,6 +31,14 @@ pub same_set : (common may : ℕ) → ((letter : ℕ) → has common letter ≡ 
 same_set common may same = (bytes_eq-Decides (letters_in common) (letters_in may)).1 (filter_same (has common) (has may) same alphabet)
 
 -- ---- the spread
+
+neither_true : (a b : Bool) → (a || b) ≡ false → (a ≡ false) × (b ≡ false)
+neither_true true b h = cc
+neither_true false b h = (refl, h)
+
+neither_from : (a b : Bool) → a ≡ false → b ≡ false → (a || b) ≡ false
+neither_from true b h k = cc
+neither_from false b h k = k
 
 module _ (board : Board) (old : ℕ → ℕ → Bool) where
   -- more lights are marked
@@ -73,14 +81,26 @@ module _ (board : Board) (old : ℕ → ℕ → Bool) where
             | inr n ↦ set_has-there letters cell c may l n ∙ h
           ]
 
+  -- more positions are still to come
+  pub spread_fewer : (new : ℕ → ℕ → Bool) (marked waiting : ℕ → Bool) (coming coming' : ℕ → ℕ → Bool)
+      → ((light position : ℕ) → coming' light position ≡ false → coming light position ≡ false)
+      → IsSpread board old new marked waiting coming → IsSpread board old new marked waiting coming'
+  spread_fewer new marked waiting coming coming' more spread = record {
+    on = λ i q here m quiet later. spread.on i q here m quiet (more i q later);
+    reaches = spread.reaches;
+    from = spread.from;
+    stay = spread.stay;
+  }
+
   -- a light is popped: all its positions are still to come
-  pub spread_taken : (new : ℕ → ℕ → Bool) (marked : ℕ → Bool) (taken taken' : List ℕ) (o : ℕ) → taken ≡ taken' ++ o ∷ []
-      → IsSpread board old new marked (is_waiting taken) no_positions → IsSpread board old new marked (is_waiting taken') (positions_from o 0)
-  spread_taken new marked taken taken' o is spread = record {
+  pub spread_taken : (new : ℕ → ℕ → Bool) (marked : ℕ → Bool) (coming : ℕ → ℕ → Bool) (taken taken' : List ℕ) (o : ℕ) → taken ≡ taken' ++ o ∷ []
+      → IsSpread board old new marked (is_waiting taken) coming → IsSpread board old new marked (is_waiting taken') (either_position (positions_from o 0) coming)
+  spread_taken new marked coming taken taken' o is spread = record {
     on = λ i q here m quiet later.
+        let neither = neither_true (positions_from o 0 i q) (coming i q) later in
         elim (cases_eq i o) [
-          | inl e ↦ absurd (both_ways (positions_from o 0 i q) later (and_from (eqb i o) (leb 0 q) (eq-eqb i o e) (le-leb 0 q (omega arith))))
-          | inr n ↦ spread.on i q here m (quiet_pop taken taken' o i is n quiet) refl
+          | inl e ↦ absurd (both_ways (positions_from o 0 i q) neither.0 (and_from (eqb i o) (leb 0 q) (eq-eqb i o e) (le-leb 0 q (omega arith))))
+          | inr n ↦ spread.on i q here m (quiet_pop taken taken' o i is n quiet) neither.1
         ];
     reaches = spread.reaches;
     from = spread.from;
@@ -88,12 +108,13 @@ module _ (board : Board) (old : ℕ → ℕ → Bool) where
   }
 
   -- one position is done
-  pub spread_position : (new : ℕ → ℕ → Bool) (marked waiting : ℕ → Bool) (o p : ℕ) → HasAll board new (cell_at board o p)
-      → IsSpread board old new marked waiting (positions_from o p) → IsSpread board old new marked waiting (positions_from o (p + 1))
-  spread_position new marked waiting o p done spread = record {
+  pub spread_position : (new : ℕ → ℕ → Bool) (marked waiting : ℕ → Bool) (coming : ℕ → ℕ → Bool) (o p : ℕ) → HasAll board new (cell_at board o p)
+      → IsSpread board old new marked waiting (either_position (positions_from o p) coming) → IsSpread board old new marked waiting (either_position (positions_from o (p + 1)) coming)
+  spread_position new marked waiting coming o p done spread = record {
     on = λ i q here m quiet later.
+        let neither = neither_true (positions_from o (p + 1) i q) (coming i q) later in
         elim (cases_Bool (positions_from o p i q)) [
-          | inr before ↦ spread.on i q here m quiet before
+          | inr before ↦ spread.on i q here m quiet (neither_from (positions_from o p i q) (coming i q) before neither.1)
           | inl now ↦
               let both = and_parts (eqb i o) (leb p q) now in
               let light = eqb-true i o both.0 in
@@ -101,7 +122,7 @@ module _ (board : Board) (old : ℕ → ℕ → Bool) where
                 | inl e ↦
                     let cell : cell_at board o p ≡ cell_at board i q = ap (λ n. cell_at board n p) (sym light) ∙ ap (cell_at board i) (sym e) in
                     subst (HasAll board new) cell done
-                | inr n ↦ absurd (both_ways (positions_from o (p + 1) i q) later (and_from (eqb i o) (leb (p + 1) q) both.0 (le-leb (p + 1) q (omega (arith, leb-true p q both.1, n)))))
+                | inr n ↦ absurd (both_ways (positions_from o (p + 1) i q) neither.0 (and_from (eqb i o) (leb (p + 1) q) both.0 (le-leb (p + 1) q (omega (arith, leb-true p q both.1, n)))))
               ]
         ];
     reaches = spread.reaches;
@@ -109,21 +130,31 @@ module _ (board : Board) (old : ℕ → ℕ → Bool) where
     stay = spread.stay;
   }
 
-  -- after the last position of the light nothing is to come
-  pub spread_light : (new : ℕ → ℕ → Bool) (marked waiting : ℕ → Bool) (o p : ℕ) → ((q : ℕ) → IsPositionIn board o q → q < p)
-      → IsSpread board old new marked waiting (positions_from o p) → IsSpread board old new marked waiting no_positions
-  spread_light new marked waiting o p short spread = record {
+  -- after the last position of the light nothing of it is to come
+  pub spread_light : (new : ℕ → ℕ → Bool) (marked waiting : ℕ → Bool) (coming : ℕ → ℕ → Bool) (o p : ℕ) → ((q : ℕ) → IsPositionIn board o q → q < p)
+      → IsSpread board old new marked waiting (either_position (positions_from o p) coming) → IsSpread board old new marked waiting coming
+  spread_light new marked waiting coming o p short spread = record {
     on = λ i q here m quiet later.
         spread.on i q here m quiet
-        (false_from_ne_true (positions_from o p i q) (λ h.
+        (neither_from (positions_from o p i q) (coming i q) (false_from_ne_true (positions_from o p i q) (λ h.
         let both = and_parts (eqb i o) (leb p q) h in
         let Position : ℕ → Type 0 = λ n. IsPositionIn board n q in
         let lt = short q (subst Position (eqb-true i o both.0) here) in
-        absurd (omega (arith, lt, leb-true p q both.1))));
+        absurd (omega (arith, lt, leb-true p q both.1)))) later);
     reaches = spread.reaches;
     from = spread.from;
     stay = spread.stay;
   }
+
+  -- nothing of a light is to come whose positions may lack letters
+  pub spread_passed : (new : ℕ → ℕ → Bool) (marked waiting : ℕ → Bool) (barren : ℕ → Bool) (o : ℕ) → barren o ≡ true
+      → IsSpread board old new marked waiting (either_position (positions_from o 0) (λ light position. barren light)) → IsSpread board old new marked waiting (λ light position. barren light)
+  spread_passed new marked waiting barren o is spread =
+      spread_fewer new marked waiting (either_position (positions_from o 0) (λ light position. barren light)) (λ light position. barren light)
+      (λ i q later. neither_from (positions_from o 0 i q) (barren i) (false_from_ne_true (positions_from o 0 i q) (λ h.
+      let both = and_parts (eqb i o) (leb 0 q) h in
+      both_ways (barren i) later (ap barren (eqb-true i o both.0) ∙ is))) later)
+      spread
 
   -- if an allowed letter is missing at a cell, it comes back there
   pub lacks_old : (new : ℕ → ℕ → Bool) (marked waiting : ℕ → Bool) (coming : ℕ → ℕ → Bool) (cell : ℕ) → IsSpread board old new marked waiting coming
@@ -143,9 +174,9 @@ module _ (board : Board) where
   }
 
   -- at the end no light is on the list
-  pub spread_end : (old new : ℕ → ℕ → Bool) (marked waiting : ℕ → Bool) → ((light : ℕ) → waiting light ≡ false)
-      → IsSpread board old new marked waiting no_positions → IsSpread board old new marked none_waits no_positions
-  spread_end old new marked waiting none spread = record {
+  pub spread_end : (old new : ℕ → ℕ → Bool) (marked waiting : ℕ → Bool) (coming : ℕ → ℕ → Bool) → ((light : ℕ) → waiting light ≡ false)
+      → IsSpread board old new marked waiting coming → IsSpread board old new marked none_waits coming
+  spread_end old new marked waiting coming none spread = record {
     on = λ i q here m quiet later. spread.on i q here m (none i) later;
     reaches = spread.reaches;
     from = spread.from;

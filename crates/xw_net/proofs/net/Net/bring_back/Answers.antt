@@ -5,7 +5,7 @@ use Rattle.xw_feas.specs.Board.{Board, light_at}
 use Rattle.xw_feas.specs.Feasible.{may_stand}
 use Rattle.xw_feas.specs.Flags.{set_has}
 use Rattle.xw_net.specs.Nets.{marks_of, letter_stands, queued_in}
-use Rattle.xw_net.specs.Spread.{bits_in, none_waits, no_positions, Lit, lit, IsLit, IsSpread, IsReachClosed}
+use Rattle.xw_net.specs.Spread.{bits_in, none_waits, barren_positions, Lit, lit, IsLit, IsSpread, IsReachClosed}
 use Rattle.xw_net.specs.Worklist.{is_marked}
 use Rattle.xw_net.specs.Brought.{IsBase}
 use Rattle.xw_bits.specs.Bits.{RowOfBits}
@@ -37,8 +37,8 @@ returns-clause-brought c dictionary is_base' =
     let now : Lit = lit c.spread.new.rows c.spread.new.entered c.spread.new.restart c.spread.new.queue in
     let lit_old = subst (λ l. IsLit c.args.board.now c.deref.result.now l now (is_marked c.spread.new.chain.marks) none_waits) old_lit c.spread.ensures.words in
     let lit_now = subst (λ l. IsLit c.args.board.now c.deref.result.now (lit_of c.args.self.now) l (is_marked c.spread.new.chain.marks) none_waits) new_lit lit_old in
-    let spread_old = subst (λ ls. IsSpread c.args.board.now (set_has ls) (set_has c.spread.new.letters) (is_marked c.spread.new.chain.marks) none_waits no_positions) c.deref_mut-3.ensures.value c.spread.ensures.spread in
-    let spread_now = subst (λ ls. IsSpread c.args.board.now (set_has c.args.self.now.letters.items) (set_has ls) (is_marked c.spread.new.chain.marks) none_waits no_positions) (sym letters) spread_old in
+    let spread_old = subst (λ ls. IsSpread c.args.board.now (set_has ls) (set_has c.spread.new.letters) (is_marked c.spread.new.chain.marks) none_waits (barren_positions c.args.board.now c.deref.result.now)) c.deref_mut-3.ensures.value c.spread.ensures.spread in
+    let spread_now = subst (λ ls. IsSpread c.args.board.now (set_has c.args.self.now.letters.items) (set_has ls) (is_marked c.spread.new.chain.marks) none_waits (barren_positions c.args.board.now c.deref.result.now)) (sym letters) spread_old in
     let in_board : (light : ℕ) → is_marked c.spread.new.chain.marks light ≡ true → light < length c.args.board.now.lights =
     λ light on. let below = marked_below c.spread.new.chain.marks light on in omega (arith, below, c.spread.ensures.size, c.requires.chained.chain) in
     brought_from c.args.board.now dictionary c.deref.result.now c.args.self.now _ (is_marked c.spread.new.chain.marks) is_base in_board lit_now spread_now refl refl
