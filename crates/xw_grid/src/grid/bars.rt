@@ -1,6 +1,6 @@
 //! Bars: whether an edge is barred, and toggling its orbit.
 ghost use Rattle.std.specs.Prelude.{◌≡◌, ◌<◌, ◌&&◌, not, true, length, slice_get, All, Ok, Err, OnOk, IfErr, OnErr, IsOk};
-ghost use Rattle.xw_grid.specs.Grid.{IsGrid, is_inside, is_edge, is_open as is_open_cell, is_open_square, is_barred as is_barred_edge, beyond as cell_beyond};
+ghost use Rattle.xw_grid.specs.Grid.{IsGrid, is_inside, index_of, is_edge, is_open as is_open_cell, is_open_square, is_barred as is_barred_edge, beyond as cell_beyond};
 ghost use Rattle.xw_grid.specs.Edit.{toggle_bar as bar_toggled, with_bar, with_edges};
 ghost use Rattle.xw_grid.specs.Orbit.{moved as moved_cell, images_of, IsEdgeBetween, AreEdgesBetween};
 
@@ -28,19 +28,42 @@ impl Grid {
     pub(crate) fn joins(&self, cell: Cell, side: Side) -> bool
         ensures { result ≡ ((is_open_cell self.now cell && is_open_cell self.now (cell_beyond side cell)) && not (is_barred_edge self.now cell side)) }
     {
-        if !self.contains(cell) {
-            return false;
-        }
-        let next = self.beyond(cell, side);
-        if !self.contains(next) {
+        if !self.contains(cell) || self.is_last(cell, side) {
             return false;
         }
         let index = self.index_inside(cell);
+        let next = self.index_beyond(index, cell, side);
         let is_free = match side {
             Side::Right => !self.right[index],
             Side::Below => !self.below[index],
         };
-        is_free && self.is_open_at(index) && self.is_open_at(self.index_inside(next))
+        is_free && self.is_open_at(index) && self.is_open_at(next)
+    }
+
+    /// Whether a cell inside the grid is the last one towards a side.
+    fn is_last(&self, cell: Cell, side: Side) -> bool
+        requires { is_inside self.now cell ≡ true }
+        ensures { result ≡ not (is_inside self.now (cell_beyond side cell)) }
+    {
+        match side {
+            Side::Right => cell.col >= self.width,
+            Side::Below => cell.row >= self.height,
+        }
+    }
+
+    /// The index of the next cell on a side, from that of a cell.
+    fn index_beyond(&self, index: usize, cell: Cell, side: Side) -> usize
+        requires cell { is_inside self.now cell ≡ true }
+        requires index { index ≡ index_of self.now cell }
+        requires next { is_inside self.now (cell_beyond side cell) ≡ true }
+        ensures index { result ≡ index_of self.now (cell_beyond side cell) }
+        ensures within { result < length self.now.squares }
+    {
+        let _ = cell;
+        match side {
+            Side::Right => index + 1,
+            Side::Below => index + self.width as usize,
+        }
     }
 
     /// Whether the square at an index is open.
