@@ -1,5 +1,5 @@
 -- What to try in place of a word that is no argument.
-use Rattle.std.specs.Prelude.{◌≡◌, ◌++◌, ◌&&◌, ◌||◌, ◌==◌, not, Bool, List, [], ◌∷◌, Option, Some, None, codes, nat_eq, option_map, if◌then◌else◌}
+use Rattle.std.specs.Prelude.{◌≡◌, ◌++◌, ◌&&◌, ◌||◌, ◌==◌, not, Bool, true, List, [], ◌∷◌, Option, Some, None, codes, get_or, length, nat_eq, option_map, if◌then◌else◌}
 use Rattle.std.specs.List.{list_any, starts_with, ends_with}
 use Rattle.std.specs.Str.{bytes_eq}
 use Rattle.clap.specs.Words.{Text}
@@ -39,6 +39,16 @@ option_meant word =
     if bytes_eq word (codes "-sync") then Some (codes "--sync") else
     if bytes_eq word (codes "-explain") then Some (codes "--explain") else None
 
+-- the word is this option, or this option with `=` and a value
+abbrev pub is_named : Text → Text → Bool
+is_named word option = starts_with nat_eq word option && (length word == length option || get_or word (length option) 0 == 61)
+
+-- the word is an option of `edit`
+abbrev pub is_option : Text → Bool
+is_option word =
+    is_named word (codes "--dict") || is_named word (codes "--from") || is_named word (codes "--resume") || is_named word (codes "--to")
+    || is_named word (codes "--save") || is_named word (codes "--journal") || is_named word (codes "--sync") || is_named word (codes "--explain")
+
 -- a word takes the next one as its value if it is an option without `=`, and no flag
 abbrev pub has_value : Text → Bool
 has_value word = starts_with nat_eq word (codes "--") && not (list_any (λ byte. byte == 61) word) && not (bytes_eq word (codes "--sync")) && not (bytes_eq word (codes "--explain"))
@@ -50,22 +60,28 @@ is_puz name = ends_with nat_eq name (codes ".puz")
 abbrev pub file_tip : Text → Text
 file_tip file = if is_puz file then puzzle_line file else list_line file
 
--- the tip for a word that is an argument, if it is neither an option nor the value of the word before it
-abbrev pub tip_unless : Text → Text → Option Text
-tip_unless previous word = if starts_with nat_eq word (codes "-") || has_value previous then None else Some (file_tip word)
+-- the tip for a word that is no option with a single dash: a file has one, and a word with a dash has none
+abbrev pub tip_unless : Text → Option Text
+tip_unless word = if starts_with nat_eq word (codes "-") then None else Some (file_tip word)
 
 abbrev pub tip_or : Option Text → Option Text → Option Text
 tip_or (Some tip) other = Some tip
 tip_or None other = other
 
--- the tip for a word of `edit`, if it has one, after the word before it
-abbrev pub tip_at : Text → Text → Option Text
-tip_at previous word = tip_or (option_map option_line (option_meant word)) (tip_unless previous word)
+-- the tip for a word that is no argument of `edit`, if it has one
+abbrev pub tip_at : Text → Option Text
+tip_at word = tip_or (option_map option_line (option_meant word)) (tip_unless word)
 
--- the first of these tips
+-- A word of `edit` is an argument, after the word before it, if it is the value of that or an option. A word with a dash
+-- is no value, unless it stands for standard input.
+abbrev pub is_argument : Text → Text → Bool
+is_argument previous word =
+    if has_value previous && (not (starts_with nat_eq word (codes "-")) || bytes_eq word (codes "-")) then true else is_option word
+
+-- the tip for the first of these words that is no argument: the error is about this word
 abbrev pub tip_among : Text → List Text → Option Text
 tip_among previous [] = None
-tip_among previous (word ∷ words) = tip_or (tip_at previous word) (tip_among word words)
+tip_among previous (word ∷ words) = if is_argument previous word then tip_among word words else tip_at word
 
 -- the tip for the words of a command line, of which the first is the program
 abbrev pub tip_of : List Text → Option Text

@@ -1,6 +1,6 @@
 //! Tips for words that are no arguments.
 ghost use Rattle.std.specs.Prelude.{◌≡◌, ◌++◌, map, option_map, IfOk};
-ghost use Rattle.xw_arguments.specs.Tips.{file_tip, has_value, is_puz, option_meant, tip_at, tip_due, tip_of, tip_text, HasTip};
+ghost use Rattle.xw_arguments.specs.Tips.{file_tip, has_value, is_argument, is_named, is_option, is_puz, option_meant, tip_at, tip_due, tip_of, tip_text, HasTip};
 
 use clap::error::ErrorKind;
 use std::alloc::{AllocError, Global};
@@ -60,20 +60,54 @@ fn file_tip<'a>(file: &'a str) -> Tip<'a>
     }
 }
 
-/// Returns the tip for a word of `edit`, if it has one. `previous` is the word before it.
-fn tip_at<'a>(previous: &str, word: &'a str) -> Option<Tip<'a>>
-    ensures { option_map tip_text result ≡ tip_at previous.now word.entry.now }
+/// Returns the tip for a word that is no argument of `edit`, if it has one.
+fn tip_at<'a>(word: &'a str) -> Option<Tip<'a>>
+    ensures { option_map tip_text result ≡ tip_at word.entry.now }
 {
     if let Some(option) = option_meant(word) {
         return Some(Tip::Option(option));
     }
-    if word.as_bytes().starts_with(b"-") || has_value(previous) {
+    if word.as_bytes().starts_with(b"-") {
         return None;
     }
     Some(file_tip(word))
 }
 
-/// Returns the tip for the first word of `edit` that has one. The first two words are the program and `edit`.
+/// Returns whether a word is this option, or this option with `=` and a value.
+fn is_named(word: &str, option: &[u8]) -> bool
+    ensures { result ≡ is_named word.now option.now }
+{
+    let bytes = word.as_bytes();
+    bytes.starts_with(option)
+        && (bytes.len() == option.len() || bytes.get(option.len()) == Some(&b'='))
+}
+
+/// Returns whether a word is an option of `edit`.
+fn is_option(word: &str) -> bool
+    ensures { result ≡ is_option word.now }
+{
+    is_named(word, b"--dict")
+        || is_named(word, b"--from")
+        || is_named(word, b"--resume")
+        || is_named(word, b"--to")
+        || is_named(word, b"--save")
+        || is_named(word, b"--journal")
+        || is_named(word, b"--sync")
+        || is_named(word, b"--explain")
+}
+
+/// Returns whether a word of `edit` is an argument: the value of the word before it, or an option.
+fn is_argument(previous: &str, word: &str) -> bool
+    ensures { result ≡ is_argument previous.now word.now }
+{
+    if has_value(previous) && (!word.as_bytes().starts_with(b"-") || word == "-") {
+        return true;
+    }
+    is_option(word)
+}
+
+/// Returns the tip for the first word of `edit` that is no argument. The error is about this word. The first two words
+/// are the program and `edit`.
 fn tip_of<'a, S: AsStr>(words: &'a [S]) -> Option<Tip<'a>>
     ensures { option_map tip_text result ≡ tip_of (map S.text words.entry.now) }
 {
@@ -81,9 +115,9 @@ fn tip_of<'a, S: AsStr>(words: &'a [S]) -> Option<Tip<'a>>
         return None;
     }
     for i in 2..words.len() {
-        let found = tip_at(words[i - 1].as_str(), words[i].as_str());
-        if found.is_some() {
-            return found;
+        let word = words[i].as_str();
+        if !is_argument(words[i - 1].as_str(), word) {
+            return tip_at(word);
         }
     }
     None
