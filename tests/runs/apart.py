@@ -4,10 +4,11 @@ import os
 import threading
 
 from samples import PLAIN, TEXT
-from steps import ACCEPTED, FAILED, FIRST, USAGE, absent, compare, holds, link, run, write
+from steps import ACCEPTED, FAILED, FIRST, REFUSED, USAGE, absent, compare, holds, link, run, run_between, write
 
 from runs.journals import Session, record
-from runs.replacing import folder, is_link
+from runs.refused_lines import LIST, LOADED, MINE, UNKNOWN, WITHOUT, backed_up
+from runs.replacing import folder, is_link, is_none, set_mode
 
 OLD = b"what stood there"
 
@@ -35,6 +36,46 @@ def is_over_puzzle(words, name):
 
 def is_as_puz(words, name):
     return is_refused(words, f"{name}: the session cannot be written as .puz")
+
+
+def is_refused_between(words, source, message, target=None):
+    """The call is wrong usage, with its input from a file and perhaps its output to one: it writes nothing."""
+    return run_between(words, source, target, errors=f"xw: {message}\n".encode(), status=USAGE)
+
+
+OVER_INPUT = "standard input cannot be the file to write"
+SHARED_OUTPUT = "standard output cannot be another file of the call"
+SHARED_JOURNAL = "the journal cannot be another file of the call"
+
+# A list of words, and a session over it.
+WORDS = b"cat\ndog\n"
+SESSION = FIRST + b"size 3 1\n"
+
+
+def cannot_write(words, name, typed=b"size 9 9\n"):
+    """The call is refused before anything is read: no list is loaded, and no command is answered."""
+    return run(f"edit --dict words.txt {words}", typed, errors=f"xw: {name}: cannot write\n".encode(), status=FAILED)
+
+
+def is_unwritable(name, *steps):
+    """Does steps on a file, or below a folder, without write permission, unless the user may write everywhere."""
+
+    def step(room, program):
+        if not os.access(room / name, os.W_OK):
+            for each in steps:
+                each(room, program)
+
+    return step
+
+
+def loses_its_folder(room, program):
+    """The folder of the session goes while it runs: it cannot be saved, and the puzzle is written all the same."""
+    session = Session(room, program, "edit --save inner/mine.xw --to new.txt")
+    for line in (b"size 2 1", b"place 1 across AT", b"clue 1 across a"):
+        session.ask(line, b"ok\n")
+    (room / "inner").rmdir()
+    compare("end", session.end(), (b"", b"xw: inner/mine.xw: cannot write\n", FAILED))
+    assert b"<GRID>" in (room / "new.txt").read_bytes()
 
 
 def is_no_puzzle(name):
@@ -224,6 +265,142 @@ CASES = {
         is_link("t"),
         is_no_puzzle("j"),
     ],
+    # The name `-` leads to the file that standard input is read from.
+    "over_the_input, the list": [
+        write("wl.txt", WORDS),
+        is_refused_between("edit --dict - --save wl.txt", "wl.txt", "wl.txt: the word list cannot be the file to write"),
+        is_refused_between("edit --dict - --to ./wl.txt", "wl.txt", "./wl.txt: the word list cannot be the file to write"),
+        is_refused_between("edit --dict - --journal wl.txt", "wl.txt", f"wl.txt: {SHARED_JOURNAL}"),
+        holds("wl.txt", WORDS),
+    ],
+    "over_the_input, the puzzle": [
+        write("keep.txt", TEXT),
+        link("l", "keep.txt"),
+        is_refused_between("edit --from - --save keep.txt", "keep.txt", "keep.txt: the session cannot be written over the puzzle to start with"),
+        is_refused_between("edit --from - --save l", "keep.txt", "l: the session cannot be written over the puzzle to start with"),
+        holds("keep.txt", TEXT),
+        # The puzzle may be.
+        run_between("edit --from - --to keep.txt", "keep.txt"),
+        holds("keep.txt", TEXT),
+    ],
+    "over_the_input, the commands to start with": [
+        write("k.xw", SESSION),
+        is_refused_between("edit --resume - --to k.xw", "k.xw", "k.xw: the puzzle cannot be written over the session to start with"),
+        is_refused("--resume k.xw --to ./k.xw", "./k.xw: the puzzle cannot be written over the session to start with"),
+        holds("k.xw", SESSION),
+        run_between("edit --resume - --save k.xw", "k.xw"),
+        run("edit --resume k.xw", b"show\n", b"- - -\nok\n"),
+    ],
+    # The session may replace the file, which is kept if a line of it was refused.
+    "over_the_input, a line that was refused": [
+        write("k.xw", MINE),
+        run_between("edit --resume - --save k.xw", "k.xw", errors=b"xw: -: line 2: Unknown\n" + backed_up("k.xw"), status=REFUSED),
+        holds("k.xw", WITHOUT),
+        holds("k.xw~", MINE),
+    ],
+    "over_the_input, the commands": [
+        write("s", b"size 2 1\n"),
+        hard_link("t", "s"),
+        is_refused_between("edit --save s", "s", f"s: {OVER_INPUT}"),
+        is_refused_between("edit --save t", "s", f"t: {OVER_INPUT}"),
+        is_refused_between("edit --to ./s", "s", f"./s: {OVER_INPUT}"),
+        is_refused_between("edit --to /dev/stdin", "s", f"/dev/stdin: {OVER_INPUT}"),
+        holds("s", b"size 2 1\n"),
+        # They may be read twice.
+        run_between("edit --resume s", "s", output=b"ok\n"),
+    ],
+    # Nothing is lost in a device.
+    "over_the_input, no file": [run_between("edit --save /dev/null --journal j", "/dev/null"), run_between("edit --save /dev/null", "/dev/null")],
+    # A journal that is also the input would read what it writes.
+    "the_input_as_journal": [
+        write("js", b"size 2 1\n"),
+        link("l", "js"),
+        is_refused_between("edit --journal js", "js", f"js: {SHARED_JOURNAL}"),
+        is_refused_between("edit --journal l", "js", f"l: {SHARED_JOURNAL}"),
+        is_refused_between("edit --journal /dev/stdin", "js", f"/dev/stdin: {SHARED_JOURNAL}"),
+        is_refused("--journal /dev/stdin", f"/dev/stdin: {SHARED_JOURNAL}"),
+        holds("js", b"size 2 1\n"),
+    ],
+    "the_output_as_another_file": [
+        write("typed", b"size 2 1\n"),
+        write("wl.txt", WORDS),
+        write("p.txt", TEXT),
+        write("k.xw", SESSION),
+        write("js", b"size 2 1\n"),
+        is_refused_between("edit --dict wl.txt", "typed", f"wl.txt: {SHARED_OUTPUT}", "wl.txt"),
+        is_refused_between("edit --from p.txt", "typed", f"p.txt: {SHARED_OUTPUT}", "p.txt"),
+        is_refused_between("edit --resume k.xw", "typed", f"k.xw: {SHARED_OUTPUT}", "k.xw"),
+        is_refused_between("edit --save k.xw", "typed", f"k.xw: {SHARED_OUTPUT}", "k.xw"),
+        is_refused_between("edit --to p.txt", "typed", f"p.txt: {SHARED_OUTPUT}", "p.txt"),
+        is_refused_between("edit --to /dev/stdout", "typed", f"/dev/stdout: {SHARED_OUTPUT}", "p.txt"),
+        is_refused_between("edit --journal js", "typed", f"js: {SHARED_JOURNAL}", "js"),
+        is_refused_between("edit", "typed", f"-: {SHARED_OUTPUT}", "typed"),
+        holds("typed", b"size 2 1\n"),
+        holds("wl.txt", WORDS),
+        holds("p.txt", TEXT),
+        holds("k.xw", SESSION),
+        holds("js", b"size 2 1\n"),
+        # An output that is no file may have the puzzle too.
+        run("edit --from p.txt --to /dev/stdout", output=TEXT),
+    ],
+    # The file that is kept beside the session is none of the call.
+    "the_kept_file": [
+        write("k.xw", MINE),
+        write("k.xw~", WORDS),
+        is_over_list("--dict k.xw~ --resume k.xw --save k.xw", "k.xw~"),
+        is_in_one("--resume k.xw --save k.xw --to k.xw~", "k.xw~"),
+        is_in_one("--save new.xw --to ./new.xw~", "./new.xw~"),
+        holds("k.xw", MINE),
+        holds("k.xw~", WORDS),
+        # It may be what the session begins with.
+        write("k.xw~", MINE),
+        LIST,
+        run("edit --dict words.txt --resume k.xw~ --save k.xw", errors=LOADED),
+        holds("k.xw", record(words=b"add OX\nstrike AT\n")),
+        holds("k.xw~", MINE),
+    ],
+    # What cannot be written at the end is told at the beginning.
+    "cannot_be_written, in no folder": [
+        cannot_write("--save no/such/mine.xw", "no/such/mine.xw"),
+        cannot_write("--to no/such/mine.puz", "no/such/mine.puz"),
+        cannot_write("--to mine.txt --save no/such/mine.xw", "no/such/mine.xw"),
+        cannot_write("--save mine.xw --to new.txt/", "new.txt/"),
+        link("l", "no/such/file"),
+        cannot_write("--save l", "l"),
+        is_link("l"),
+        absent("mine.txt"),
+        absent("mine.xw"),
+    ],
+    "cannot_be_written, a folder": [
+        folder("inner"),
+        cannot_write("--save inner", "inner"),
+        cannot_write("--to inner", "inner"),
+        cannot_write("--to .", "."),
+        cannot_write("--journal mine.xw --to inner", "inner"),
+        absent("mine.xw"),
+    ],
+    "cannot_be_written, read only": [
+        folder("closed"),
+        write("closed/shut", OLD),
+        set_mode("closed/shut", 0o444),
+        is_unwritable("closed/shut", cannot_write("--save closed/shut", "closed/shut"), cannot_write("--to closed/shut", "closed/shut")),
+        set_mode("closed/shut", 0o644),
+        set_mode("closed", 0o555),
+        is_unwritable("closed", cannot_write("--save closed/shut", "closed/shut"), cannot_write("--to closed/new", "closed/new")),
+        set_mode("closed", 0o755),
+        holds("closed/shut", OLD),
+    ],
+    # The trial leaves nothing, and changes nothing.
+    "cannot_be_written, tried": [
+        write("mine.xw", SESSION),
+        write(".xw-0.new", OLD),
+        run("edit --dict gone --save mine.xw --to new.txt", errors=b"xw: gone: cannot read\n", status=FAILED),
+        holds("mine.xw", SESSION),
+        holds(".xw-0.new", OLD),
+        absent("new.txt"),
+        is_none(".xw-1.new"),
+    ],
+    "cannot_be_written, only at the end": [folder("inner"), loses_its_folder],
     # The session is not written over the puzzle that it began with, nor into a file that is called a puzzle.
     "over_the_puzzle": [
         write("plain", PLAIN),

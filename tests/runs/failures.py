@@ -85,17 +85,24 @@ def keeps_the_old_file(old):
 
     def step(room, program):
         def run(first, last):
-            put_back(room, {"mine.xw": MINE, "mine.xw~": old})
+            put_back(room, {"mine.xw": MINE, "mine.xw~": old, "mine.xw~2": None})
             return Failing(room, program, "edit --resume mine.xw --save mine.xw", first=first, last=last)
 
         for ended in each_failing(run):
             is_saved = ended.status == REFUSED
             compare(f"mine.xw after {ended.what}", holds_now(room, "mine.xw"), record() if is_saved else MINE)
             beside = holds_now(room, "mine.xw~")
-            assert beside == MINE or (beside == old and not is_saved), f"mine.xw~ after {ended.what}: {beside}"
+            kept, name = (beside, "mine.xw~") if old is None else (holds_now(room, "mine.xw~2"), "mine.xw~2")
+            assert old is None or beside == old, f"mine.xw~ after {ended.what}: {beside}"
+            # Where the call that removes it failed, it may be left without its bytes.
+            unkept = (None, b"") if f"unlink {name}" in ended.failed else (None,)
+            assert kept == MINE or (kept in unkept and not is_saved), f"{name} after {ended.what}: {kept}"
+            told = KEPT_BESIDE if old is None else KEPT_BESIDE.replace(b"mine.xw~", b"mine.xw~2")
             unread, *unwritten = message("mine.xw", "cannot read"), message("mine.xw", "cannot write"), message("mine.xw~", "cannot write")
-            unsaved = [unread, *(REFUSED_LINE + told for told in (unread, *unwritten, KEPT_BESIDE + unwritten[0]))]
-            assert ended.errors == REFUSED_LINE + KEPT_BESIDE if is_saved else ended.errors in unsaved, f"{ended.what}: {ended.errors}"
+            # The message has the name that was tried when the call failed.
+            unwritten += [message("mine.xw~2", "cannot write")] if old is not None else []
+            unsaved = [unread, unwritten[0], *(REFUSED_LINE + why for why in (unread, *unwritten, told + unwritten[0]))]
+            assert ended.errors == REFUSED_LINE + told if is_saved else ended.errors in unsaved, f"{ended.what}: {ended.errors}"
             is_swept(room, ended)
 
     return step

@@ -192,6 +192,19 @@ def loses_by_a_search(room, program):
     compare("end", session.end(), REPLACED)
 
 
+def loses_a_folder(words, name):
+    """The folder of the session to write goes while the session runs."""
+
+    def step(room, program):
+        session = Session(room, program, words)
+        for line in BEGUN.splitlines():
+            session.ask(line, b"ok\n")
+        (room / name).rmdir()
+        compare("end", session.end(), (b"", b"xw: inner/new.xw: cannot write\n", FAILED))
+
+    return step
+
+
 def loses_its_journal_at_the_end(words):
     def step(room, program):
         session = Session(room, program, words)
@@ -506,7 +519,7 @@ CASES = {
     # Anything but a regular file is refused, and a pipe is not waited for.
     "no_file, a folder": [folder("mine.xw"), cannot_write("mine.xw"), is_no_file("mine.xw")],
     "no_file, a pipe": [pipe("mine.xw"), cannot_write("mine.xw"), is_no_file("mine.xw")],
-    "no_file, a device": [cannot_write("/dev/null"), cannot_write("/dev/full"), cannot_write("/dev/stdin")],
+    "no_file, a device": [cannot_write("/dev/null"), cannot_write("/dev/full")],
     "no_file, in no folder": [cannot_write("no/such/mine.xw")],
     "links_followed": [
         link("one.xw", "mine.xw"),
@@ -632,7 +645,11 @@ CASES = {
         absent("new.puz"),
     ],
     "other_files, a session that is not saved": [
-        run("edit --journal mine.xw --save no/such/folder.xw", BEGUN, b"ok\nok\n", errors=b"xw: no/such/folder.xw: cannot write\n", status=FAILED),
+        run("edit --journal mine.xw --save no/such/folder.xw", BEGUN, errors=b"xw: no/such/folder.xw: cannot write\n", status=FAILED),
+        absent("mine.xw"),
+        # If this shows at the end only, the journal stays as it is.
+        folder("inner"),
+        loses_a_folder("edit --journal mine.xw --save inner/new.xw", "inner"),
         holds("mine.xw", KEPT),
     ],
     # A word list that cannot be read ends the run before the journal is made.

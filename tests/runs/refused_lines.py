@@ -12,8 +12,8 @@ LOADED = b"xw: words.txt: 2 added, 0 skipped\n"
 UNKNOWN = b"xw: mine.xw: line 2: Unknown\n"
 
 
-def backed_up(name):
-    return f"xw: {name}: refused lines; the old file is kept as {name}~\n".encode()
+def backed_up(name, number=""):
+    return f"xw: {name}: refused lines; the old file is kept as {name}~{number}\n".encode()
 
 
 def loses_its_journal(room, program):
@@ -113,12 +113,64 @@ CASES = {
         absent("mine.xw~"),
         absent("other.xw~"),
     ],
-    # If the old file cannot be kept, it stays.
-    "saved, though the old file cannot be kept": [
+    # What is kept is never replaced: the second run of a session without its list keeps another file.
+    "saved, twice": [
         write("mine.xw", MINE),
-        lambda room, program: (room / "mine.xw~").mkdir(),
-        lambda room, program: (room / "mine.xw~/in").write_bytes(b""),
-        run("edit --resume mine.xw --save mine.xw", errors=UNKNOWN + b"xw: mine.xw~: cannot write\n", status=FAILED),
-        holds("mine.xw", MINE),
+        run("edit --resume mine.xw --save mine.xw", errors=UNKNOWN + backed_up("mine.xw"), status=REFUSED),
+        write("mine.xw", MINE + b"set 1 1 A\n"),
+        run("edit --resume mine.xw --save mine.xw", errors=UNKNOWN + backed_up("mine.xw", 2), status=REFUSED),
+        write("mine.xw", MINE + b"set 1 1 B\n"),
+        run("edit --resume mine.xw --save mine.xw", errors=UNKNOWN + backed_up("mine.xw", 3), status=REFUSED),
+        holds("mine.xw~", MINE),
+        holds("mine.xw~2", MINE + b"set 1 1 A\n"),
+        holds("mine.xw~3", MINE + b"set 1 1 B\n"),
+    ],
+    # Nor is what another program keeps there, such as an editor, or what is no file.
+    "saved, beside a file of another program": [
+        write("mine.xw", MINE),
+        write("mine.xw~", b"an editor's"),
+        write("mine.xw~2", b""),
+        lambda room, program: (room / "mine.xw~3").mkdir(),
+        run("edit --resume mine.xw --save mine.xw", errors=UNKNOWN + backed_up("mine.xw", 4), status=REFUSED),
+        holds("mine.xw", WITHOUT),
+        holds("mine.xw~", b"an editor's"),
+        holds("mine.xw~2", b""),
+        holds("mine.xw~4", MINE),
+    ],
+    "saved, beside a link": [
+        write("mine.xw", MINE),
+        write("other", b"old"),
+        link("mine.xw~", "other"),
+        link("mine.xw~2", "gone"),
+        run("edit --resume mine.xw --save mine.xw", errors=UNKNOWN + backed_up("mine.xw", 3), status=REFUSED),
+        holds("other", b"old"),
+        is_link("mine.xw~"),
+        is_link("mine.xw~2"),
+        absent("gone"),
+        holds("mine.xw~3", MINE),
+    ],
+    # Nor a file that the call writes afterwards.
+    "saved, beside the puzzle": [
+        write("mine.xw", MINE + b"place 1 across OX\nclue 1 across an ox\n"),
+        write("mine.xw~", b"an editor's"),
+        run("edit --resume mine.xw --save mine.xw --to ./mine.xw~2", errors=UNKNOWN + backed_up("mine.xw", 3), status=REFUSED),
+        holds("mine.xw~", b"an editor's"),
+        holds("mine.xw~3", MINE + b"place 1 across OX\nclue 1 across an ox\n"),
+        run("check mine.xw~2", output=b"text 2x1 1 lights\n"),
+    ],
+    # A word that is known already is not lost.
+    "saved, a word that is known": [
+        write("mine.xw", FIRST + b"add AT\nadd OX\nsize 2 1\n"),
+        LIST,
+        run("edit --dict words.txt --resume mine.xw --save mine.xw", errors=LOADED + b"xw: mine.xw: line 2: Known\n", status=REFUSED),
+        holds("mine.xw", record(words=b"add OX\n")),
+        absent("mine.xw~"),
+        write("mine.xw", FIRST + b"add AT\nsize 2 1\nset 9 9 A\n"),
+        run(
+            "edit --dict words.txt --resume mine.xw --save mine.xw",
+            errors=LOADED + b"xw: mine.xw: line 2: Known\nxw: mine.xw: line 4: OutOfGrid\n" + backed_up("mine.xw"),
+            status=REFUSED,
+        ),
+        holds("mine.xw~", FIRST + b"add AT\nsize 2 1\nset 9 9 A\n"),
     ],
 }

@@ -202,18 +202,6 @@ CASES = {
         differs("kept.xw", b"old"),
         absent("kept.puz"),
     ],
-    # If the session cannot be saved, the puzzle is not written either.
-    "sessions_unsaved": [
-        write("plain", PLAIN),
-        run(
-            "edit --from plain --to kept.puz --save no/such/folder.xw",
-            b"add CAT\n",
-            output=b"ok\n",
-            errors=b"xw: no/such/folder.xw: cannot write\n",
-            status=FAILED,
-        ),
-        absent("kept.puz"),
-    ],
     # The record must not replace the word list or the puzzle.
     "record_kept_apart": [
         write("here.txt", b"cat\n"),

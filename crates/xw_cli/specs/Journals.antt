@@ -12,7 +12,8 @@ use Rattle.xw_disk.specs.declared.disk.DiskFault.{DiskFault}
 use Rattle.xw_puzzle_files.specs.declared.failure.Failure.{Failure}
 use Rattle.xw_puzzle_files.specs.declared.failure.Failure.TheVariants as failures
 use Rattle.xw_puzzle_files.specs.Files.{Asks, IsLineFault}
-use Rattle.xw_cli.specs.SessionFiles.{IsStopped, file_of}
+use Rattle.xw_cli.specs.declared.session_files.Refusals.{Refusals}
+use Rattle.xw_cli.specs.SessionFiles.{AreRefused, IsStopped, file_of}
 use Rattle.xw_puzzle_files.specs.Told.{IsFaultOf}
 
 -- What a journal begins with, from the bytes that its file has. If these are at most a part of the first line, it
@@ -25,13 +26,15 @@ Begins forms.Whole bytes begun = begun ≡ first_line ++ bytes
 Begins forms.Cut bytes begun = ⊥
 
 -- The journal with this name was opened and begun, with this flag for syncing, and the lines of its bytes that count
--- were replayed. This number of them was refused.
-pub record HasReplayed (name : List ℕ) (is_synced : Bool) (start : State) (refused : ℕ) (state : State) (old new : List Event) : Type 0 where
+-- were replayed. These of them were refused.
+pub record HasReplayed (name : List ℕ) (is_synced : Bool) (start : State) (refused : Refusals) (state : State) (old new : List Event) : Type 0 where
   pub bytes : List ℕ
   pub mid : List Event
   pub opens : Asks (open_ name (Ok bytes)) old mid
   pub told : List ℕ
-  pub resumes : Resumes name start (kept_lines bytes) (Ok refused) told state
+  pub count : ℕ
+  pub resumes : Resumes name start (kept_lines bytes) (Ok count) told state
+  pub are_refused : AreRefused count told refused
   pub begun : List ℕ
   pub begins : Begins (form_of bytes) bytes begun
   pub asks : Asks (begin name begun is_synced (Ok tt)) mid new

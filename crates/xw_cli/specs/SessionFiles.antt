@@ -1,7 +1,8 @@
 -- The word list of a session, and the commands that it resumes: what is read, what is reported, and which failure ends
 -- it.
-use Rattle.std.specs.Prelude.{◌≡◌, ◌⊎◌, ◌-◌, ◌++◌, ◌&&◌, ℕ, nat_lt, Bool, true, false, IsTrue, List, None, Result, Ok, Err, codes, count_by, decimal, length, []}
-use Rattle.xw_text.specs.Lines.{is_line_feed}
+use Rattle.std.specs.Prelude.{◌≡◌, ◌⊎◌, ◌-◌, ◌++◌, ◌&&◌, ℕ, nat_lt, bytes_eq, drop, not, Bool, true, false, IsTrue, List, None, Result, Ok, Err, codes, count_by, decimal, length, []}
+use Rattle.std.specs.List.{list_any}
+use Rattle.xw_text.specs.Lines.{is_line_feed, lines_of}
 use Rattle.xw_words.specs.Dictionary.{Dictionary}
 use Rattle.xw_words.specs.WordList.{IsTooLong, listed_in, results_of, words_among}
 use Rattle.xw_journal.specs.File.{first_line, kept_lines}
@@ -11,10 +12,12 @@ use Rattle.xw_session.specs.State.{State}
 use Rattle.xw_answers.specs.Text.{name_of}
 use Rattle.xw_session.specs.declared.resuming.Stop.{Stop}
 use Rattle.xw_session.specs.declared.resuming.Stop.TheVariants as stops
+use Rattle.xw_cli.specs.declared.session_files.Refusals.{Refusals}
 use Rattle.xw_puzzle_files.specs.declared.failure.Failure.{Failure}
 use Rattle.xw_puzzle_files.specs.declared.failure.Failure.TheVariants as failures
 use Rattle.xw_puzzle_files.specs.Explained.{GoesOut}
-use Rattle.xw_disk.specs.Disk.{Event, read, copy}
+use Rattle.xw_disk.specs.Disk.{Event, read, keep}
+use Rattle.xw_disk.specs.Kept.{kept_name}
 use Rattle.xw_disk.specs.declared.disk.DiskFault.{DiskFault}
 use Rattle.xw_puzzle_files.specs.Files.{Asks, IsFileFault, IsLineFault, IsUnreadFile, IsUnreplaced}
 use Rattle.xw_puzzle_files.specs.Told.{IsOldFaultOf}
@@ -98,22 +101,42 @@ abbrev pub IsStopped : List ℕ → Stop → Failure → Type 0
 IsStopped name (stops.NoCommand number refusal) failure = (failure ≡ failures.Memory) ⊎ IsLineFault name number (name_of refusal) failure
 IsStopped name stops.Memory failure = failure ≡ failures.Memory
 
--- the number of refused lines of a replay, or the failure of one that stopped
-abbrev pub IsReplayed : List ℕ → Result ℕ Stop → Result ℕ Failure → Type 0
-IsReplayed name (Ok refused) (Ok count) = count ≡ refused
-IsReplayed name (Ok refused) (Err failure) = ⊥
-IsReplayed name (Err stop) (Ok count) = ⊥
-IsReplayed name (Err stop) (Err failure) = IsStopped name stop failure
+-- whether a report ends with the reason `Known`
+abbrev pub ends_in_known : List ℕ → Bool
+ends_in_known line = bytes_eq (drop (length line - 7) line) (codes ": Known")
+
+-- whether a report has another reason than `Known`; the record of the session then lacks what its line says
+abbrev pub tells_loss : List ℕ → Bool
+tells_loss reports = list_any (λ line. not (ends_in_known line)) (lines_of reports)
+
+-- this number of lines was refused, with these reports
+abbrev pub AreRefused : ℕ → List ℕ → Refusals → Type 0
+AreRefused count told refused = (refused.count ≡ count) × (refused.is_loss ≡ tells_loss told)
+
+-- the refused lines of a replay with these reports, or the failure of one that stopped
+abbrev pub IsReplayed : List ℕ → List ℕ → Result ℕ Stop → Result Refusals Failure → Type 0
+IsReplayed name told (Ok count) (Ok refused) = AreRefused count told refused
+IsReplayed name told (Ok count) (Err failure) = ⊥
+IsReplayed name told (Err stop) (Ok refused) = ⊥
+IsReplayed name told (Err stop) (Err failure) = IsStopped name stop failure
+
+-- The reports of a replay are written, with its result; or they could not be allocated, and none is written. `lost` is
+-- the number of those that were not allocated.
+abbrev pub TellsReplay : {S : Type 0} → (S → List ℕ) → (S → ℕ) → List ℕ → ℕ → List ℕ → Result ℕ Stop → Result Refusals Failure → S → S → Type 0
+TellsReplay transcript failed name lost told ended result old new =
+    ((lost ≡ 0) × Tells transcript failed old new told × IsReplayed name told ended result) ⊎ ((result ≡ Err failures.Memory) × (new ≡ old))
 
 -- These lines are replayed from the first state, up to the first that is no command: the result, the state that is
--- left and the reports of refused lines are those of the replay.
-abbrev pub Replays : {S : Type 0} → (S → List ℕ) → (S → ℕ) → List ℕ → List (List ℕ) → State → State → Result ℕ Failure → S → S → Type 0
-Replays transcript failures name lines start left result old new =
-    (ended : Result ℕ Stop) × (told : List ℕ) × Resumes name start lines ended told left × Tells transcript failures old new told × IsReplayed name ended result
+-- left and the reports of refused lines are those of the replay. Or the reports could not be allocated, and none is
+-- written.
+abbrev pub Replays : {S : Type 0} → (S → List ℕ) → (S → ℕ) → List ℕ → List (List ℕ) → State → State → Result Refusals Failure → S → S → Type 0
+Replays transcript failed name lines start left result old new =
+    ((ended : Result ℕ Stop) × (told : List ℕ) × Resumes name start lines ended told left × Tells transcript failed old new told × IsReplayed name told ended result)
+    ⊎ ((result ≡ Err failures.Memory) × (new ≡ old))
 
 -- The file with this name was read, and the lines of its bytes that count are replayed, after a report if others were
 -- cut.
-pub record IsReplay {S : Type 0} (transcript : S → List ℕ) (failures : S → ℕ) (name : List ℕ) (start left : State) (result : Result ℕ Failure) (asked asked' : List Event) (old new : S) : Type 0 where
+pub record IsReplay {S : Type 0} (transcript : S → List ℕ) (failures : S → ℕ) (name : List ℕ) (start left : State) (result : Result Refusals Failure) (asked asked' : List Event) (old new : S) : Type 0 where
   pub text : List ℕ
   pub asks : Asks (read name (Ok text)) asked asked'
   pub mid : S
@@ -121,7 +144,7 @@ pub record IsReplay {S : Type 0} (transcript : S → List ℕ) (failures : S →
   pub replays : Replays transcript failures name (kept_lines text) start left result mid new
 
 -- The file with this name was read, and the report that lines were cut could not be allocated.
-pub record IsUntold {S : Type 0} (name : List ℕ) (start left : State) (result : Result ℕ Failure) (asked asked' : List Event) (old new : S) : Type 0 where
+pub record IsUntold {S : Type 0} (name : List ℕ) (start left : State) (result : Result Refusals Failure) (asked asked' : List Event) (old new : S) : Type 0 where
   pub text : List ℕ
   pub asks : Asks (read name (Ok text)) asked asked'
   pub memory : result ≡ Err failures.Memory
@@ -129,7 +152,7 @@ pub record IsUntold {S : Type 0} (name : List ℕ) (start left : State) (result 
   pub untold : new ≡ old
 
 -- The file with this name was not read, and nothing else happened.
-pub record IsNotRead {S : Type 0} (name : List ℕ) (start left : State) (result : Result ℕ Failure) (asked asked' : List Event) (old new : S) : Type 0 where
+pub record IsNotRead {S : Type 0} (name : List ℕ) (start left : State) (result : Result Refusals Failure) (asked asked' : List Event) (old new : S) : Type 0 where
   pub failure : Failure
   pub failed : result ≡ Err failure
   pub why : IsUnreadFile name failure asked asked'
@@ -137,7 +160,7 @@ pub record IsNotRead {S : Type 0} (name : List ℕ) (start left : State) (result
   pub untold : new ≡ old
 
 -- what resuming the file with this name does
-abbrev pub IsResumed : {S : Type 0} → (S → List ℕ) → (S → ℕ) → List ℕ → State → State → Result ℕ Failure → List Event → List Event → S → S → Type 0
+abbrev pub IsResumed : {S : Type 0} → (S → List ℕ) → (S → ℕ) → List ℕ → State → State → Result Refusals Failure → List Event → List Event → S → S → Type 0
 IsResumed transcript failures name start left result asked asked' old new =
     IsReplay transcript failures name start left result asked asked' old new
     ⊎ (IsUntold name start left result asked asked' old new ⊎ IsNotRead name start left result asked asked' old new)
@@ -154,39 +177,30 @@ IsUnsaved name state failure old new = ((failure ≡ failures.Memory) × (new �
 
 -- ---- an old file that is kept
 
--- the name under which an old file is kept
-abbrev pub old_name : List ℕ → List ℕ
-old_name name = name ++ codes "~"
-
 -- the report of an old file that is kept
-abbrev pub old_line : List ℕ → List ℕ
-old_line name = codes "xw: " ++ name ++ codes ": refused lines; the old file is kept as " ++ name ++ codes "~\n"
+abbrev pub old_line : List ℕ → ℕ → List ℕ
+old_line name number = codes "xw: " ++ name ++ codes ": refused lines; the old file is kept as " ++ kept_name name number ++ codes "\n"
 
--- The file with this name was read, and another was to have these bytes and the same mode.
-pub record Copies (name : List ℕ) (answer : Result (Unit {0}) DiskFault) (old new : List Event) : Type 0 where
+-- The file with this name was read, and its bytes were to be kept beside it, under the name with this number.
+pub record Copies (name : List ℕ) (number : ℕ) (answer : Result (Unit {0}) DiskFault) (old new : List Event) : Type 0 where
   pub bytes : List ℕ
   pub mid : List Event
   pub reads : Asks (read name (Ok bytes)) old mid
-  pub copies : Asks (copy (old_name name) name bytes answer) mid new
+  pub keeps : Asks (keep name bytes number answer) mid new
 
--- the old file was read, and the name of its copy could not be allocated
-pub record IsUnnamed (name : List ℕ) (failure : Failure) (old new : List Event) : Type 0 where
-  pub bytes : List ℕ
-  pub asks : Asks (read name (Ok bytes)) old new
-  pub memory : failure ≡ failures.Memory
+-- the file with this name is kept under some number
+abbrev pub HasKept : List ℕ → List Event → List Event → Type 0
+HasKept name old new = (number : ℕ) × Copies name number (Ok tt) old new
 
--- the old file was not copied
+-- The old file was not kept, and the failure names the name that it was to get.
 pub record IsNotCopied (name : List ℕ) (failure : Failure) (old new : List Event) : Type 0 where
+  pub number : ℕ
   pub fault : DiskFault
-  pub told : IsOldFaultOf fault name failure
-  pub copies : Copies name (Err fault) old new
+  pub told : IsOldFaultOf fault name number failure
+  pub copies : Copies name number (Err fault) old new
 
--- the old file was copied, and the report of it could not be allocated
-pub record IsCopiedUntold (name : List ℕ) (failure : Failure) (old new : List Event) : Type 0 where
-  pub memory : failure ≡ failures.Memory
-  pub copies : Copies name (Ok tt) old new
-
--- why the old file is not kept before the session is written over it
+-- why the old file is not kept before the session is written over it: it was not read, it was not copied, or it was, and
+-- the report of this could not be allocated
 abbrev pub IsNotKept : List ℕ → Failure → List Event → List Event → Type 0
 IsNotKept name failure old new =
-    IsUnreadFile name failure old new ⊎ (IsUnnamed name failure old new ⊎ (IsNotCopied name failure old new ⊎ IsCopiedUntold name failure old new))
+    IsUnreadFile name failure old new ⊎ (IsNotCopied name failure old new ⊎ ((failure ≡ failures.Memory) × HasKept name old new))

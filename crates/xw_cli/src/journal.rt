@@ -6,7 +6,7 @@ ghost use Rattle.xw_disk.specs.Disk.{open_, started};
 ghost use Rattle.xw_puzzle_files.specs.Files.{Asks, IsLineFault};
 ghost use Rattle.xw_cli.specs.Journals.{Begins, HasReplayed, IsEnded, IsNoJournal, IsNotOpened, IsUnended, IsUnreplayed};
 
-use crate::session_files::{resume_text, tell_cut};
+use crate::session_files::{Refusals, resume_text, tell_cut};
 use std::alloc::Global;
 use xw_disk::{Disk, Start};
 use xw_feas::feasible::Feasible;
@@ -18,8 +18,8 @@ use xw_puzzle_files::files::line_fault;
 use xw_session::Session;
 
 /// Opens the journal, or creates it, replays the lines that count, and cuts it to these. Returns the journal, which
-/// then has the first line, and the number of refused lines. If a line is no command, or if a file without the first
-/// line has a cut last line or only comments, the file stays as it was.
+/// then has the first line, and the refused lines. If a line is no command, or if a file without the first line has a cut
+/// last line or only comments, the file stays as it was.
 pub fn resume_journal<'a, D: Disk, F: Searchable, E: Sink>(
     alloc: Global,
     disk: &mut D,
@@ -27,7 +27,7 @@ pub fn resume_journal<'a, D: Disk, F: Searchable, E: Sink>(
     is_synced: bool,
     session: &mut Session<F>,
     errors: &mut E,
-) -> Result<(D::Journal, usize), Failure<'a>>
+) -> Result<(D::Journal, Refusals), Failure<'a>>
     ensures ok { IfOk result (λ resumed. HasReplayed file.entry.now is_synced session.old resumed.1 session.new (D.log disk.old) (D.log disk.new)) }
     ensures transcript { IfOk result (λ resumed. D.Journal.transcript resumed.0 ≡ []) }
     ensures failures { IfOk result (λ resumed. D.Journal.failures resumed.0 ≡ 0) }

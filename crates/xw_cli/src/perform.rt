@@ -1,5 +1,5 @@
 //! Executes a call.
-ghost use Rattle.std.specs.Prelude.{◌≡◌, ◌⊎◌, ◌++◌, ◌∷◌, [], ℕ, Some, None, Ok, Err, option_map, Result, IfOk, IfErr, IsErr, OnOk, IsOkUnless};
+ghost use Rattle.std.specs.Prelude.{◌≡◌, ◌⊎◌, ◌++◌, ◌∷◌, [], ℕ, Some, None, Ok, Err, option_map, MatchResult, Result, IfOk, IfErr, IsErr, OnOk, IsOkUnless};
 ghost use Rattle.xw_grid.specs.Puzzle.{puzzle_view};
 ghost use Rattle.xw_journal.specs.Journal.{AnswersJournaled, StopsAtJournal};
 ghost use Rattle.xw_lines.specs.Device.{flushed};
@@ -15,11 +15,12 @@ ghost use Rattle.xw_puzzle_files.specs.declared.failure.Status.TheVariants.{Acce
 ghost use Rattle.xw_grid.specs.Puzzle.{PuzzleShown};
 ghost use Rattle.xw_puzzle_files.specs.Files.{IfNamed, IsTextTold, IsUnread, IsUnwritten, IsWritten};
 ghost use Rattle.xw_cli.specs.Journals.{HasReplayed, IsUnreplayed};
-ghost use Rattle.xw_cli.specs.Performed.{IsJournaled, AreResumed, EndsJournal, Ends, HasNoWords, HasResumed, HasWords, IsConverted, IsEdited, IsFound, IsJournalEnd, IsJournalRun, IsNotPut, IsNotSaved, IsOpened, IsPerformed, IsPut, IsRunWith, IsSaved, IsSession, IsSessionRun, IsSilent, IsUnconverted, IsUnedited, IsUnopened, IsUnresumed, IsUnrun, MayKeep, Performs};
+ghost use Rattle.xw_cli.specs.Performed.{IsJournaled, AreResumed, EndsJournal, Ends, HasNoWords, HasResumed, HasWords, IsConverted, IsEdited, IsFound, IsJournalEnd, IsJournalRun, IsNotPut, IsNotSaved, IsOpened, IsPerformed, IsPut, IsRunWith, IsSaved, IsSession, IsSessionRun, IsSilent, IsUnconverted, IsUnedited, IsUnopened, IsUnresumed, IsUnrun, IsNotKeptOver, Closes, Compares, Keeps, Performs};
+ghost use Rattle.xw_puzzle_files.specs.Apart.{IsNotApart};
 ghost use Rattle.xw_cli.specs.Streams.{AnswersInput, streams};
 
 use crate::journal::{end_journal, resume_journal};
-use crate::session_files::{keep_old, read_dictionary, resume_file, write_session};
+use crate::session_files::{Refusals, keep_old, read_dictionary, resume_file, write_session};
 use std::alloc::Global;
 use xw_arguments::{Call, SessionFiles};
 use xw_disk::Disk;
@@ -27,7 +28,7 @@ use xw_feas::feasible::Feasible;
 use xw_feas::searchable::Searchable;
 use xw_journal::{Cause, JournaledSession};
 use xw_lines::RunEnd;
-use xw_puzzle_files::apart::{is_input, keep_apart, keep_free, keep_session_apart};
+use xw_puzzle_files::apart::{keep_apart, keep_free, keep_session_apart, keep_writable};
 use xw_puzzle_files::checking::check_files;
 use xw_puzzle_files::explaining::report;
 use xw_puzzle_files::failure::{Failure, Status, run_status};
@@ -48,7 +49,7 @@ pub fn perform<F: Searchable, D: Disk, I: Source, O: Outlet, E: Messages>(
 ) -> Status
     ensures { Performs E.transcript E.failures (O.is_closed output.new) (explained_if (E.is_terminal errors.old) call.entry) result
         (streams D.log I.transcript I.is_at_end I.failures O.transcript O.failures disk.old input.old output.old)
-        (streams D.log I.transcript I.is_at_end I.failures O.transcript O.failures disk.new input.new output.new) errors.new }
+        (streams D.log I.transcript I.is_at_end I.failures O.transcript O.failures disk.new input.new output.new) errors.old errors.new }
 {
     let call = call.explained_if(errors.is_terminal());
     let explain = call.is_explained();
@@ -72,7 +73,7 @@ fn run<'a, F: Searchable, D: Disk, I: Source, O: Sink, E: Messages>(
 ) -> Result<Status, Failure<'a>>
     ensures { IsPerformed E.transcript E.failures call.entry result
         (streams D.log I.transcript I.is_at_end I.failures O.transcript O.failures disk.old input.old output.old)
-        (streams D.log I.transcript I.is_at_end I.failures O.transcript O.failures disk.new input.new output.new) errors.new }
+        (streams D.log I.transcript I.is_at_end I.failures O.transcript O.failures disk.new input.new output.new) errors.old errors.new }
 {
     match call {
         Call::Edit { files, explain } => {
@@ -106,6 +107,25 @@ fn edit<'a, F: Searchable, D: Disk, I: Source, O: Sink, E: Messages>(
 {
     keep_apart(disk, named)?;
     keep_free(disk, named)?;
+    keep_writable(disk, named)?;
+    edit_apart::<F, D, I, O, E>(alloc, disk, named, explain, input, output, errors)
+}
+
+/// Runs a session whose files are apart, as `edit`.
+fn edit_apart<'a, F: Searchable, D: Disk, I: Source, O: Sink, E: Messages>(
+    alloc: Global,
+    disk: &mut D,
+    named: SessionFiles<'a>,
+    explain: bool,
+    input: &mut I,
+    output: &mut O,
+    errors: &mut E,
+) -> Result<Status, Failure<'a>>
+    ensures { (IsEdited named.entry explain result
+        (streams D.log I.transcript I.is_at_end I.failures O.transcript O.failures disk.old input.old output.old)
+        (streams D.log I.transcript I.is_at_end I.failures O.transcript O.failures disk.new input.new output.new))
+        ⊎ (IfErr result (λ failure. IsUnedited named.entry explain failure (D.log disk.old) (D.log disk.new)) × IsErr result × (input.new ≡ input.old) × (output.new ≡ output.old)) }
+{
     let session: Session<F> = open(alloc, disk, named, explain, errors)?;
     match named.journal_file {
         Some(file) => answer_journaled(
@@ -137,14 +157,14 @@ fn answer<'a, F: Searchable, D: Disk, I: Source, O: Sink, E: Sink>(
     )
 }
 
-/// Answers the input, and writes the files of the session. `before` is the number of lines refused earlier.
+/// Answers the input, and writes the files of the session. `before` are the lines refused earlier.
 fn converse<'a, F: Searchable, D: Disk, I: Source, O: Sink, E: Sink>(
     alloc: Global,
     disk: &mut D,
     mut session: Session<F>,
     named: SessionFiles<'a>,
     explain: bool,
-    before: usize,
+    before: Refusals,
     input: &mut I,
     output: &mut O,
     errors: &mut E,
@@ -154,7 +174,7 @@ fn converse<'a, F: Searchable, D: Disk, I: Source, O: Sink, E: Sink>(
         (streams D.log I.transcript I.is_at_end I.failures O.transcript O.failures disk.new input.new output.new) }
 {
     let end = session.run_lines(input, output);
-    let answered = run_status(end, before);
+    let answered = run_status(end, before.count);
     end_session(
         alloc, disk, &session, named, explain, before, answered, None, errors,
     )
@@ -183,7 +203,7 @@ fn answer_journaled<'a, F: Searchable, D: Disk, I: Source, O: Sink, E: Sink>(
     )
 }
 
-/// Replays the journal, and joins it with the session. Returns the number of lines refused.
+/// Replays the journal, and joins it with the session. Returns the lines refused.
 fn begin<'a, F: Searchable, D: Disk, E: Sink>(
     alloc: Global,
     disk: &mut D,
@@ -191,7 +211,7 @@ fn begin<'a, F: Searchable, D: Disk, E: Sink>(
     file: &'a str,
     is_synced: bool,
     errors: &mut E,
-) -> Result<(JournaledSession<F, D::Journal>, usize), Failure<'a>>
+) -> Result<(JournaledSession<F, D::Journal>, Refusals), Failure<'a>>
     ensures ok { IfOk result (λ begun. HasReplayed file.entry.now is_synced session begun.1 begun.0.state (D.log disk.old) (D.log disk.new)) }
     ensures new { IfOk result (λ begun. begun.0 ≡ record { state = begun.0.state; journal = []; failures = 0; cause = None }) }
     ensures err { IfErr result (λ failure. IsUnreplayed file.entry.now is_synced failure (D.log disk.old) (D.log disk.new)) }
@@ -201,8 +221,8 @@ fn begin<'a, F: Searchable, D: Disk, E: Sink>(
     Ok((journaled, before))
 }
 
-/// Answers the input while each change is journaled, and writes the files of the session. `before` is the number of
-/// lines refused earlier.
+/// Answers the input while each change is journaled, and writes the files of the session. `before` are the lines
+/// refused earlier.
 fn converse_journaled<'a, F: Searchable, D: Disk, I: Source, O: Sink, E: Sink>(
     alloc: Global,
     disk: &mut D,
@@ -210,7 +230,7 @@ fn converse_journaled<'a, F: Searchable, D: Disk, I: Source, O: Sink, E: Sink>(
     file: &'a str,
     named: SessionFiles<'a>,
     explain: bool,
-    before: usize,
+    before: Refusals,
     input: &mut I,
     output: &mut O,
     errors: &mut E,
@@ -223,7 +243,7 @@ fn converse_journaled<'a, F: Searchable, D: Disk, I: Source, O: Sink, E: Sink>(
     let cause = journaled.cause();
     let (session, journal) = journaled.into_parts();
     disk.close_journal(file, journal);
-    let answered = journal_status(end, before, cause, file, disk.is_lost());
+    let answered = journal_status(end, before.count, cause, file, disk.is_lost());
     let ending = Some(file);
     end_session(
         alloc, disk, &session, named, explain, before, answered, ending, errors,
@@ -308,33 +328,33 @@ fn open_empty<'a, F: Feasible>(alloc: Global, bank: Bank) -> Result<Session<F>, 
     Ok(opening::open_empty(alloc, bank)?)
 }
 
-/// Replays the commands of a file if one is given, and returns the number of refused lines.
+/// Replays the commands of a file if one is given, and returns the refused lines.
 fn resume<'a, F: Searchable, D: Disk, E: Sink>(
     alloc: Global,
     disk: &mut D,
     session: &mut Session<F>,
     named: Option<&'a str>,
     errors: &mut E,
-) -> Result<usize, Failure<'a>>
+) -> Result<Refusals, Failure<'a>>
     ensures ok { IfOk result (λ refused. HasResumed named.entry session.old refused session.new (D.log disk.old) (D.log disk.new)) }
     ensures err { IfErr result (λ failure. IfNamed named.entry (λ name. IsUnresumed name failure (D.log disk.old) (D.log disk.new))) }
 {
     match named {
         Some(file) => resume_file(alloc, disk, file, session, errors),
-        None => Ok(0),
+        None => Ok(Refusals::NONE),
     }
 }
 
 /// Ends a session that answered its input or failed: saves it in any case, and then, unless it failed, ends its
-/// journal and writes its puzzle. `refused` is the number of lines of the file to resume or of the journal that were
-/// refused.
+/// journal and writes its puzzle. If it cannot be saved, the puzzle is written, and the journal stays. `refused` are the
+/// lines of the file to resume or of the journal that were refused.
 fn end_session<'a, F: Feasible, D: Disk, E: Sink>(
     alloc: Global,
     disk: &mut D,
     session: &Session<F>,
     named: SessionFiles<'a>,
     explain: bool,
-    refused: usize,
+    refused: Refusals,
     answered: Result<Status, Failure<'a>>,
     journal: Option<&'a str>,
     errors: &mut E,
@@ -345,10 +365,42 @@ fn end_session<'a, F: Feasible, D: Disk, E: Sink>(
     let apart = keep_apart(disk, named);
     let saved = write_saved(alloc, disk, session, named, refused, errors);
     let status = answered?;
-    saved?;
+    match saved {
+        Ok(()) => close(
+            alloc,
+            disk,
+            session,
+            named,
+            explain,
+            refused.count,
+            status,
+            journal,
+            apart,
+        ),
+        Err(failure) => {
+            let _ = write_puzzle_if(alloc, disk, session, named, explain, apart);
+            Err(failure)
+        }
+    }
+}
+
+/// Ends the journal of a session that was saved, and writes its puzzle.
+fn close<'a, F: Feasible, D: Disk>(
+    alloc: Global,
+    disk: &mut D,
+    session: &Session<F>,
+    named: SessionFiles<'a>,
+    explain: bool,
+    refused: usize,
+    status: Status,
+    journal: Option<&'a str>,
+    apart: Result<(), Failure<'a>>,
+) -> Result<Status, Failure<'a>>
+    requires { IfErr apart (λ failure. IsNotApart named failure) }
+    ensures { Closes (option_map (λ file. file.now) journal.entry) named.entry explain refused session.now status result (D.log disk.old) (D.log disk.new) }
+{
     end_journal_if(alloc, disk, journal, refused, session)?;
-    apart?;
-    write_puzzle(alloc, disk, session, named, explain)?;
+    write_puzzle_if(alloc, disk, session, named, explain, apart)?;
     Ok(status)
 }
 
@@ -368,37 +420,79 @@ fn end_journal_if<'a, F: Feasible, D: Disk>(
     }
 }
 
-/// Writes the session to a file if one is given. If this is the file that was resumed, and lines of it were refused,
-/// the old file is kept under another name.
+/// Writes the session to a file if one is given. If this is the file that was resumed, and the record lacks what lines
+/// of it say, the old file is kept under another name.
 fn write_saved<'a, F: Feasible, D: Disk, E: Sink>(
     alloc: Global,
     disk: &mut D,
     session: &Session<F>,
     named: SessionFiles<'a>,
-    refused: usize,
+    refused: Refusals,
     errors: &mut E,
 ) -> Result<(), Failure<'a>>
-    ensures ok { OnOk result (IsSaved named.entry.save_file refused session.now (D.log disk.old) (D.log disk.new)) }
+    ensures ok { OnOk result (IsSaved named.entry named.entry.save_file refused session.now (D.log disk.old) (D.log disk.new)) }
     ensures err { IfErr result (λ failure. IsNotSaved named.entry refused session.now failure (D.log disk.old) (D.log disk.new)) }
 {
     let Some(file) = named.save_file else {
         return Ok(());
     };
     keep_session_apart(disk, named)?;
-    if refused > 0 && is_resumed(disk, named.resume_file, file)? {
-        keep_old(alloc, disk, file, errors)?;
-    }
+    keep_lost(alloc, disk, file, named, refused, errors)?;
     write_session(alloc, disk, file, session)
 }
 
-/// Returns whether a file is the one that was resumed. No file is standard input.
-fn is_resumed<'a, D: Disk>(disk: &D, resumed: Option<&str>, file: &str) -> Result<bool, Failure<'a>>
-    ensures { IfErr result (λ failure. failure ≡ Memory) }
+/// Keeps the file that the session is written to if it is the one that was resumed and a line of it is lost.
+fn keep_lost<'a, D: Disk, E: Sink>(
+    alloc: Global,
+    disk: &mut D,
+    file: &'a str,
+    named: SessionFiles<'a>,
+    refused: Refusals,
+    errors: &mut E,
+) -> Result<(), Failure<'a>>
+    ensures ok { OnOk result (Keeps named.entry.resume_file file.entry.now refused.is_loss (D.log disk.old) (D.log disk.new)) }
+    ensures err { IfErr result (λ failure. ((failure ≡ Memory) × (D.log disk.new ≡ D.log disk.old)) ⊎ IsNotKeptOver named.entry.resume_file file.entry.now refused failure (D.log disk.old) (D.log disk.new)) }
+{
+    if !refused.is_loss {
+        return Ok(());
+    }
+    if !is_resumed(disk, named.resume_file, file)? {
+        return Ok(());
+    }
+    keep_old(alloc, disk, file, named.to_file, errors)
+}
+
+/// Returns whether a file is the one that was resumed.
+fn is_resumed<'a, D: Disk>(
+    disk: &mut D,
+    resumed: Option<&str>,
+    file: &str,
+) -> Result<bool, Failure<'a>>
+    ensures { MatchResult result
+        (λ is_one. Compares resumed.entry file.now is_one (D.log disk.old) (D.log disk.new))
+        (λ failure. (failure ≡ Memory) × (D.log disk.new ≡ D.log disk.old)) }
 {
     match resumed {
-        Some(name) if !is_input(resumed) => Ok(disk.is_one_file(name, file)?),
-        _ => Ok(false),
+        Some(name) => Ok(disk.is_origin(name, file)?),
+        None => Ok(false),
     }
+}
+
+/// Writes the puzzle of a session that ended if the files of the call were apart.
+fn write_puzzle_if<'a, F: Feasible, D: Disk>(
+    alloc: Global,
+    disk: &mut D,
+    session: &Session<F>,
+    named: SessionFiles<'a>,
+    explain: bool,
+    apart: Result<(), Failure<'a>>,
+) -> Result<(), Failure<'a>>
+    requires { IfErr apart (λ failure. IsNotApart named failure) }
+    ensures ok { OnOk result (IsPut named.entry.to_file (puzzle_of session.now) (D.log disk.old) (D.log disk.new)) }
+    ensures err { IfErr result (λ failure. IsNotPut named.entry explain (puzzle_of session.now) failure (D.log disk.old) (D.log disk.new)) }
+{
+    apart?;
+    write_puzzle(alloc, disk, session, named, explain)
 }
 
 /// Writes the puzzle of a session that ended to a file if one is given. Refuses two files that have become one since
@@ -446,9 +540,8 @@ fn convert<'a, D: Disk, E: Sink>(
     explain: bool,
     errors: &mut E,
 ) -> Result<Status, Failure<'a>>
-    ensures ok { IfOk result (λ status. (status ≡ Accepted) × IsConverted from_file.entry.now to_file.entry.now (D.log disk.old) (D.log disk.new)) }
-    ensures told { OnOk result ((mid : E) × IsTextTold E.transcript E.failures to_file.entry.now mid errors.new) }
-    ensures err { IfErr result (λ failure. IsUnconverted from_file.entry.now to_file.entry.now explain failure (D.log disk.old) (D.log disk.new)) }
+    ensures ok { IfOk result (λ status. (status ≡ Accepted) × IsConverted E.transcript E.failures from_file.entry.now to_file.entry.now (D.log disk.old) (D.log disk.new) errors.old errors.new) }
+    ensures err { IfErr result (λ failure. IsUnconverted E.transcript E.failures from_file.entry.now to_file.entry.now explain failure (D.log disk.old) (D.log disk.new) errors.old errors.new) }
 {
     let (_, puzzle) = files::read_puzzle(alloc, disk, from_file, explain, errors)?;
     let note = files::text_note(alloc, to_file)?;

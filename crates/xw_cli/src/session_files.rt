@@ -6,7 +6,8 @@ ghost use Rattle.xw_puzzle_files.specs.declared.failure.Failure.TheVariants.{Mem
 ghost use Rattle.xw_puzzle_files.specs.Explained.{GoesOut};
 ghost use Rattle.xw_puzzle_files.specs.Files.{Asks, IsFileFault};
 ghost use Rattle.xw_disk.specs.Disk.{read, replace};
-ghost use Rattle.xw_cli.specs.SessionFiles.{counts_line, cut_line, file_of, is_long, loading_line, IsLoadedTold, old_line, Copies, IsLoaded, IsLoadingTold, MayTellLoading, IsNotKept, IsOverfull, IsUnloaded, IsStopped, Replays, IsResumed, IsUnsaved};
+ghost use Rattle.xw_cli.specs.SessionFiles.{counts_line, cut_line, file_of, is_long, loading_line, IsLoadedTold, ends_in_known, old_line, tells_loss, HasKept, IsLoaded, IsLoadingTold, MayTellLoading, IsNotKept, IsOverfull, IsUnloaded, IsStopped, Replays, TellsReplay, IsResumed, IsUnsaved};
+ghost use Rattle.xw_session.specs.Resuming.{Tells};
 ghost use Rattle.xw_lines.specs.Cut.{lines_of};
 
 use crate::lists::notes_of;
@@ -14,6 +15,7 @@ use memchr::memchr_iter;
 use std::alloc::Global;
 use xw_answers::refusal::{self, Refusal};
 use xw_disk::Disk;
+use xw_disk::replacing::kept_name;
 use xw_feas::feasible::Feasible;
 use xw_feas::searchable::Searchable;
 use xw_journal::file::{kept, saved};
@@ -22,11 +24,30 @@ use xw_puzzle_files::failure::{Failure, old_failure_of};
 use xw_puzzle_files::files::{file_fault, line_fault, read_file, write_file};
 use xw_puzzle_files::outlet::Messages;
 use xw_session::resuming::{self, Stop};
+use xw_session::vec_sink::VecSink;
 use xw_session::{Session, Sink};
+use xw_text::lines::first_line;
 use xw_words::{Bank, Loaded, WordFault};
 
 /// A word list with more line feeds than this takes a while to load.
 const LONG: usize = 1_000_000;
+
+/// The lines that a replay refused.
+#[derive(Clone, Copy, Debug, PartialEq, Eq)]
+pub struct Refusals {
+    /// How many there were.
+    pub count: usize,
+    /// Whether one of them was refused for another reason than `Known`: then the record of the session lacks what it says.
+    pub is_loss: bool,
+}
+
+impl Refusals {
+    /// No lines.
+    pub const NONE: Refusals = Refusals {
+        count: 0,
+        is_loss: false,
+    };
+}
 
 /// Loads a word list into a dictionary, and prints how many lines were added and skipped, with notes on the list if
 /// `explain` is set. On a terminal it first prints that a long list is loading.
@@ -130,7 +151,7 @@ fn tell_loaded<'a, E: Sink>(
     Ok(())
 }
 
-/// Replays the commands of a file that count, and returns the number of refused lines. Reports on `errors` if others
+/// Replays the commands of a file that count, and returns the refused lines. Reports on `errors` if others
 /// were cut.
 pub fn resume_file<'a, D: Disk, F: Searchable, E: Sink>(
     alloc: Global,
@@ -138,7 +159,7 @@ pub fn resume_file<'a, D: Disk, F: Searchable, E: Sink>(
     file: &'a str,
     session: &mut Session<F>,
     errors: &mut E,
-) -> Result<usize, Failure<'a>>
+) -> Result<Refusals, Failure<'a>>
     ensures { IsResumed E.transcript E.failures file.entry.now session.old session.new result (D.log disk.old) (D.log disk.new) errors.old errors.new }
 {
     let text = read_file(disk, file)?;
@@ -164,20 +185,72 @@ pub fn tell_cut<'a, E: Sink>(
     Ok(())
 }
 
-/// Replays commands, and returns the number of refused lines. `file` is named in reports.
+/// Replays commands, and returns the refused lines, which it reports. `file` is named in reports.
 pub fn resume_text<'a, F: Searchable, E: Sink>(
     alloc: Global,
     file: &'a str,
     session: &mut Session<F>,
     text: &[u8],
     errors: &mut E,
-) -> Result<usize, Failure<'a>>
+) -> Result<Refusals, Failure<'a>>
     ensures { Replays E.transcript E.failures file.entry.now (lines_of text.now) session.old session.new result errors.old errors.new }
 {
-    match resuming::resume(alloc, session, file, text, errors) {
-        Ok(refused) => Ok(refused),
+    let mut reports = VecSink::new(alloc);
+    let ended = resuming::resume(alloc, session, file, text, &mut reports);
+    tell_replayed(file, ended, &reports, errors)
+}
+
+/// Prints the reports of a replay, and returns the refused lines. Fails if the reports could not be allocated; then none
+/// is printed. Write errors are ignored.
+fn tell_replayed<'a, E: Sink>(
+    file: &'a str,
+    ended: Result<usize, Stop>,
+    reports: &VecSink,
+    errors: &mut E,
+) -> Result<Refusals, Failure<'a>>
+    ensures { TellsReplay E.transcript E.failures file.entry.now reports.now.failures reports.now.bytes.items ended result errors.old errors.new }
+{
+    if reports.failures() > 0 {
+        return Err(Failure::Memory);
+    }
+    tell_reports(reports, errors);
+    match ended {
+        Ok(count) => Ok(Refusals {
+            count,
+            is_loss: tells_loss(reports.bytes()),
+        }),
         Err(stop) => Err(stopped(file, stop)),
     }
+}
+
+/// Prints the reports of a replay. Write errors are ignored.
+fn tell_reports<E: Sink>(reports: &VecSink, errors: &mut E)
+    ensures { Tells E.transcript E.failures errors.old errors.new reports.now.bytes.items }
+{
+    let _ = device::write_all(errors, reports.bytes());
+}
+
+/// Returns whether a report ends with the reason `Known`.
+fn ends_in_known(line: &[u8]) -> bool
+    ensures { result ≡ ends_in_known line.now }
+{
+    let reason = &line[line.len().saturating_sub(7)..];
+    reason == b": Known".as_slice()
+}
+
+/// Returns whether one of these reports has another reason than `Known`.
+fn tells_loss(reports: &[u8]) -> bool
+    ensures { result ≡ tells_loss reports.now }
+{
+    let mut rest = reports;
+    while !rest.is_empty() {
+        let (line, after) = first_line(rest);
+        if !ends_in_known(line) {
+            return true;
+        }
+        rest = after;
+    }
+    false
 }
 
 /// The failure for a replay that stopped.
@@ -204,30 +277,36 @@ pub fn write_session<'a, D: Disk, F: Feasible>(
     write_file(disk, file, bytes.as_slice())
 }
 
-/// Keeps a file under another name before it is written over, and reports it.
+/// Keeps a file under another name before it is written over, and reports it. The other name does not lead to `apart`.
 pub fn keep_old<'a, D: Disk, E: Sink>(
     alloc: Global,
     disk: &mut D,
     file: &'a str,
+    apart: Option<&str>,
     errors: &mut E,
 ) -> Result<(), Failure<'a>>
-    ensures ok { OnOk result (Copies file.entry.now (Ok tt) (D.log disk.old) (D.log disk.new)) }
+    ensures ok { OnOk result (HasKept file.entry.now (D.log disk.old) (D.log disk.new)) }
     ensures err { IfErr result (λ failure. IsNotKept file.entry.now failure (D.log disk.old) (D.log disk.new)) }
 {
     let bytes = read_file(disk, file)?;
-    let old = format!(in alloc; "{file}~")?;
-    match disk.copy(&old, file, bytes.as_slice()) {
-        Ok(()) => tell_kept(alloc, file, errors),
-        Err(fault) => Err(old_failure_of(fault, file)),
+    match disk.keep(file, apart, bytes.as_slice()) {
+        Ok(number) => tell_kept(alloc, file, number, errors),
+        Err(unkept) => Err(old_failure_of(unkept, file)),
     }
 }
 
-/// Reports that an old file is kept. Write errors are ignored.
-fn tell_kept<'a, E: Sink>(alloc: Global, file: &'a str, errors: &mut E) -> Result<(), Failure<'a>>
-    ensures told { OnOk result (GoesOut E.transcript E.failures errors.old errors.new (old_line file.entry.now)) }
+/// Reports that an old file is kept under the name with this number. Write errors are ignored.
+fn tell_kept<'a, E: Sink>(
+    alloc: Global,
+    file: &'a str,
+    number: u32,
+    errors: &mut E,
+) -> Result<(), Failure<'a>>
+    ensures told { OnOk result (GoesOut E.transcript E.failures errors.old errors.new (old_line file.entry.now number)) }
     ensures memory { IsOkUnless result Memory }
 {
-    let text = format!(in alloc; "xw: {file}: refused lines; the old file is kept as {file}~\n")?;
+    let name = kept_name(alloc, file, number)?;
+    let text = format!(in alloc; "xw: {file}: refused lines; the old file is kept as {name}\n")?;
     let _ = device::write_all(errors, text.as_bytes());
     Ok(())
 }

@@ -1,6 +1,6 @@
 -- The event that a call of a disk is.
 use Rattle.std.specs.Prelude.{Ok, Err}
-use Rattle.xw_disk.specs.Disk.{Event, read, replace, copy, open_, begin, take_lines, end, started}
+use Rattle.xw_disk.specs.Disk.{Event, read, replace, compare, keep, open_, begin, take_lines, end, started}
 use Rattle.xw_disk.specs.declared.asked.Asked.{Asked}
 use Rattle.xw_disk.specs.declared.asked.Asked.TheVariants as asked
 
@@ -8,7 +8,9 @@ abbrev pub seen : Asked → Event
 seen (asked.Read name bytes) = read name.now (Ok bytes.now)
 seen (asked.Unread name fault) = read name.now (Err fault)
 seen (asked.Replace name bytes answer) = replace name.now bytes.now answer
-seen (asked.Copy name like bytes answer) = copy name.now like.now bytes.now answer
+seen (asked.Keep name bytes number) = keep name.now bytes.now number (Ok tt)
+seen (asked.Unkept name bytes unkept) = keep name.now bytes.now unkept.number (Err unkept.fault)
+seen (asked.Compare one other is_one) = compare one.now other.now is_one
 seen (asked.Open name bytes) = open_ name.now (Ok bytes.now)
 seen (asked.Unopened name fault) = open_ name.now (Err fault)
 seen (asked.Begin name start is_synced answer) = begin name.now (started start) is_synced answer

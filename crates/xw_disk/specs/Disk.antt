@@ -1,5 +1,5 @@
 -- What a disk was asked, and what it answered.
-use Rattle.std.specs.Prelude.{◌≡◌, ℕ, ◌==◌, cond, Bool, true, false, List, [], ◌∷◌, ◌++◌, Result, Ok, Err, refl}
+use Rattle.std.specs.Prelude.{◌≡◌, ℕ, ◌==◌, Bool, true, false, cond, List, [], ◌∷◌, ◌++◌, Result, Ok, Err, refl}
 use Rattle.std.specs.Coded.{Coded, code_by, coded×, coded_ℕ, coded_list}
 use Rattle.xw_disk.specs.declared.disk.DiskFault.{DiskFault}
 use Rattle.xw_disk.specs.declared.disk.DiskFault.TheVariants.{Memory, Unreadable, Unwritable, InUse, Replaced}
@@ -11,8 +11,11 @@ pub data Event : Type 0 where
   read : List ℕ → Result (List ℕ) DiskFault → Event
   -- the file with this name was to have these bytes, and whether it was replaced
   replace : List ℕ → List ℕ → Result (Unit {0}) DiskFault → Event
-  -- the same, with the mode of the file with the second name
-  copy : List ℕ → List ℕ → List ℕ → Result (Unit {0}) DiskFault → Event
+  -- these bytes of the file with this name were to be kept beside it, under the name with this number, and whether they
+  -- were
+  keep : List ℕ → List ℕ → ℕ → Result (Unit {0}) DiskFault → Event
+  -- whether the file to write with the second name was the one that was read by the first name
+  compare : List ℕ → List ℕ → Bool → Event
   -- the journal with this name was opened: its bytes, or why it was not
   open_ : List ℕ → Result (List ℕ) DiskFault → Event
   -- the journal with this name was to begin with these bytes, and whether each flush of it is synced to the device
@@ -46,6 +49,10 @@ done_at n = cond (n == 0) (Ok tt) (Err (fault_at n))
 abbrev bytes_at : List ℕ → ℕ → Result (List ℕ) DiskFault
 bytes_at bytes n = cond (n == 0) (Ok bytes) (Err (fault_at n))
 
+abbrev number_at : List ℕ → ℕ
+number_at [] = 0
+number_at (number ∷ rest) = number
+
 abbrev flag_list : Bool → List ℕ
 flag_list false = []
 flag_list true = 1 ∷ []
@@ -62,8 +69,10 @@ to_parts (read name (Ok bytes)) = (0, (name, (bytes, ([], 0))))
 to_parts (read name (Err fault)) = (0, (name, ([], ([], fault_number fault))))
 to_parts (replace name bytes (Ok done)) = (1, (name, (bytes, ([], 0))))
 to_parts (replace name bytes (Err fault)) = (1, (name, (bytes, ([], fault_number fault))))
-to_parts (copy name like bytes (Ok done)) = (2, (name, (bytes, (like, 0))))
-to_parts (copy name like bytes (Err fault)) = (2, (name, (bytes, (like, fault_number fault))))
+to_parts (keep name bytes number (Ok done)) = (2, (name, (bytes, (number ∷ [], 0))))
+to_parts (keep name bytes number (Err fault)) = (2, (name, (bytes, (number ∷ [], fault_number fault))))
+to_parts (compare one other true) = (7, (one, (other, ([], 1))))
+to_parts (compare one other false) = (7, (one, (other, ([], 0))))
 to_parts (open_ name (Ok bytes)) = (3, (name, (bytes, ([], 0))))
 to_parts (open_ name (Err fault)) = (3, (name, ([], ([], fault_number fault))))
 to_parts (begin name bytes is_synced (Ok done)) = (4, (name, (bytes, (flag_list is_synced, 0))))
@@ -75,8 +84,9 @@ to_parts (end name bytes (Err fault)) = (6, (name, (bytes, ([], fault_number fau
 abbrev from_parts : Parts → Event
 from_parts p =
     cond (p.0 == 0) (read p.1.0 (bytes_at p.1.1.0 p.1.1.1.1)) (cond (p.0 == 1) (replace p.1.0 p.1.1.0 (done_at p.1.1.1.1))
-    (cond (p.0 == 2) (copy p.1.0 p.1.1.1.0 p.1.1.0 (done_at p.1.1.1.1)) (cond (p.0 == 3) (open_ p.1.0 (bytes_at p.1.1.0 p.1.1.1.1))
-    (cond (p.0 == 4) (begin p.1.0 p.1.1.0 (flag_at p.1.1.1.0) (done_at p.1.1.1.1)) (cond (p.0 == 5) (take_lines p.1.0 p.1.1.0) (end p.1.0 p.1.1.0 (done_at p.1.1.1.1)))))))
+    (cond (p.0 == 2) (keep p.1.0 p.1.1.0 (number_at p.1.1.1.0) (done_at p.1.1.1.1)) (cond (p.0 == 3) (open_ p.1.0 (bytes_at p.1.1.0 p.1.1.1.1))
+    (cond (p.0 == 4) (begin p.1.0 p.1.1.0 (flag_at p.1.1.1.0) (done_at p.1.1.1.1)) (cond (p.0 == 5) (take_lines p.1.0 p.1.1.0)
+    (cond (p.0 == 7) (compare p.1.0 p.1.1.0 (p.1.1.1.1 == 1)) (end p.1.0 p.1.1.0 (done_at p.1.1.1.1))))))))
 
 pub from_parts-to_parts : (e : Event) → from_parts (to_parts e) ≡ e
 from_parts-to_parts (read name (Ok bytes)) = refl
@@ -91,12 +101,14 @@ from_parts-to_parts (replace name bytes (Err Unreadable)) = refl
 from_parts-to_parts (replace name bytes (Err Unwritable)) = refl
 from_parts-to_parts (replace name bytes (Err InUse)) = refl
 from_parts-to_parts (replace name bytes (Err Replaced)) = refl
-from_parts-to_parts (copy name like bytes (Ok tt)) = refl
-from_parts-to_parts (copy name like bytes (Err Memory)) = refl
-from_parts-to_parts (copy name like bytes (Err Unreadable)) = refl
-from_parts-to_parts (copy name like bytes (Err Unwritable)) = refl
-from_parts-to_parts (copy name like bytes (Err InUse)) = refl
-from_parts-to_parts (copy name like bytes (Err Replaced)) = refl
+from_parts-to_parts (keep name bytes number (Ok tt)) = refl
+from_parts-to_parts (compare one other true) = refl
+from_parts-to_parts (compare one other false) = refl
+from_parts-to_parts (keep name bytes number (Err Memory)) = refl
+from_parts-to_parts (keep name bytes number (Err Unreadable)) = refl
+from_parts-to_parts (keep name bytes number (Err Unwritable)) = refl
+from_parts-to_parts (keep name bytes number (Err InUse)) = refl
+from_parts-to_parts (keep name bytes number (Err Replaced)) = refl
 from_parts-to_parts (open_ name (Ok bytes)) = refl
 from_parts-to_parts (open_ name (Err Memory)) = refl
 from_parts-to_parts (open_ name (Err Unreadable)) = refl

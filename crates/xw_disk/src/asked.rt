@@ -1,5 +1,5 @@
 //! What is asked of a disk, with the answer.
-use crate::disk::{DiskFault, Start};
+use crate::disk::{DiskFault, Start, Unkept};
 use xw_lines::history::History;
 
 /// A call of a disk, for its log.
@@ -8,7 +8,9 @@ pub enum Asked<'a> {
     Read(&'a str, &'a [u8]),
     Unread(&'a str, DiskFault),
     Replace(&'a str, &'a [u8], Result<(), DiskFault>),
-    Copy(&'a str, &'a str, &'a [u8], Result<(), DiskFault>),
+    Keep(&'a str, &'a [u8], u32),
+    Unkept(&'a str, &'a [u8], Unkept),
+    Compare(&'a str, &'a str, bool),
     Open(&'a str, &'a [u8]),
     Unopened(&'a str, DiskFault),
     Begin(&'a str, Start<'a>, bool, Result<(), DiskFault>),

@@ -1,6 +1,6 @@
 //! The trait of a disk. Its ghost log records what was asked of it and what it answered.
 ghost use Rattle.std.specs.Prelude.{◌≡◌, List, [], ◌∷◌, ◌++◌, Result, Ok, Err, MatchResult, IfOk};
-ghost use Rattle.xw_disk.specs.Disk.{Event, read, replace, copy, open_, begin, take_lines, end, started};
+ghost use Rattle.xw_disk.specs.Disk.{Event, read, replace, compare, keep, open_, begin, take_lines, end, started};
 
 use std::alloc::AllocError;
 use std::io;
@@ -19,6 +19,25 @@ pub enum DiskFault {
     InUse,
     /// The name no longer leads to the journal that was opened under it.
     Replaced,
+}
+
+/// A file that was not kept: the number of the name that it was to get, and the fault.
+#[derive(Clone, Copy, Debug)]
+pub struct Unkept {
+    pub number: u32,
+    pub fault: DiskFault,
+}
+
+/// A file of a call: one that is named, or the one behind a standard stream.
+#[derive(Clone, Copy, Debug)]
+pub enum CallFile<'a> {
+    Named(&'a str),
+    /// The file that this one is kept as, beside it, if none is yet.
+    Kept(&'a str),
+    /// The file that standard input is read from, if it is a regular file.
+    Input,
+    /// The file that standard output goes to, if it is a regular file.
+    Output,
 }
 
 /// How an open file becomes a journal.
@@ -54,9 +73,17 @@ pub trait Disk {
     fn replace(&mut self, name: &str, bytes: &[u8]) -> Result<(), DiskFault>
         ensures { log self.new ≡ log self.old ++ replace name.now bytes.now result ∷ [] };
 
-    /// Replaces a file, as `replace`, and gives it the mode of another one.
-    fn copy(&mut self, name: &str, like: &str, bytes: &[u8]) -> Result<(), DiskFault>
-        ensures { log self.new ≡ log self.old ++ copy name.now like.now bytes.now result ∷ [] };
+    /// Fails if `replace` could not replace a file now. Changes no file.
+    fn try_replace(&mut self, name: &str) -> Result<(), DiskFault>
+        ensures { log self.new ≡ log self.old };
+
+    /// Keeps these bytes of a file in a new one beside it, with the same mode. Its name is the name of the file and `~`,
+    /// or `~2`, `~3` and so on: the first that no file has and that does not lead to `apart`. Returns the number of this
+    /// name, from 1.
+    fn keep(&mut self, name: &str, apart: Option<&str>, bytes: &[u8]) -> Result<u32, Unkept>
+        ensures { MatchResult result
+            (λ number. log self.new ≡ log self.old ++ keep name.now bytes.now number (Ok tt) ∷ [])
+            (λ unkept. log self.new ≡ log self.old ++ keep name.now bytes.now unkept.number (Err unkept.fault) ∷ []) };
 
     /// Opens a journal, or creates it, and returns its bytes. No other program can then use it.
     fn open_journal(&mut self, name: &str) -> Result<(Self::Opened, Vec<u8>), DiskFault>
@@ -94,8 +121,15 @@ pub trait Disk {
     fn end_journal(&mut self, name: &str, bytes: &[u8]) -> Result<(), DiskFault>
         ensures { log self.new ≡ log self.old ++ end name.now bytes.now result ∷ [] };
 
-    /// Returns whether two names lead to one file.
-    fn is_one_file(&self, one: &str, other: &str) -> Result<bool, AllocError>;
+    /// Returns whether two files of a call are one, by whatever names.
+    fn is_one_file(&self, one: CallFile<'_>, other: CallFile<'_>) -> Result<bool, AllocError>;
+
+    /// Returns whether a file to write is the one that was read by another name. The name `-` stands for standard input
+    /// as the file that was read.
+    fn is_origin(&mut self, read: &str, written: &str) -> Result<bool, AllocError>
+        ensures { MatchResult result
+            (λ is_one. log self.new ≡ log self.old ++ compare read.now written.now is_one ∷ [])
+            (λ _. log self.new ≡ log self.old) };
 
     /// Returns whether no other program has a file as its journal.
     fn is_free(&self, name: &str) -> bool;

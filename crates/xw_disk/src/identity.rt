@@ -1,10 +1,17 @@
 //! Which file a name leads to, and whether two names lead to one file.
-use crate::replacing::followed;
+use crate::disk::CallFile;
+use crate::replacing::{followed, kept_name};
 use std::fs::{self, Metadata};
 use std::io::{self, ErrorKind};
 use std::os::unix::fs::MetadataExt;
 use std::path::PathBuf;
 use std::rt::Files;
+
+/// The path to whatever standard input is.
+pub const INPUT_PATH: &str = "/dev/stdin";
+
+/// The path to whatever standard output is.
+const OUTPUT_PATH: &str = "/dev/stdout";
 
 /// What distinguishes a file from all others.
 #[derive(Clone, Copy, Debug, PartialEq, Eq)]
@@ -34,9 +41,39 @@ pub fn identity_of<R: Files>(rt: &R, file: &str) -> io::Result<Option<Identity>>
     }
 }
 
+/// Returns whether two files of a call are one.
+pub fn is_one_file<R: Files + AllocGlobal>(
+    rt: &R,
+    one: CallFile<'_>,
+    other: CallFile<'_>,
+) -> io::Result<bool> {
+    match (path_of(rt, one)?, path_of(rt, other)?) {
+        (Some(one), Some(other)) => are_one(rt, one.as_str(), other.as_str()),
+        _ => Ok(false),
+    }
+}
+
+/// Returns a path to a file of a call, or `None` if it is a standard stream that is no regular file.
+fn path_of<R: Files + AllocGlobal>(rt: &R, file: CallFile<'_>) -> io::Result<Option<String>> {
+    match file {
+        CallFile::Named(name) => Ok(Some(String::from_str(rt.alloc(), name)?)),
+        CallFile::Kept(name) => Ok(Some(kept_name(rt.alloc(), name, 1)?)),
+        CallFile::Input => stream_path(rt, INPUT_PATH),
+        CallFile::Output => stream_path(rt, OUTPUT_PATH),
+    }
+}
+
+/// Returns this path to a standard stream if it is a regular file.
+fn stream_path<R: Files + AllocGlobal>(rt: &R, path: &str) -> io::Result<Option<String>> {
+    match fs::metadata(rt, path) {
+        Ok(found) if found.is_file() => Ok(Some(String::from_str(rt.alloc(), path)?)),
+        _ => Ok(None),
+    }
+}
+
 /// Returns whether two names lead to one file, even if it does not exist yet. If the folder of a name cannot be found,
 /// compares the names themselves.
-pub fn is_one_file<R: Files + AllocGlobal>(rt: &R, one: &str, other: &str) -> io::Result<bool> {
+pub fn are_one<R: Files + AllocGlobal>(rt: &R, one: &str, other: &str) -> io::Result<bool> {
     match (identity_of(rt, one), identity_of(rt, other)) {
         (Ok(Some(one)), Ok(Some(other))) => Ok(one == other),
         (Ok(None), Ok(None)) => is_one_place(rt, one, other),

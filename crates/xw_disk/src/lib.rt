@@ -12,5 +12,5 @@ mod reading;
 pub mod replacing;
 pub mod system;
 
-pub use disk::{Disk, DiskFault, Start};
+pub use disk::{CallFile, Disk, DiskFault, Start, Unkept};
 pub use system::SystemDisk;

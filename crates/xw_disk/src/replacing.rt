@@ -1,4 +1,8 @@
-//! Replaces a file atomically.
+//! Replaces a file atomically, or keeps it under another name.
+ghost use Rattle.std.specs.Prelude.{◌≡◌, IfOk};
+ghost use Rattle.xw_disk.specs.Kept.{kept_name};
+
+use crate::identity::are_one;
 use std::alloc::{AllocError, Global};
 use std::fs::{self, OpenFile, OpenOptions, Permissions};
 use std::io::{self, ErrorKind, Write};
@@ -27,17 +31,109 @@ pub fn replace<R: Files + AllocGlobal>(rt: &R, file: &str, bytes: &[u8]) -> io::
     }
 }
 
-/// Replaces the contents of a file, as `replace`. The file then has the mode of another one, which exists.
-pub fn replace_like<R: Files + AllocGlobal>(
+/// Fails if `replace` could not replace a file now. Changes no file, but for a new one that it removes at once. A device
+/// or a pipe is not opened, since this can block.
+pub fn try_replace<R: Files + AllocGlobal>(rt: &R, file: &str) -> io::Result<()> {
+    match fs::metadata(rt, file) {
+        Ok(found) if found.is_file() || found.is_dir() => {
+            OpenOptions::new().write(true).open(rt, file)?;
+            try_new(rt, file)
+        }
+        Ok(_) => Ok(()),
+        Err(error) if error.kind() == ErrorKind::NotFound && can_be_file(file) => try_new(rt, file),
+        Err(error) => Err(error),
+    }
+}
+
+/// Returns whether a name can be that of a new file.
+fn can_be_file(name: &str) -> bool {
+    !name.is_empty() && !name.ends_with('/')
+}
+
+/// Creates a file beside the target of a name, and removes it.
+fn try_new<R: Files + AllocGlobal>(rt: &R, file: &str) -> io::Result<()> {
+    let target = followed(rt, file)?;
+    let (beside, _opened) = new_file(rt, &target, None)?;
+    let _ = fs::remove_file(rt, &beside);
+    Ok(())
+}
+
+/// A file that was not kept: the number of the name that it was to get, and the error.
+#[derive(Clone, Copy)]
+pub struct NotKept {
+    pub number: u32,
+    pub error: io::Error,
+}
+
+/// Keeps these bytes of a file in a new one beside it, with the same mode, and returns the number of its name. The names
+/// are tried in order; one that leads to `apart` is passed over.
+pub fn keep<R: Files + AllocGlobal>(
     rt: &R,
     file: &str,
-    like: &str,
+    apart: Option<&str>,
     bytes: &[u8],
-) -> io::Result<()> {
-    let mode = fs::metadata(rt, like)?.permissions().mode();
-    match fs::metadata(rt, file) {
-        Ok(found) if !found.is_file() => fs::write(rt, file, bytes),
-        _ => put_new(rt, file, Some(mode), bytes),
+) -> Result<u32, NotKept> {
+    for number in 1..u32::MAX {
+        match keep_as(rt, file, number, apart, bytes) {
+            Ok(true) => return Ok(number),
+            Ok(false) => {}
+            Err(error) => return Err(NotKept { number, error }),
+        }
+    }
+    let error = io::Error::from(ErrorKind::AlreadyExists);
+    Err(NotKept { number: 1, error })
+}
+
+/// Keeps these bytes of a file under the name with this number, unless the name is taken or leads to `apart`. Returns
+/// whether it did.
+fn keep_as<R: Files + AllocGlobal>(
+    rt: &R,
+    file: &str,
+    number: u32,
+    apart: Option<&str>,
+    bytes: &[u8],
+) -> io::Result<bool> {
+    let name = kept_name(rt.alloc(), file, number)?;
+    if leads_to(rt, name.as_str(), apart)? {
+        return Ok(false);
+    }
+    let mode = fs::metadata(rt, file)?.permissions().mode();
+    create(rt, name.as_str(), mode, bytes)
+}
+
+/// Returns the name with this number, from 1, under which a file is kept.
+pub fn kept_name(alloc: Global, file: &str, number: u32) -> Result<String, AllocError>
+    ensures { IfOk result (λ name. name.bytes.items ≡ kept_name file.now number) }
+{
+    if number == 1 {
+        return format!(in alloc; "{file}~");
+    }
+    let name = format!(in alloc; "{file}~{number}")?;
+    Ok(name)
+}
+
+/// Returns whether a name leads to another file, if there is one.
+fn leads_to<R: Files + AllocGlobal>(rt: &R, name: &str, other: Option<&str>) -> io::Result<bool> {
+    match other {
+        Some(other) => are_one(rt, name, other),
+        None => Ok(false),
+    }
+}
+
+/// Creates a file with these bytes, unless its name is taken. Returns whether it did. The file is empty until it has all
+/// the bytes.
+fn create<R: Files + AllocGlobal>(rt: &R, name: &str, mode: u32, bytes: &[u8]) -> io::Result<bool> {
+    match creating(Some(mode)).open(rt, name) {
+        Ok(_) => {}
+        Err(error) if error.kind() == ErrorKind::AlreadyExists => return Ok(false),
+        Err(error) => return Err(error),
+    }
+    match put_new(rt, name, Some(mode), bytes) {
+        Ok(()) => Ok(true),
+        Err(error) => {
+            let _ = fs::remove_file(rt, name);
+            Err(error)
+        }
     }
 }
 

@@ -5,13 +5,13 @@ ghost use Rattle.xw_disk.specs.Disk.{begin, started};
 
 use crate::appended::{Appended, JournalName, JournalWriter, Place};
 use crate::asked::Asked;
-use crate::disk::{Disk, DiskFault, Start};
+use crate::disk::{CallFile, Disk, DiskFault, Start, Unkept};
 use crate::identity::is_one_file;
 use crate::locks::{Held, Locks, System, hold};
 use crate::log::DiskLog;
 use crate::opening::{self, Failed, in_use, unreadable, unwritable};
 use crate::reading;
-use crate::replacing::{replace, replace_like};
+use crate::replacing::{NotKept, keep, replace, try_replace};
 use std::alloc::AllocError;
 use std::io::{self, ErrorKind};
 
@@ -69,21 +69,27 @@ fn bytes_of<R: System + AllocGlobal>(rt: &R, name: &str) -> io::Result<Vec<u8>> 
     }
 }
 
+/// Returns the file that is read by a name. The name `-` stands for standard input.
+pub fn source<'a>(name: &'a str) -> CallFile<'a> {
+    if name == INPUT {
+        CallFile::Input
+    } else {
+        CallFile::Named(name)
+    }
+}
+
+/// Returns whether two files are named alike.
+fn have_one_name(one: CallFile<'_>, other: CallFile<'_>) -> bool {
+    match (one, other) {
+        (CallFile::Named(one), CallFile::Named(other)) => one == other,
+        _ => false,
+    }
+}
+
 /// Replaces a file by these bytes, unless another program has it as its journal.
-fn replace_free<R: Locks + AllocGlobal>(
-    rt: &R,
-    name: &str,
-    like: Option<&str>,
-    bytes: &[u8],
-) -> Result<(), Failed> {
+fn replace_free<R: Locks + AllocGlobal>(rt: &R, name: &str, bytes: &[u8]) -> Result<(), Failed> {
     match hold(rt, name) {
-        Held::Free(_file) => {
-            let replaced = match like {
-                Some(like) => replace_like(rt, name, like, bytes),
-                None => replace(rt, name, bytes),
-            };
-            replaced.map_err(unwritable)
-        }
+        Held::Free(_file) => replace(rt, name, bytes).map_err(unwritable),
         Held::InUse => Err(in_use()),
     }
 }
@@ -110,15 +116,28 @@ impl<'a, R: System + AllocGlobal + Clone + Drop> Disk for SystemDisk<'a, R> {
     }
 
     fn replace(&mut self, name: &str, bytes: &[u8]) -> Result<(), DiskFault> {
-        let answer = self.answer(replace_free(self.rt, name, None, bytes));
+        let answer = self.answer(replace_free(self.rt, name, bytes));
         self.log.note(&Asked::Replace(name, bytes, answer));
         answer
     }
 
-    fn copy(&mut self, name: &str, like: &str, bytes: &[u8]) -> Result<(), DiskFault> {
-        let answer = self.answer(replace_free(self.rt, name, Some(like), bytes));
-        self.log.note(&Asked::Copy(name, like, bytes, answer));
-        answer
+    fn try_replace(&mut self, name: &str) -> Result<(), DiskFault> {
+        self.answer(try_replace(self.rt, name).map_err(unwritable))
+    }
+
+    fn keep(&mut self, name: &str, apart: Option<&str>, bytes: &[u8]) -> Result<u32, Unkept> {
+        match keep(self.rt, name, apart, bytes) {
+            Ok(number) => {
+                self.log.note(&Asked::Keep(name, bytes, number));
+                Ok(number)
+            }
+            Err(NotKept { number, error }) => {
+                let fault = self.failed(unwritable(error));
+                let unkept = Unkept { number, fault };
+                self.log.note(&Asked::Unkept(name, bytes, unkept));
+                Err(unkept)
+            }
+        }
     }
 
     fn open_journal(&mut self, name: &str) -> Result<(R::File, Vec<u8>), DiskFault> {
@@ -192,12 +211,18 @@ impl<'a, R: System + AllocGlobal + Clone + Drop> Disk for SystemDisk<'a, R> {
         answer
     }
 
-    fn is_one_file(&self, one: &str, other: &str) -> Result<bool, AllocError> {
+    fn is_one_file(&self, one: CallFile<'_>, other: CallFile<'_>) -> Result<bool, AllocError> {
         match is_one_file(self.rt, one, other) {
             Ok(is_one) => Ok(is_one),
             Err(error) if error.kind() == ErrorKind::OutOfMemory => Err(AllocError),
-            Err(_) => Ok(one == other),
+            Err(_) => Ok(have_one_name(one, other)),
         }
+    }
+
+    fn is_origin(&mut self, read: &str, written: &str) -> Result<bool, AllocError> {
+        let is_one = self.is_one_file(source(read), CallFile::Named(written))?;
+        self.log.note(&Asked::Compare(read, written, is_one));
+        Ok(is_one)
     }
 
     fn is_free(&self, name: &str) -> bool {

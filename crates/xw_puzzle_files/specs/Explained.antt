@@ -37,7 +37,7 @@ rebus_line file = codes "xw: " ++ file ++ codes ": rebus cells are not kept\n"
 abbrev pub is_of_disk : Failure → Bool
 is_of_disk (faults.CannotRead file) = true
 is_of_disk (faults.CannotWrite file) = true
-is_of_disk (faults.OldUnwritable file) = true
+is_of_disk (faults.OldUnwritable file number) = true
 is_of_disk failure = false
 
 -- the line with some error of the system, if one is due

@@ -1,5 +1,6 @@
 -- The failures of a call: the text of each, and which failure a fault of the disk is.
 use Rattle.std.specs.Prelude.{◌≡◌, ℕ, ◌++◌, List, codes, decimal}
+use Rattle.xw_disk.specs.Kept.{kept_name}
 use Rattle.xw_disk.specs.declared.disk.DiskFault.{DiskFault}
 use Rattle.xw_disk.specs.declared.disk.DiskFault.TheVariants as faults
 use Rattle.xw_puzzle_files.specs.declared.failure.Failure.{Failure}
@@ -14,14 +15,16 @@ failure_text (failures.CannotRead file) = codes "xw: " ++ file.now ++ codes ": c
 failure_text (failures.CannotWrite file) = codes "xw: " ++ file.now ++ codes ": cannot write"
 failure_text (failures.InUse file) = codes "xw: " ++ file.now ++ codes ": in use"
 failure_text (failures.Replaced file) = codes "xw: " ++ file.now ++ codes ": replaced"
-failure_text (failures.OldUnwritable file) = codes "xw: " ++ file.now ++ codes "~: cannot write"
-failure_text (failures.OldInUse file) = codes "xw: " ++ file.now ++ codes "~: in use"
+failure_text (failures.OldUnwritable file number) = codes "xw: " ++ kept_name file.now number ++ codes ": cannot write"
 failure_text (failures.File file name) = codes "xw: " ++ file.now ++ codes ": " ++ name.now
 failure_text (failures.Located file name location) = codes "xw: " ++ file.now ++ codes ": " ++ name.now ++ codes "\nxw: " ++ location_text location
 failure_text (failures.Line file number name) = codes "xw: " ++ file.now ++ codes ": line " ++ decimal number ++ codes ": " ++ name.now
 failure_text (failures.OneFile file) = codes "xw: " ++ file.now ++ codes ": the word list cannot be the file to write"
 failure_text (failures.TwoTexts file) = codes "xw: " ++ file.now ++ codes ": the puzzle and the session cannot be written into one file"
 failure_text (failures.OverPuzzle file) = codes "xw: " ++ file.now ++ codes ": the session cannot be written over the puzzle to start with"
+failure_text (failures.OverStart file) = codes "xw: " ++ file.now ++ codes ": the puzzle cannot be written over the session to start with"
+failure_text (failures.OverInput file) = codes "xw: " ++ file.now ++ codes ": standard input cannot be the file to write"
+failure_text (failures.SharedOutput file) = codes "xw: " ++ file.now ++ codes ": standard output cannot be another file of the call"
 failure_text (failures.SavedAsPuz file) = codes "xw: " ++ file.now ++ codes ": the session cannot be written as .puz"
 failure_text (failures.SharedJournal file) = codes "xw: " ++ file.now ++ codes ": the journal cannot be another file of the call"
 failure_text failures.InputTwice = codes "xw: -: standard input can be read only once"
@@ -56,17 +59,12 @@ IsFaultOf faults.Unwritable name failure = IsCannotWrite name failure
 IsFaultOf faults.InUse name failure = IsInUse name failure
 IsFaultOf faults.Replaced name failure = IsReplaced name failure
 
--- an old file cannot be kept under this name with `~` after it
-abbrev pub IsOldUnwritable : List ℕ → Failure → Type 0
-IsOldUnwritable name (failures.OldUnwritable file) = file.now ≡ name
-IsOldUnwritable name other = ⊥
+-- the old file with this name cannot be kept under the name with this number
+abbrev pub IsOldUnwritable : List ℕ → ℕ → Failure → Type 0
+IsOldUnwritable name number (failures.OldUnwritable file tried) = (file.now ≡ name) × (tried ≡ number)
+IsOldUnwritable name number other = ⊥
 
-abbrev pub IsOldInUse : List ℕ → Failure → Type 0
-IsOldInUse name (failures.OldInUse file) = file.now ≡ name
-IsOldInUse name other = ⊥
-
--- the failure for this fault of the disk with the name under which the old file of this name is kept
-abbrev pub IsOldFaultOf : DiskFault → List ℕ → Failure → Type 0
-IsOldFaultOf faults.Memory name failure = failure ≡ failures.Memory
-IsOldFaultOf faults.InUse name failure = IsOldInUse name failure
-IsOldFaultOf other name failure = IsOldUnwritable name failure
+-- the failure for this fault of the disk with the name with this number, under which the old file of this name is kept
+abbrev pub IsOldFaultOf : DiskFault → List ℕ → ℕ → Failure → Type 0
+IsOldFaultOf faults.Memory name number failure = failure ≡ failures.Memory
+IsOldFaultOf other name number failure = IsOldUnwritable name number failure

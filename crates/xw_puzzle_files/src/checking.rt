@@ -25,7 +25,7 @@ pub fn check_files<'a, D: Disk, O: Sink, E: Sink>(
     errors: &mut E,
 ) -> Result<Status, Failure<'a>>
     ensures { IsCheckOf E.transcript E.failures (map (λ file. file.now) files.now) explain result (D.log disk.old) (D.log disk.new)
-        (O.transcript output.old) (O.transcript output.new) (O.failures output.old) (O.failures output.new) errors.new }
+        (O.transcript output.old) (O.transcript output.new) (O.failures output.old) (O.failures output.new) errors.old errors.new }
 {
     if files.len() == 1 {
         return check(alloc, disk, files[0], false, explain, output, errors);
@@ -44,9 +44,9 @@ fn check_each<'a, D: Disk, O: Sink, E: Sink>(
     errors: &mut E,
 ) -> Result<Status, Failure<'a>>
     ensures ok { IfOk result (λ status. (statuses : List Status) × (status ≡ fold greater Accepted statuses)
-        × AreChecked E.transcript E.failures (map (λ file. file.now) files.now) statuses explain (D.log disk.old) (D.log disk.new) (O.transcript output.old) (O.transcript output.new)) }
+        × AreChecked E.transcript E.failures (map (λ file. file.now) files.now) statuses explain (D.log disk.old) (D.log disk.new) (O.transcript output.old) (O.transcript output.new) errors.old errors.new) }
     ensures err { IfErr result (λ failure. IsUncheckedAmong E.transcript E.failures (map (λ file. file.now) files.now) explain failure (D.log disk.old) (D.log disk.new)
-        (O.transcript output.old) (O.transcript output.new) (O.failures output.old) (O.failures output.new)) }
+        (O.transcript output.old) (O.transcript output.new) (O.failures output.old) (O.failures output.new) errors.old errors.new) }
 {
     let mut status = Status::Accepted;
     for file in files {
@@ -76,9 +76,9 @@ fn check_in_turn<'a, D: Disk, O: Sink, E: Sink>(
     output: &mut O,
     errors: &mut E,
 ) -> Result<Status, Failure<'a>>
-    ensures ok { IfOk result (λ status. IsCheckedInTurn E.transcript E.failures file.entry.now status explain (D.log disk.old) (D.log disk.new) (O.transcript output.old) (O.transcript output.new)) }
-    ensures err { IfErr result (λ failure. EndsCheck file.entry.now explain failure (D.log disk.old) (D.log disk.new)
-        (O.transcript output.old) (O.transcript output.new) (O.failures output.old) (O.failures output.new)) }
+    ensures ok { IfOk result (λ status. IsCheckedInTurn E.transcript E.failures file.entry.now status explain (D.log disk.old) (D.log disk.new) (O.transcript output.old) (O.transcript output.new) errors.old errors.new) }
+    ensures err { IfErr result (λ failure. EndsCheck E.transcript E.failures file.entry.now explain failure (D.log disk.old) (D.log disk.new)
+        (O.transcript output.old) (O.transcript output.new) (O.failures output.old) (O.failures output.new) errors.old errors.new) }
     ensures quiet { OnOk result (O.failures output.new ≡ O.failures output.old) }
 {
     match check(alloc, disk, file, true, explain, output, errors) {
@@ -109,9 +109,9 @@ fn check<'a, D: Disk, O: Sink, E: Sink>(
     errors: &mut E,
 ) -> Result<Status, Failure<'a>>
     ensures ok { IfOk result (λ status. (status ≡ Accepted)
-        × IsChecked is_named file.entry.now (D.log disk.old) (D.log disk.new) (O.transcript output.old) (O.transcript output.new)) }
-    ensures err { IfErr result (λ failure. IsUnchecked is_named file.entry.now explain failure (D.log disk.old) (D.log disk.new)
-        (O.transcript output.old) (O.transcript output.new) (O.failures output.old) (O.failures output.new)) }
+        × IsChecked E.transcript E.failures is_named file.entry.now (D.log disk.old) (D.log disk.new) (O.transcript output.old) (O.transcript output.new) errors.old errors.new) }
+    ensures err { IfErr result (λ failure. IsUnchecked E.transcript E.failures is_named file.entry.now explain failure (D.log disk.old) (D.log disk.new)
+        (O.transcript output.old) (O.transcript output.new) (O.failures output.old) (O.failures output.new) errors.old errors.new) }
     ensures quiet { OnOk result (O.failures output.new ≡ O.failures output.old) }
     ensures unfailed { IfErr result (λ failure. ends_call failure ≡ false → O.failures output.new ≡ O.failures output.old) }
 {

@@ -127,6 +127,7 @@ pub fn tell_in_turn<'a, D: Disk, E: Sink>(
 ) -> Result<Status, Failure<'a>>
     ensures ok { IfOk result (λ status. (status ≡ status_of failure.now) × (text : List ℕ) × IsMessage explain failure.now text × GoesOut E.transcript E.failures errors.old errors.new text) }
     ensures memory { IsOkUnless result Failure.Memory }
+    ensures untold { OnErr result (errors.new ≡ errors.old) }
 {
     let text = message(alloc, failure, explain, disk.error())?;
     let _ = device::write_all(errors, text.as_bytes());

@@ -5,12 +5,13 @@ ghost use Rattle.std.specs.Process.{exit_status};
 ghost use Rattle.xw_puzzle_files.specs.Status.{code_of, status_of, run_ended};
 ghost use Rattle.xw_puzzle_files.specs.Explained.{is_of_disk};
 ghost use Rattle.xw_puzzle_files.specs.Told.{IsFaultOf, IsOldFaultOf};
+ghost use Rattle.xw_disk.specs.Kept.{kept_name};
 
 use crate::location::Location;
 use std::alloc::AllocError;
 use std::fmt;
 use std::process::ExitCode;
-use xw_disk::DiskFault;
+use xw_disk::{DiskFault, Unkept};
 use xw_lines::RunEnd;
 
 /// The outcome of a run, as the exit status of the program.
@@ -66,13 +67,10 @@ pub enum Failure<'a> {
     Replaced {
         file: &'a str,
     },
-    /// The old file cannot be kept under its name and `~`.
+    /// The old file cannot be kept under the name with this number.
     OldUnwritable {
         file: &'a str,
-    },
-    /// Another program has the file with this name and `~` as its journal.
-    OldInUse {
-        file: &'a str,
+        number: u32,
     },
     File {
         file: &'a str,
@@ -98,6 +96,18 @@ pub enum Failure<'a> {
     },
     /// The session is written over the puzzle to start with.
     OverPuzzle {
+        file: &'a str,
+    },
+    /// The puzzle is written over the commands to start with.
+    OverStart {
+        file: &'a str,
+    },
+    /// A file is written over standard input.
+    OverInput {
+        file: &'a str,
+    },
+    /// Standard output is another file of the call.
+    SharedOutput {
         file: &'a str,
     },
     /// The name for the session asks for `.puz`.
@@ -127,8 +137,7 @@ impl<'a> fmt::Display for Failure<'a> {
             Failure::CannotWrite { file } => write_named(f, file, ": cannot write"),
             Failure::InUse { file } => write_named(f, file, ": in use"),
             Failure::Replaced { file } => write_named(f, file, ": replaced"),
-            Failure::OldUnwritable { file } => write_named(f, file, "~: cannot write"),
-            Failure::OldInUse { file } => write_named(f, file, "~: in use"),
+            Failure::OldUnwritable { file, number } => write_unkept(f, file, number),
             Failure::File { file, name } => write!(f, "xw: {file}: {name}"),
             Failure::Located {
                 file,
@@ -151,6 +160,19 @@ impl<'a> fmt::Display for Failure<'a> {
                 file,
                 ": the session cannot be written over the puzzle to start with",
             ),
+            Failure::OverStart { file } => write_named(
+                f,
+                file,
+                ": the puzzle cannot be written over the session to start with",
+            ),
+            Failure::OverInput { file } => {
+                write_named(f, file, ": standard input cannot be the file to write")
+            }
+            Failure::SharedOutput { file } => write_named(
+                f,
+                file,
+                ": standard output cannot be another file of the call",
+            ),
             Failure::SavedAsPuz { file } => {
                 write_named(f, file, ": the session cannot be written as .puz")
             }
@@ -171,6 +193,16 @@ fn write_named<W: fmt::Write>(f: &mut fmt::Formatter<W>, file: &str, said: &str)
     write!(f, "xw: {file}{said}")
 }
 
+/// Writes the message of a file that cannot be kept under the name with this number.
+fn write_unkept<W: fmt::Write>(f: &mut fmt::Formatter<W>, file: &str, number: u32) -> fmt::Result
+    ensures { WritesOnOk W.write_str_gives f.old result (codes "xw: " ++ kept_name file.now number ++ codes ": cannot write") f.new }
+{
+    if number == 1 {
+        return write!(f, "xw: {file}~: cannot write");
+    }
+    write!(f, "xw: {file}~{number}: cannot write")
+}
+
 impl<'a> Failure<'a> {
     pub fn status(&self) -> Status
         ensures { result ≡ status_of self.now }
@@ -182,6 +214,9 @@ impl<'a> Failure<'a> {
             Failure::OneFile { .. } => Status::Usage,
             Failure::TwoTexts { .. } => Status::Usage,
             Failure::OverPuzzle { .. } => Status::Usage,
+            Failure::OverStart { .. } => Status::Usage,
+            Failure::OverInput { .. } => Status::Usage,
+            Failure::SharedOutput { .. } => Status::Usage,
             Failure::SavedAsPuz { .. } => Status::Usage,
             Failure::SharedJournal { .. } => Status::Usage,
             Failure::InputTwice => Status::Usage,
@@ -226,14 +261,16 @@ pub fn failure_of<'a>(fault: DiskFault, file: &'a str) -> Failure<'a>
     }
 }
 
-/// Returns the failure for a fault of the disk with the name under which an old file is kept.
-pub fn old_failure_of<'a>(fault: DiskFault, file: &'a str) -> Failure<'a>
-    ensures { IsOldFaultOf fault file.entry.now result }
+/// Returns the failure for an old file that was not kept.
+pub fn old_failure_of<'a>(unkept: Unkept, file: &'a str) -> Failure<'a>
+    ensures { IsOldFaultOf unkept.fault file.entry.now unkept.number result }
 {
-    match fault {
+    match unkept.fault {
         DiskFault::Memory => Failure::Memory,
-        DiskFault::InUse => Failure::OldInUse { file },
-        _ => Failure::OldUnwritable { file },
+        _ => Failure::OldUnwritable {
+            file,
+            number: unkept.number,
+        },
     }
 }
 

@@ -8,7 +8,7 @@ use Rattle.xw_puzzle_files.proofs.Checks.{checked_at, ended_at}
 use Rattle.xw_puzzle_files.proofs.checking.check_each.Goals as goal
 
 pub loop-file-init : goal.loop-file-init
-loop-file-init g c = ([], record { greatest = refl; checked = (refl, refl); quiet = refl })
+loop-file-init g c = ([], record { greatest = refl; checked = (refl, refl, refl); quiet = refl })
 
 pub loop-file-preserved : goal.loop-file-preserved
 loop-file-preserved g c =
@@ -19,7 +19,7 @@ loop-file-preserved g c =
       statuses ++ c.in_ok-found.found ∷ [],
       record {
         greatest = c.greater-status.ensures ∙ before ∙ sym (fold-append greater Accepted statuses (c.in_ok-found.found ∷ []));
-        checked = checked_at g.E.Sink.transcript g.E.Sink.failures c.args.files.now c.loop-file.file-index _ statuses c.in_ok-found.found c.args.explain _ _ _ _ _ _ c.loop-file-test.true so_far.checked turn.ok;
+        checked = checked_at g.E.Sink.transcript g.E.Sink.failures c.args.files.now c.loop-file.file-index _ statuses c.in_ok-found.found c.args.explain _ _ _ _ _ _ _ _ _ c.loop-file-test.true so_far.checked turn.ok;
         quiet = turn.quiet ∙ so_far.quiet;
       },
     )
@@ -28,4 +28,4 @@ pub returns-in_err-found-clause-err : goal.returns-in_err-found-clause-err
 returns-in_err-found-clause-err g c =
     let e = err_from_is_err_and c.from_residual.result c.from_residual.ensures.1 in
     let so_far = c.loop-file.invariant.1 in
-    rw (e.1, e.2) (ended_at g.E.Sink.transcript g.E.Sink.failures c.args.files.now c.loop-file.file-index _ c.loop-file.invariant.0 c.args.explain _ _ _ _ _ _ _ _ _ _ c.loop-file-test.true so_far.checked so_far.quiet c.in_err-found.ensures.err)
+    rw (e.1, e.2) (ended_at g.E.Sink.transcript g.E.Sink.failures c.args.files.now c.loop-file.file-index _ c.loop-file.invariant.0 c.args.explain _ _ _ _ _ _ _ _ _ _ _ _ _ c.loop-file-test.true so_far.checked so_far.quiet c.in_err-found.ensures.err)

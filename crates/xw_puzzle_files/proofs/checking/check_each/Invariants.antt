@@ -10,6 +10,6 @@ abbrev pub invariant-loop-file : goal.invariant-loop-file
 invariant-loop-file g l = (statuses : List Status) × record {
   greatest : l.status ≡ fold greater Accepted statuses;
   checked : AreChecked g.E.Sink.transcript g.E.Sink.failures (map (λ file. file.now) (take l.file-index l.files)) statuses l.explain (g.D.Disk.log l.initial.disk) (g.D.Disk.log l.disk)
-      (g.O.Sink.transcript l.initial.output) (g.O.Sink.transcript l.output);
+      (g.O.Sink.transcript l.initial.output) (g.O.Sink.transcript l.output) l.initial.errors l.errors;
   quiet : g.O.Sink.failures l.output ≡ g.O.Sink.failures l.initial.output;
 }
