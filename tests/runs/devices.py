@@ -5,7 +5,7 @@ import subprocess
 import time
 
 from samples import PLAIN
-from steps import FAILED, FORMAT, SECONDS, absent, compare, differs, end, exists, holds, run, write
+from steps import FAILED, FORMAT, SECONDS, absent, compare, differs, end, exists, holds, run, run_between, write
 
 
 def wait_until(is_so, what):
@@ -96,12 +96,17 @@ CASES = {
         run("edit --dict /dev/zero", errors=b"xw: /dev/zero: cannot read\n", status=FAILED),
         run("edit --resume /dev/zero", errors=b"xw: /dev/zero: cannot read\n", status=FAILED),
         run("edit --journal /dev/full", errors=b"xw: /dev/full: cannot write\n", status=FAILED),
+        run_between("check -", "/dev/zero", errors=b"xw: -: cannot read\n", status=FAILED),
+        run_between("check --explain -", "/dev/full", errors=b"xw: -: cannot read\nxw: File too large\n", status=FAILED),
+        run_between("edit --dict -", "/dev/zero", errors=b"xw: -: cannot read\n", status=FAILED),
+        run_between("edit --resume -", "/dev/zero", errors=b"xw: -: cannot read\n", status=FAILED),
     ],
     "device_that_ends": [
         run("check /dev/null", errors=b"xw: /dev/null: Header\n", status=FORMAT),
         run("edit --dict /dev/null", errors=b"xw: /dev/null: 0 added, 0 skipped\n"),
         run("edit --dict /dev/stdin", b"cat\n", errors=b"xw: /dev/stdin: 1 added, 0 skipped\n"),
         run("check /dev/stdin", PLAIN, output=b"puz 2x2 4 lights\n"),
+        run_between("edit --dict -", "/dev/null", errors=b"xw: -: 0 added, 0 skipped\n"),
     ],
     # A fault after lines that were answered.
     "input_fault, after answers": [*FILLED, breaks_off, holds("kept.puz", b"old")],

@@ -1,6 +1,8 @@
 //! Locks of open files: a journal is locked by the program that writes it.
+use crate::identity::INPUT_PATH;
+use crate::reading::read_input;
 use std::fs::{self, File, OpenOptions, TryLockError};
-use std::io::{self, Read};
+use std::io;
 use std::rt::Files;
 
 /// A file system whose open files can be locked.
@@ -22,9 +24,7 @@ pub trait System: Locks {
 
 impl System for HostRuntime {
     fn read_input(&self) -> io::Result<Vec<u8>> {
-        let mut bytes = Vec::new(self.alloc());
-        self.stdin().read_to_end(&mut bytes)?;
-        Ok(bytes)
+        read_input(self, INPUT_PATH, self.stdin())
     }
 }
 
