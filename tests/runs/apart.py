@@ -78,6 +78,15 @@ def loses_its_folder(room, program):
     assert b"<GRID>" in (room / "new.txt").read_bytes()
 
 
+def loses_its_folder_unfilled(room, program):
+    """The session cannot be saved, and the grid is unfinished: both are reported."""
+    session = Session(room, program, "edit --save inner/mine.xw --to new.puz")
+    session.ask(b"size 2 1", b"ok\n")
+    (room / "inner").rmdir()
+    compare("end", session.end(), (b"", b"xw: inner/mine.xw: cannot write\nxw: new.puz: NotFilled\n", FAILED))
+    compare("new.puz exists", (room / "new.puz").exists(), False)
+
+
 def is_no_puzzle(name):
     """The file is none that `--to` wrote."""
 
@@ -401,6 +410,7 @@ CASES = {
         is_none(".xw-1.new"),
     ],
     "cannot_be_written, only at the end": [folder("inner"), loses_its_folder],
+    "cannot_be_written, nor the puzzle": [folder("inner"), loses_its_folder_unfilled],
     # The session is not written over the puzzle that it began with, nor into a file that is called a puzzle.
     "over_the_puzzle": [
         write("plain", PLAIN),

@@ -38,29 +38,71 @@ answers_input Answers Stops log read is_at_end read_failures told write_failures
 
 -- ---- how a session is opened
 
-pub opened_with : (result : Result State Failure) (files : SessionFiles) (words : Dictionary) (file : Bor (List ℕ)) (old mid new : List Event) → HasWords files.dict words old mid → files.from_file ≡ Some file
-    → IfOk result (λ state. (puzzle : PuzzleShown) × IsFound file.now puzzle mid new × (state ≡ opened_on words puzzle)) → IfOk result (λ state. IsOpened files state old new)
-opened_with (Ok state) files words file old mid new has from (puzzle, is_found, is) =
-    record { words = words; mid = mid; has_words = has; puzzle = puzzle; has_puzzle = subst (λ (o : Option (Bor (List ℕ))). HasPuzzle o puzzle mid new) (sym from) is_found; opened = is }
-opened_with (Err failure) files words file old mid new has from is = tt
+pub opened_with : {E : Type 0} (transcript : E → List ℕ) (failed : E → ℕ) (terminal explain : Bool) (result : Result State Failure) (files : SessionFiles) (words : Dictionary) (file : Bor (List ℕ)) (old mid new : List Event)
+    (errors told errors' : E) → HasWords transcript failed terminal explain files.dict words old mid errors told → files.from_file ≡ Some file
+    → IfOk result (λ state. (puzzle : PuzzleShown) × IsFound transcript failed file.now puzzle mid new told errors' × (state ≡ opened_on words puzzle))
+    → IfOk result (λ state. IsOpened transcript failed terminal explain files state old new errors errors')
+opened_with transcript failed terminal explain (Ok state) files words file old mid new errors told errors' has from (puzzle, is_found, is) =
+    record {
+      words = words;
+      mid = mid;
+      told = told;
+      has_words = has;
+      puzzle = puzzle;
+      has_puzzle = subst (λ (o : Option (Bor (List ℕ))). HasPuzzle transcript failed o puzzle mid new told errors') (sym from) is_found;
+      opened = is;
+    }
+opened_with transcript failed terminal explain (Err failure) files words file old mid new errors told errors' has from is = tt
 
-pub unopened_with : {T : Type 0} (result : Result T Failure) (files : SessionFiles) (explain : Bool) (words : Dictionary) (file : Bor (List ℕ)) (old mid new : List Event) → HasWords files.dict words old mid
-    → files.from_file ≡ Some file → IfErr result (λ failure. IsUnread file.now explain failure mid new ⊎ ((failure ≡ failures.Memory) × (puzzle : PuzzleShown) × IsFound file.now puzzle mid new))
-    → IfErr result (λ failure. IsUnopened files explain failure old new)
-unopened_with (Ok session) files explain words file old mid new has from why = tt
-unopened_with (Err failure) files explain words file old mid new has from (inl unread) =
-    inr (inl (record { words = words; mid = mid; has_words = has; why = subst (λ (o : Option (Bor (List ℕ))). IfNamed o (λ name. IsUnread name explain failure mid new)) (sym from) unread }))
-unopened_with (Err failure) files explain words file old mid new has from (inr (memory, puzzle, is_found)) =
-    inr (inr (record { words = words; mid = mid; has_words = has; puzzle = puzzle; has_puzzle = subst (λ (o : Option (Bor (List ℕ))). HasPuzzle o puzzle mid new) (sym from) is_found; memory = memory }))
+pub unopened_with : {T E : Type 0} (transcript : E → List ℕ) (failed : E → ℕ) (terminal explain : Bool) (result : Result T Failure) (files : SessionFiles) (words : Dictionary) (file : Bor (List ℕ)) (old mid new : List Event)
+    (errors told errors' : E) → HasWords transcript failed terminal explain files.dict words old mid errors told → files.from_file ≡ Some file
+    → IfErr result (λ failure. (IsUnread file.now explain failure mid new × (errors' ≡ told)) ⊎ ((failure ≡ failures.Memory) × (puzzle : PuzzleShown) × IsFound transcript failed file.now puzzle mid new told errors'))
+    → IfErr result (λ failure. IsUnopened transcript failed terminal explain files failure old new errors errors')
+unopened_with transcript failed terminal explain (Ok session) files words file old mid new errors told errors' has from why = tt
+unopened_with transcript failed terminal explain (Err failure) files words file old mid new errors told errors' has from (inl (unread, untold)) =
+    inr (inl (record {
+      words = words;
+      mid = mid;
+      has_words = subst (λ e. HasWords transcript failed terminal explain files.dict words old mid errors e) (sym untold) has;
+      why = subst (λ (o : Option (Bor (List ℕ))). IfNamed o (λ name. IsUnread name explain failure mid new)) (sym from) unread;
+    }))
+unopened_with transcript failed terminal explain (Err failure) files words file old mid new errors told errors' has from (inr (memory, puzzle, is_found)) =
+    inr (inr (record {
+      words = words;
+      mid = mid;
+      told = told;
+      has_words = has;
+      puzzle = puzzle;
+      has_puzzle = subst (λ (o : Option (Bor (List ℕ))). HasPuzzle transcript failed o puzzle mid new told errors') (sym from) is_found;
+      memory = memory;
+    }))
 
-pub opened_empty : (result : Result State Failure) (files : SessionFiles) (words : Dictionary) (old new : List Event) → HasWords files.dict words old new → files.from_file ≡ None
-    → IfOk result (λ state. state ≡ opened_on words empty_puzzle) → IfOk result (λ state. IsOpened files state old new)
-opened_empty (Ok state) files words old new has from is =
-    record { words = words; mid = new; has_words = has; puzzle = empty_puzzle; has_puzzle = subst (λ (o : Option (Bor (List ℕ))). HasPuzzle o empty_puzzle new new) (sym from) (refl, refl); opened = is }
-opened_empty (Err failure) files words old new has from is = tt
+pub opened_empty : {E : Type 0} (transcript : E → List ℕ) (failed : E → ℕ) (terminal explain : Bool) (result : Result State Failure) (files : SessionFiles) (words : Dictionary) (old new : List Event) (errors errors' : E)
+    → HasWords transcript failed terminal explain files.dict words old new errors errors' → files.from_file ≡ None → IfOk result (λ state. state ≡ opened_on words empty_puzzle)
+    → IfOk result (λ state. IsOpened transcript failed terminal explain files state old new errors errors')
+opened_empty transcript failed terminal explain (Ok state) files words old new errors errors' has from is =
+    record {
+      words = words;
+      mid = new;
+      told = errors';
+      has_words = has;
+      puzzle = empty_puzzle;
+      has_puzzle = subst (λ (o : Option (Bor (List ℕ))). HasPuzzle transcript failed o empty_puzzle new new errors' errors') (sym from) (refl, refl, refl);
+      opened = is;
+    }
+opened_empty transcript failed terminal explain (Err failure) files words old new errors errors' has from is = tt
 
-pub unopened_empty : {T : Type 0} (result : Result T Failure) (files : SessionFiles) (explain : Bool) (words : Dictionary) (old new : List Event) → HasWords files.dict words old new → files.from_file ≡ None
-    → IsOkUnless result failures.Memory → IfErr result (λ failure. IsUnopened files explain failure old new)
-unopened_empty (Ok session) files explain words old new has from why = tt
-unopened_empty (Err failure) files explain words old new has from why =
-    inr (inr (record { words = words; mid = new; has_words = has; puzzle = empty_puzzle; has_puzzle = subst (λ (o : Option (Bor (List ℕ))). HasPuzzle o empty_puzzle new new) (sym from) (refl, refl); memory = why }))
+pub unopened_empty : {T E : Type 0} (transcript : E → List ℕ) (failed : E → ℕ) (terminal explain : Bool) (result : Result T Failure) (files : SessionFiles) (words : Dictionary) (old new : List Event) (errors errors' : E)
+    → HasWords transcript failed terminal explain files.dict words old new errors errors' → files.from_file ≡ None → IsOkUnless result failures.Memory
+    → IfErr result (λ failure. IsUnopened transcript failed terminal explain files failure old new errors errors')
+unopened_empty transcript failed terminal explain (Ok session) files words old new errors errors' has from why = tt
+unopened_empty transcript failed terminal explain (Err failure) files words old new errors errors' has from why =
+    inr (inr (record {
+      words = words;
+      mid = new;
+      told = errors';
+      has_words = has;
+      puzzle = empty_puzzle;
+      has_puzzle = subst (λ (o : Option (Bor (List ℕ))). HasPuzzle transcript failed o empty_puzzle new new errors' errors') (sym from) (refl, refl, refl);
+      memory = why;
+    }))

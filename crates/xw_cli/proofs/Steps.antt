@@ -6,6 +6,7 @@ use Rattle.std.specs.Prelude.{Option, Some}
 use Rattle.std.specs.Borrow.{Bor}
 use Rattle.xw_words.specs.Dictionary.{Dictionary}
 use Rattle.xw_words.specs.WordList.{listed_in}
+use Rattle.xw_grid.specs.Puzzle.{PuzzleShown}
 use Rattle.xw_journal.specs.File.{kept_lines}
 use Rattle.xw_lines.specs.Device.{HasFailed}
 use Rattle.xw_text.specs.Lines.{lines_of}
@@ -23,20 +24,23 @@ use Rattle.xw_puzzle_files.specs.declared.failure.Failure.TheVariants.{Memory}
 use Rattle.xw_puzzle_files.specs.declared.failure.Status.{Status}
 use Rattle.xw_puzzle_files.specs.declared.failure.Status.TheVariants.{Accepted}
 use Rattle.xw_puzzle_files.specs.Told.{IsFaultOf}
-use Rattle.xw_cli.specs.Journals.{IsEnded, IsUnended}
-use Rattle.xw_puzzle_files.specs.Files.{Asks, IfNamed, IsUnreadFile, IsUnreplaced}
+use Rattle.xw_cli.specs.Journals.{HasReplayed, IsEnded, IsUnended, IsUnreplayed}
+use Rattle.xw_puzzle_files.specs.Files.{Asks, IfNamed, AreBytesFor, IsMalformed, IsUnread, IsUnreadFile, IsUnreplaced, IsUnwritten, IsWritten}
 use Rattle.xw_cli.specs.declared.session_files.Refusals.{Refusals}
-use Rattle.xw_cli.specs.SessionFiles.{AreRefused, IsLoaded, IsReplayed, IsResumed, IsStopped, IsUnsaved, Replays, TellsReplay, ends_in_known, file_of, tells_loss}
-use Rattle.xw_cli.specs.Performed.{AreResumed, Closes, Ends, IsConverted, IsNotKeptOver, IsNotPut, IsNotSaved, IsPerformed, IsPut, IsSaved, IsSilent, IsUnconverted, IsUnresumed, IsUnsavedAs, Keeps, Saves, StillPuts}
+use Rattle.xw_cli.specs.SessionFiles.{Copies, HasKept, IsLoaded, IsLoadedTold, IsLoadingTold, IsReplayed, IsResumed, IsUnsaved, Replays, TellsReplay, ends_in_known, file_of, old_line, tells_loss}
+use Rattle.xw_puzzle_files.specs.Explained.{GoesOut}
+use Rattle.xw_cli.specs.Performed.{Closes, Ends, IsConverted, IsNotKeptOver, IsNotSaved, IsPerformed, IsSaved, IsSilent, IsUnconverted, IsUnresumed, IsUnsavedAs, Keeps, Saves, StillPuts}
 use Rattle.xw_cli.specs.Streams.{Streams}
 
 -- ---- the word list
 
-pub loaded : {T E : Type 0} (words : T → Dictionary) (result : Result T E) (name bytes items : List ℕ) (old new : List Event) → bytes ≡ items → Asks (read name (Ok items)) old new
-    → IfOk result (λ bank. words bank ≡ listed_in bytes) → IfOk result (λ bank. IsLoaded name (words bank) old new)
-loaded words (Ok bank) name bytes items old new is asks listed =
-    record { bytes = bytes; asks = subst (λ (b : List ℕ). Asks (read name (Ok b)) old new) (sym is) asks; listed = listed }
-loaded words (Err failure) name bytes items old new is asks listed = tt
+pub loaded : {T X S : Type 0} (words : T → Dictionary) (result : Result T X) (transcript : S → List ℕ) (failed : S → ℕ) (terminal explain : Bool) (name bytes items : List ℕ) (old new : List Event) (errors mid errors' : S)
+    → bytes ≡ items → Asks (read name (Ok items)) old new → IsLoadingTold transcript failed terminal name bytes errors mid
+    → IfOk result (λ bank. words bank ≡ listed_in bytes) → OnOk result (IsLoadedTold transcript failed explain name bytes mid errors')
+    → IfOk result (λ bank. IsLoaded transcript failed terminal explain name (words bank) old new errors errors')
+loaded words (Ok bank) transcript failed terminal explain name bytes items old new errors mid errors' is asks loading listed told =
+    record { bytes = bytes; asks = subst (λ (b : List ℕ). Asks (read name (Ok b)) old new) (sym is) asks; listed = listed; mid = mid; loading = loading; told = told }
+loaded words (Err failure) transcript failed terminal explain name bytes items old new errors mid errors' is asks loading listed told = tt
 
 -- ---- the commands to resume
 
@@ -72,45 +76,15 @@ unknown_at_last line reports rest after so_far lines unknown =
 pub known_at_last : (reports rest : List ℕ) → tells_loss reports ≡ tells_loss rest → rest ≡ [] → false ≡ tells_loss reports
 known_at_last reports rest so_far is = sym (so_far ∙ ap tells_loss is)
 
--- a replay that came to its end
-pub replayed : {S : Type 0} (transcript : S → List ℕ) (failures : S → ℕ) (name : List ℕ) (start left : State) (refused : Refusals) (old new : S) (lines others : List (List ℕ))
-    → lines ≡ others → Replays transcript failures name lines start left (Ok refused) old new
-    → (told : List ℕ) × (count : ℕ) × Resumes name start others (Ok count) told left × AreRefused count told refused
-replayed transcript failures name start left refused old new lines others is (inl (ended, told, done, tells, same)) = by_end ended done same where
-  by_end : (ended : Result ℕ Stop) → Resumes name start lines ended told left → IsReplayed name told ended (Ok refused)
-      → (told : List ℕ) × (count : ℕ) × Resumes name start others (Ok count) told left × AreRefused count told refused
-  by_end (Ok count) done same = (told, count, subst (λ ls. Resumes name start ls (Ok count) told left) is done, same)
-  by_end (Err stop) done same = absurd same
-replayed transcript failures name start left refused old new lines others is (inr (bad, untold)) = cc
+pub resumed : {S : Type 0} (transcript : S → List ℕ) (failed : S → ℕ) (name : List ℕ) (start left : State) (result : Result Refusals Failure) (asked asked' : List Event) (old new : S)
+    → IsResumed transcript failed name start left result asked asked' old new → IfOk result (λ refused. IsResumed transcript failed name start left (Ok refused) asked asked' old new)
+resumed transcript failed name start left (Ok refused) asked asked' old new is = is
+resumed transcript failed name start left (Err failure) asked asked' old new is = tt
 
--- a replay that stopped
-pub stopped : {S : Type 0} (transcript : S → List ℕ) (failures : S → ℕ) (name : List ℕ) (start left : State) (failure : Failure) (old new : S) (lines : List (List ℕ))
-    → Replays transcript failures name lines start left (Err failure) old new → (failure ≡ Memory) ⊎ ((stop : Stop) × IsStopped name stop failure)
-stopped transcript failures name start left failure old new lines (inl (ended, told, done, tells, same)) = by_end ended same where
-  by_end : (ended : Result ℕ Stop) → IsReplayed name told ended (Err failure) → (failure ≡ Memory) ⊎ ((stop : Stop) × IsStopped name stop failure)
-  by_end (Ok count) same = absurd same
-  by_end (Err stop) same = inr (stop, same)
-stopped transcript failures name start left failure old new lines (inr (memory, untold)) = inl (by_err _ _ memory)
-
-pub resumed : {S : Type 0} (transcript : S → List ℕ) (failures : S → ℕ) (name : List ℕ) (start left : State) (result : Result Refusals Failure) (asked asked' : List Event) (old new : S)
-    → IsResumed transcript failures name start left result asked asked' old new → IfOk result (λ refused. AreResumed name start refused left asked asked')
-resumed transcript failures name start left (Err failure) asked asked' old new is = tt
-resumed {S} transcript failures name start left (Ok refused) asked asked' old new (inl replay) =
-    let done : (told : List ℕ) × (count : ℕ) × Resumes name start (kept_lines replay.text) (Ok count) told left × AreRefused count told refused =
-    replayed transcript failures name start left refused replay.mid new _ _ refl replay.replays in
-    record { text = replay.text; asks = replay.asks; told = done.0; count = done.1; resumes = done.2; are_refused = done.3 }
-resumed transcript failures name start left (Ok refused) asked asked' old new (inr (inl untold)) = let bad = untold.memory in cc
-resumed transcript failures name start left (Ok refused) asked asked' old new (inr (inr unread)) = let bad = unread.failed in cc
-
-pub unresumed : {S : Type 0} (transcript : S → List ℕ) (failures : S → ℕ) (name : List ℕ) (start left : State) (result : Result Refusals Failure) (asked asked' : List Event) (old new : S)
-    → IsResumed transcript failures name start left result asked asked' old new → IfErr result (λ failure. IsUnresumed name failure asked asked')
-unresumed transcript failures name start left (Ok refused) asked asked' old new is = tt
-unresumed transcript failures name start left (Err failure) asked asked' old new (inl replay) =
-    inr (record { text = replay.text; asks = replay.asks; why = stopped transcript failures name start left failure replay.mid new _ replay.replays })
-unresumed transcript failures name start left (Err failure) asked asked' old new (inr (inl untold)) =
-    let same : failure ≡ Memory = by_err _ _ untold.memory in inr (record { text = untold.text; asks = untold.asks; why = inl same })
-unresumed transcript failures name start left (Err failure) asked asked' old new (inr (inr unread)) =
-    inl (subst (λ (f : Failure). IsUnreadFile name f asked asked') (by_err _ _ (sym unread.failed)) unread.why)
+pub unresumed : {S : Type 0} (transcript : S → List ℕ) (failed : S → ℕ) (name : List ℕ) (start left : State) (result : Result Refusals Failure) (asked asked' : List Event) (old new : S)
+    → IsResumed transcript failed name start left result asked asked' old new → IfErr result (λ failure. IsUnresumed transcript failed name start failure asked asked' old new)
+unresumed transcript failed name start left (Ok refused) asked asked' old new is = tt
+unresumed transcript failed name start left (Err failure) asked asked' old new is = (left, is)
 
 -- ---- the record
 
@@ -124,18 +98,36 @@ unsaved (Ok r) name bytes state old new is why = tt
 unsaved (Err failure) name bytes state old new is why = inr (subst (λ (b : List ℕ). IsUnreplaced name b failure old new) is why)
 
 -- the session is saved after the old file was kept, or stayed
-pub saved_as : {T E : Type 0} (result : Result T E) (files : SessionFiles) (file : Bor (List ℕ)) (refused : Refusals) (state : State) (old mid new : List Event) → files.save_file ≡ Some file
-    → Keeps files.resume_file file.now refused.is_loss old mid → OnOk result (Asks (replace file.now (file_of state) (Ok tt)) mid new) → OnOk result (IsSaved files files.save_file refused state old new)
-saved_as (Ok done) files file refused state old mid new is keeps asks =
-    subst (λ (o : Option (Bor (List ℕ))). IsSaved files o refused state old new) (sym is) (record { mid = mid; keeps = keeps; asks = asks })
-saved_as (Err failure) files file refused state old mid new is keeps asks = tt
+pub saved_as : {T X E : Type 0} (transcript : E → List ℕ) (failed : E → ℕ) (result : Result T X) (files : SessionFiles) (file : Bor (List ℕ)) (refused : Refusals) (state : State) (old mid new : List Event) (errors errors' : E)
+    → files.save_file ≡ Some file → Keeps transcript failed files.resume_file file.now refused.is_loss old mid errors errors' → OnOk result (Asks (replace file.now (file_of state) (Ok tt)) mid new)
+    → OnOk result (IsSaved transcript failed files files.save_file refused state old new errors errors')
+saved_as transcript failed (Ok done) files file refused state old mid new errors errors' is keeps asks =
+    subst (λ (o : Option (Bor (List ℕ))). IsSaved transcript failed files o refused state old new errors errors') (sym is) (record { mid = mid; keeps = keeps; asks = asks })
+saved_as transcript failed (Err failure) files file refused state old mid new errors errors' is keeps asks = tt
 
-pub unsaved_as : {T : Type 0} (result : Result T Failure) (files : SessionFiles) (file : Bor (List ℕ)) (refused : Refusals) (state : State) (old mid new : List Event) → files.save_file ≡ Some file
-    → Keeps files.resume_file file.now refused.is_loss old mid → IfErr result (λ failure. IsUnsaved file.now state failure mid new) → IfErr result (λ failure. IsNotSaved files refused state failure old new)
-unsaved_as (Ok done) files file refused state old mid new is keeps why = tt
-unsaved_as (Err failure) files file refused state old mid new is keeps why =
-    inr (subst (λ (o : Option (Bor (List ℕ))). IfNamed o (λ name. IsNotKeptOver files.resume_file name refused failure old new ⊎ IsUnsavedAs files.resume_file name refused state failure old new)) (sym is)
+pub unsaved_as : {T E : Type 0} (transcript : E → List ℕ) (failed : E → ℕ) (result : Result T Failure) (files : SessionFiles) (file : Bor (List ℕ)) (refused : Refusals) (state : State) (old mid new : List Event) (errors errors' : E)
+    → files.save_file ≡ Some file → Keeps transcript failed files.resume_file file.now refused.is_loss old mid errors errors' → IfErr result (λ failure. IsUnsaved file.now state failure mid new)
+    → IfErr result (λ failure. IsNotSaved transcript failed files refused state failure old new errors errors')
+unsaved_as transcript failed (Ok done) files file refused state old mid new errors errors' is keeps why = tt
+unsaved_as transcript failed (Err failure) files file refused state old mid new errors errors' is keeps why =
+    inr (subst (λ (o : Option (Bor (List ℕ))). IfNamed o (λ name. (IsNotKeptOver files.resume_file name refused failure old new × (errors' ≡ errors))
+    ⊎ IsUnsavedAs transcript failed files.resume_file name refused state failure old new errors errors')) (sym is)
     (inr (record { mid = mid; keeps = keeps; unsaved = why })))
+
+-- the old file is not kept
+pub unkept : {E : Type 0} (transcript : E → List ℕ) (failed : E → ℕ) (files : SessionFiles) (file : Bor (List ℕ)) (refused : Refusals) (state : State) (failure : Failure) (old new : List Event) (errors errors' : E)
+    → files.save_file ≡ Some file → ((failure ≡ Memory) × (new ≡ old)) ⊎ IsNotKeptOver files.resume_file file.now refused failure old new → errors' ≡ errors
+    → IsNotSaved transcript failed files refused state failure old new errors errors'
+unkept transcript failed files file refused state failure old new errors errors' is (inl (memory, unasked)) untold = inl (inl memory, unasked, untold)
+unkept transcript failed files file refused state failure old new errors errors' is (inr why) untold =
+    inr (subst (λ (o : Option (Bor (List ℕ))). IfNamed o (λ name. (IsNotKeptOver files.resume_file name refused failure old new × (errors' ≡ errors))
+    ⊎ IsUnsavedAs transcript failed files.resume_file name refused state failure old new errors errors')) (sym is) (inl (why, untold)))
+
+-- the old file is kept, and this is reported
+pub kept : {T X S : Type 0} (transcript : S → List ℕ) (failed : S → ℕ) (result : Result T X) (name : List ℕ) (number : ℕ) (old new : List Event) (errors errors' : S) → Copies name number (Ok tt) old new
+    → OnOk result (GoesOut transcript failed errors errors' (old_line name number)) → OnOk result (HasKept transcript failed name old new errors errors')
+kept transcript failed (Ok done) name number old new errors errors' copies told = (number, copies, told)
+kept transcript failed (Err failure) name number old new errors errors' copies told = tt
 
 -- ---- the end of a journal
 
@@ -155,44 +147,73 @@ unended name bytes items state failure fault answer old new is is_file done told
 
 -- ---- the end of a session
 
-pub saves : (files : SessionFiles) (refused : Refusals) (state : State) (result : Result (Unit {0}) Failure) (old new : List Event)
-    → OnOk result (IsSaved files files.save_file refused state old new) → IfErr result (λ failure. IsNotSaved files refused state failure old new) → Saves files refused state result old new
-saves files refused state (Ok done) old new ok err = ok
-saves files refused state (Err failure) old new ok err = err
+pub saves : {E : Type 0} (transcript : E → List ℕ) (failed : E → ℕ) (files : SessionFiles) (refused : Refusals) (state : State) (result : Result (Unit {0}) Failure) (old new : List Event) (errors errors' : E)
+    → OnOk result (IsSaved transcript failed files files.save_file refused state old new errors errors') → IfErr result (λ failure. IsNotSaved transcript failed files refused state failure old new errors errors')
+    → Saves transcript failed files refused state result old new errors errors'
+saves transcript failed files refused state (Ok done) old new errors errors' ok err = ok
+saves transcript failed files refused state (Err failure) old new errors errors' ok err = err
 
-pub unanswered : (journal : Option (List ℕ)) (files : SessionFiles) (explain : Bool) (refused : Refusals) (state : State) (answered result : Result Status Failure) (failure : Failure)
-    (saved : Result (Unit {0}) Failure) (old new : List Event) → answered ≡ Err failure → result ≡ Err failure → Saves files refused state saved old new
-    → Ends journal files explain refused state answered result old new
-unanswered journal files explain refused state answered result failure saved old new is result_is saves =
-    subst (λ (a : Result Status Failure). Ends journal files explain refused state a result old new) (sym is) (record { saved = saved; mid = new; saves = saves; closes = (result_is, refl) })
+pub unanswered : {E : Type 0} (transcript : E → List ℕ) (failed : E → ℕ) (journal : Option (List ℕ)) (files : SessionFiles) (explain : Bool) (refused : Refusals) (state : State) (answered result : Result Status Failure)
+    (failure : Failure) (saved : Result (Unit {0}) Failure) (old new : List Event) (errors errors' : E) → answered ≡ Err failure → result ≡ Err failure → Saves transcript failed files refused state saved old new errors errors'
+    → Ends transcript failed journal files explain refused state answered result old new errors errors'
+unanswered transcript failed journal files explain refused state answered result failure saved old new errors errors' is result_is saves =
+    subst (λ (a : Result Status Failure). Ends transcript failed journal files explain refused state a result old new errors errors') (sym is)
+    (record { saved = saved; mid = new; told = errors'; saves = saves; closes = (result_is, refl, refl) })
 
-pub not_saved : (journal : Option (List ℕ)) (files : SessionFiles) (explain : Bool) (refused : Refusals) (state : State) (answered result : Result Status Failure) (status : Status) (failure : Failure)
-    (saved : Result (Unit {0}) Failure) (old mid new : List Event) → answered ≡ Ok status → saved ≡ Err failure → result ≡ Err failure → Saves files refused state saved old mid
-    → StillPuts files explain state status mid new → Ends journal files explain refused state answered result old new
-not_saved journal files explain refused state answered result status failure saved old mid new is saved_is result_is saves puts =
-    subst (λ (a : Result Status Failure). Ends journal files explain refused state a result old new) (sym is)
-    (record { saved = Err failure; mid = mid; saves = subst (λ (s : Result (Unit {0}) Failure). Saves files refused state s old mid) saved_is saves; closes = (result_is, puts) })
+pub not_saved : {E : Type 0} (transcript : E → List ℕ) (failed : E → ℕ) (journal : Option (List ℕ)) (files : SessionFiles) (explain : Bool) (refused : Refusals) (state : State) (answered : Result Status Failure) (status code : Status)
+    (failure : Failure) (saved : Result (Unit {0}) Failure) (old mid new : List Event) (errors told errors' : E) → answered ≡ Ok status → saved ≡ Err failure → Saves transcript failed files refused state saved old mid errors told
+    → StillPuts transcript failed files explain state failure code mid new told errors' → Ends transcript failed journal files explain refused state answered (Ok code) old new errors errors'
+not_saved transcript failed journal files explain refused state answered status code failure saved old mid new errors told errors' is saved_is saves puts =
+    subst (λ (a : Result Status Failure). Ends transcript failed journal files explain refused state a (Ok code) old new errors errors') (sym is)
+    (record {
+      saved = Err failure;
+      mid = mid;
+      told = told;
+      saves = subst (λ (s : Result (Unit {0}) Failure). Saves transcript failed files refused state s old mid errors told) saved_is saves;
+      closes = (code, refl, puts);
+    })
 
-pub closed : (journal : Option (List ℕ)) (files : SessionFiles) (explain : Bool) (refused : Refusals) (state : State) (answered result : Result Status Failure) (status : Status) (done : Unit {0})
-    (saved : Result (Unit {0}) Failure) (old mid new : List Event) → answered ≡ Ok status → saved ≡ Ok done → Saves files refused state saved old mid
-    → Closes journal files explain refused.count state status result mid new → Ends journal files explain refused state answered result old new
-closed journal files explain refused state answered result status done saved old mid new is saved_is saves closes =
-    subst (λ (a : Result Status Failure). Ends journal files explain refused state a result old new) (sym is)
-    (record { saved = Ok done; mid = mid; saves = subst (λ (s : Result (Unit {0}) Failure). Saves files refused state s old mid) saved_is saves; closes = closes })
-
--- the puzzle is written or not, whatever the call then answers
-pub still_puts : (files : SessionFiles) (explain : Bool) (state : State) (status : Status) (put : Result (Unit {0}) Failure) (old new : List Event)
-    → OnOk put (IsPut files.to_file (puzzle_of state) old new) → IfErr put (λ failure. IsNotPut files explain (puzzle_of state) failure old new) → StillPuts files explain state status old new
-still_puts files explain state status (Ok done) old new ok err = (Ok status, (refl, ok))
-still_puts files explain state status (Err failure) old new ok err = (Err failure, err)
+pub closed : {E : Type 0} (transcript : E → List ℕ) (failed : E → ℕ) (journal : Option (List ℕ)) (files : SessionFiles) (explain : Bool) (refused : Refusals) (state : State) (answered result : Result Status Failure) (status : Status)
+    (done : Unit {0}) (saved : Result (Unit {0}) Failure) (old mid new : List Event) (errors errors' : E) → answered ≡ Ok status → saved ≡ Ok done → Saves transcript failed files refused state saved old mid errors errors'
+    → Closes journal files explain refused.count state status result mid new → Ends transcript failed journal files explain refused state answered result old new errors errors'
+closed transcript failed journal files explain refused state answered result status done saved old mid new errors errors' is saved_is saves closes =
+    subst (λ (a : Result Status Failure). Ends transcript failed journal files explain refused state a result old new errors errors') (sym is)
+    (record {
+      saved = Ok done;
+      mid = mid;
+      told = errors';
+      saves = subst (λ (s : Result (Unit {0}) Failure). Saves transcript failed files refused state s old mid errors errors') saved_is saves;
+      closes = (closes, refl);
+    })
 
 -- ---- a call of `convert`
 
-pub converts : {E : Type 0} (transcript : E → List ℕ) (failed : E → ℕ) (call : Call) (from_file to_file : Bor (List ℕ)) (explain : Bool) (result : Result Status Failure) (old new : Streams) (errors errors' : E)
+pub converts : {E : Type 0} (transcript : E → List ℕ) (failed : E → ℕ) (terminal : Bool) (call : Call) (from_file to_file : Bor (List ℕ)) (explain : Bool) (result : Result Status Failure) (old new : Streams) (errors errors' : E)
     → call ≡ Convert from_file to_file explain → IfOk result (λ status. (status ≡ Accepted) × IsConverted transcript failed from_file.now to_file.now old.asked new.asked errors errors')
     → IfErr result (λ failure. IsUnconverted transcript failed from_file.now to_file.now explain failure old.asked new.asked errors errors')
-    → IsSilent old new → IsPerformed transcript failed call result old new errors errors'
-converts transcript failed call from_file to_file explain (Ok status) old new errors errors' is done why silent =
-    subst (λ (c : Call). IsPerformed transcript failed c (Ok status) old new errors errors') (sym is) (done.0, done.1, silent)
-converts transcript failed call from_file to_file explain (Err failure) old new errors errors' is done why silent =
-    subst (λ (c : Call). IsPerformed transcript failed c (Err failure) old new errors errors') (sym is) (why, silent)
+    → IsSilent old new → IsPerformed transcript failed terminal call result old new errors errors'
+converts transcript failed terminal call from_file to_file explain (Ok status) old new errors errors' is done why silent =
+    subst (λ (c : Call). IsPerformed transcript failed terminal c (Ok status) old new errors errors') (sym is) (done.0, done.1, silent)
+converts transcript failed terminal call from_file to_file explain (Err failure) old new errors errors' is done why silent =
+    subst (λ (c : Call). IsPerformed transcript failed terminal c (Err failure) old new errors errors') (sym is) (why, silent)
+
+-- ---- a journal
+
+-- a journal is begun, and then an allocation fails
+pub begun_in_vain : {S : Type 0} (transcript : S → List ℕ) (failed : S → ℕ) (name : List ℕ) (is_synced : Bool) (start : State) (refused : Refusals) (state : State) (failure : Failure) (old new : List Event) (errors errors' : S)
+    → HasReplayed transcript failed name is_synced start refused state old new errors errors' → failure ≡ Memory → IsUnreplayed transcript failed name is_synced start failure old new errors errors'
+begun_in_vain transcript failed name is_synced start refused state failure old new errors errors' has memory =
+    inr (inr (inr (record {
+      bytes = has.bytes;
+      mid = has.mid;
+      opens = has.opens;
+      state = state;
+      refused = refused;
+      told = has.told;
+      replays = has.replays;
+      begun = has.begun;
+      begins = has.begins;
+      asks = has.asks;
+      cut = inr has.cut;
+      memory = memory;
+    })))

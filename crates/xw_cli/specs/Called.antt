@@ -15,7 +15,7 @@ pub record IsCalled {E : Type 0} (transcript : E → List ℕ) (failures : E →
   pub faultless : shapes.faults_in words ≡ []
   pub call : Call
   pub is_call : IsCall call (shapes.subcommand_in words)
-  pub performs : Performs transcript failures closed (explained_if terminal call) status old new errors errors'
+  pub performs : Performs transcript failures terminal closed (explained_if terminal call) status old new errors errors'
 
 -- The words ask for help or have a fault, which is explained, and nothing is done.
 pub record IsRefused {O E : Type 0} (transcript : O → List ℕ) (failures : O → ℕ) (closed : Bool) (words : List (List ℕ)) (status : Status) (old new : Streams) (output output' : O) (errors errors' : E) : Type 0 where

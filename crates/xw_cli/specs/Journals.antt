@@ -1,19 +1,17 @@
 -- The journal of a session: what is replayed of it, how it begins and ends, and which failure ends it.
-use Rattle.std.specs.Prelude.{◌≡◌, ◌⊎◌, ◌++◌, ◌<◌, ℕ, Bool, List, Ok, Err, codes}
-use Rattle.xw_journal.specs.File.{first_line, form_of, kept_lines}
+use Rattle.std.specs.Prelude.{◌≡◌, ◌⊎◌, ◌++◌, ◌<◌, ℕ, Bool, List, Ok, Err, codes, length, nat_lt}
+use Rattle.xw_journal.specs.File.{first_line, form_of, is_cut, kept_lines}
 use Rattle.xw_journal.specs.declared.file.Form.{Form}
 use Rattle.xw_journal.specs.declared.file.Form.TheVariants as forms
 use Rattle.xw_lines.specs.Cut.{lines_of}
-use Rattle.xw_session.specs.Resuming.{Resumes}
 use Rattle.xw_session.specs.State.{State}
-use Rattle.xw_session.specs.declared.resuming.Stop.{Stop}
 use Rattle.xw_disk.specs.Disk.{Event, open_, begin, end}
 use Rattle.xw_disk.specs.declared.disk.DiskFault.{DiskFault}
 use Rattle.xw_puzzle_files.specs.declared.failure.Failure.{Failure}
 use Rattle.xw_puzzle_files.specs.declared.failure.Failure.TheVariants as failures
 use Rattle.xw_puzzle_files.specs.Files.{Asks, IsLineFault}
 use Rattle.xw_cli.specs.declared.session_files.Refusals.{Refusals}
-use Rattle.xw_cli.specs.SessionFiles.{AreRefused, IsStopped, file_of}
+use Rattle.xw_cli.specs.SessionFiles.{Replays, TellsCutIf, file_of}
 use Rattle.xw_puzzle_files.specs.Told.{IsFaultOf}
 
 -- What a journal begins with, from the bytes that its file has. If these are at most a part of the first line, it
@@ -25,19 +23,26 @@ Begins forms.Named bytes begun = (lines_of begun ≡ kept_lines bytes) × (rest 
 Begins forms.Whole bytes begun = begun ≡ first_line ++ bytes
 Begins forms.Cut bytes begun = ⊥
 
+-- whether some of these bytes are dropped when a journal begins with them: a part of the first line, or what was cut
+abbrev pub drops_in : Form → List ℕ → Bool
+drops_in forms.Begun bytes = nat_lt 0 (length bytes)
+drops_in form bytes = is_cut bytes
+
+abbrev pub drops : List ℕ → Bool
+drops bytes = drops_in (form_of bytes) bytes
+
 -- The journal with this name was opened and begun, with this flag for syncing, and the lines of its bytes that count
--- were replayed. These of them were refused.
-pub record HasReplayed (name : List ℕ) (is_synced : Bool) (start : State) (refused : Refusals) (state : State) (old new : List Event) : Type 0 where
+-- were replayed. Those that were refused are reported, and then, exactly if others were cut, this.
+pub record HasReplayed {S : Type 0} (transcript : S → List ℕ) (failed : S → ℕ) (name : List ℕ) (is_synced : Bool) (start : State) (refused : Refusals) (state : State) (old new : List Event) (errors errors' : S) : Type 0 where
   pub bytes : List ℕ
   pub mid : List Event
   pub opens : Asks (open_ name (Ok bytes)) old mid
-  pub told : List ℕ
-  pub count : ℕ
-  pub resumes : Resumes name start (kept_lines bytes) (Ok count) told state
-  pub are_refused : AreRefused count told refused
+  pub told : S
+  pub replays : Replays transcript failed name (kept_lines bytes) start state (Ok refused) errors told
   pub begun : List ℕ
   pub begins : Begins (form_of bytes) bytes begun
   pub asks : Asks (begin name begun is_synced (Ok tt)) mid new
+  pub cut : TellsCutIf transcript failed name (drops bytes) told errors'
 
 -- The journal with this name was not opened.
 pub record IsNotOpened (name : List ℕ) (failure : Failure) (old new : List Event) : Type 0 where
@@ -49,38 +54,51 @@ pub record IsNotOpened (name : List ℕ) (failure : Failure) (old new : List Eve
 abbrev pub IsNoJournal : List ℕ → List ℕ → Failure → Type 0
 IsNoJournal name bytes failure = ((number : ℕ) × (form_of bytes ≡ forms.Cut) × IsLineFault name number (codes "Cut") failure) ⊎ ((form_of bytes ≡ forms.Whole) × IsLineFault name 1 (codes "Command") failure)
 
--- The journal with this name was opened, and its file stays as it is: the replay stopped at a line, the file begins no
--- journal, or an allocation failed.
-pub record IsLeft (name : List ℕ) (failure : Failure) (old new : List Event) : Type 0 where
+-- The journal with this name was opened, and its file stays as it is: the replay stopped, or its lines were replayed and
+-- it begins no journal. The lines that were refused are reported.
+pub record IsLeft {S : Type 0} (transcript : S → List ℕ) (failed : S → ℕ) (name : List ℕ) (start : State) (failure : Failure) (old new : List Event) (errors errors' : S) : Type 0 where
   pub bytes : List ℕ
   pub asks : Asks (open_ name (Ok bytes)) old new
-  pub why : (failure ≡ failures.Memory) ⊎ (((stop : Stop) × IsStopped name stop failure) ⊎ IsNoJournal name bytes failure)
+  pub state : State
+  pub why : Replays transcript failed name (kept_lines bytes) start state (Err failure) errors errors'
+      ⊎ ((refused : Refusals) × Replays transcript failed name (kept_lines bytes) start state (Ok refused) errors errors' × IsNoJournal name bytes failure)
 
--- The journal with this name was opened, and could not be begun.
-pub record IsNotBegun (name : List ℕ) (is_synced : Bool) (failure : Failure) (old new : List Event) : Type 0 where
+-- The journal with this name was opened, its lines were replayed, and it could not be begun.
+pub record IsNotBegun {S : Type 0} (transcript : S → List ℕ) (failed : S → ℕ) (name : List ℕ) (is_synced : Bool) (start : State) (failure : Failure) (old new : List Event) (errors errors' : S) : Type 0 where
   pub bytes : List ℕ
   pub mid : List Event
   pub opens : Asks (open_ name (Ok bytes)) old mid
+  pub state : State
+  pub refused : Refusals
+  pub replays : Replays transcript failed name (kept_lines bytes) start state (Ok refused) errors errors'
   pub begun : List ℕ
   pub begins : Begins (form_of bytes) bytes begun
   pub fault : DiskFault
   pub told : IsFaultOf fault name failure
   pub asks : Asks (begin name begun is_synced (Err fault)) mid new
 
--- The journal with this name was begun, and then an allocation failed.
-pub record IsBegunInVain (name : List ℕ) (is_synced : Bool) (failure : Failure) (old new : List Event) : Type 0 where
+-- The journal with this name was begun, and then an allocation failed: for the report that lines were cut, or after it.
+pub record IsBegunInVain {S : Type 0} (transcript : S → List ℕ) (failed : S → ℕ) (name : List ℕ) (is_synced : Bool) (start : State) (failure : Failure) (old new : List Event) (errors errors' : S) : Type 0 where
   pub bytes : List ℕ
   pub mid : List Event
   pub opens : Asks (open_ name (Ok bytes)) old mid
+  pub state : State
+  pub refused : Refusals
+  pub told : S
+  pub replays : Replays transcript failed name (kept_lines bytes) start state (Ok refused) errors told
   pub begun : List ℕ
   pub begins : Begins (form_of bytes) bytes begun
   pub asks : Asks (begin name begun is_synced (Ok tt)) mid new
+  pub cut : (errors' ≡ told) ⊎ TellsCutIf transcript failed name (drops bytes) told errors'
   pub memory : failure ≡ failures.Memory
 
 -- why the lines of the journal with this name are not replayed, or no session begins with it
-abbrev pub IsUnreplayed : List ℕ → Bool → Failure → List Event → List Event → Type 0
-IsUnreplayed name is_synced failure old new =
-    IsNotOpened name failure old new ⊎ (IsLeft name failure old new ⊎ (IsNotBegun name is_synced failure old new ⊎ IsBegunInVain name is_synced failure old new))
+abbrev pub IsUnreplayed : {S : Type 0} → (S → List ℕ) → (S → ℕ) → List ℕ → Bool → State → Failure → List Event → List Event → S → S → Type 0
+IsUnreplayed transcript failed name is_synced start failure old new errors errors' =
+    (IsNotOpened name failure old new × (errors' ≡ errors))
+    ⊎ (IsLeft transcript failed name start failure old new errors errors'
+    ⊎ (IsNotBegun transcript failed name is_synced start failure old new errors errors'
+    ⊎ IsBegunInVain transcript failed name is_synced start failure old new errors errors'))
 
 -- ---- the end of a journal
 

@@ -5,7 +5,7 @@ use Rattle.std.specs.List.{list_any}
 use Rattle.xw_text.specs.Lines.{is_line_feed, lines_of}
 use Rattle.xw_words.specs.Dictionary.{Dictionary}
 use Rattle.xw_words.specs.WordList.{IsTooLong, listed_in, results_of, words_among}
-use Rattle.xw_journal.specs.File.{first_line, kept_lines}
+use Rattle.xw_journal.specs.File.{first_line, is_cut, kept_lines}
 use Rattle.xw_session.specs.Record.{record_lines}
 use Rattle.xw_session.specs.Resuming.{Resumes, Tells}
 use Rattle.xw_session.specs.State.{State}
@@ -70,11 +70,15 @@ MayTellLoading transcript failures terminal name old new = (new ≡ old) ⊎ (Is
 abbrev pub IsOverfull : List ℕ → List ℕ → Failure → Type 0
 IsOverfull name bytes failure = IsTooLong (listed_in bytes) × IsFileFault name (codes "Full") None failure
 
--- The file with this name was read, and the dictionary is the one that its bytes list.
-pub record IsLoaded (name : List ℕ) (words : Dictionary) (old new : List Event) : Type 0 where
+-- The file with this name was read, and the dictionary is the one that its bytes list. A terminal is told before that a
+-- long list is loading, and then the counts of its lines are reported.
+pub record IsLoaded {S : Type 0} (transcript : S → List ℕ) (failures : S → ℕ) (terminal explain : Bool) (name : List ℕ) (words : Dictionary) (old new : List Event) (errors errors' : S) : Type 0 where
   pub bytes : List ℕ
   pub asks : Asks (read name (Ok bytes)) old new
   pub listed : words ≡ listed_in bytes
+  pub mid : S
+  pub loading : IsLoadingTold transcript failures terminal name bytes errors mid
+  pub told : IsLoadedTold transcript failures explain name bytes mid errors'
 
 -- The file with this name was read, and its bytes have too many words, or an allocation failed.
 pub record IsBadList (name : List ℕ) (failure : Failure) (old new : List Event) : Type 0 where
@@ -92,9 +96,10 @@ IsUnloaded name failure old new = IsUnreadFile name failure old new ⊎ IsBadLis
 abbrev pub cut_line : List ℕ → List ℕ
 cut_line name = codes "xw: " ++ name ++ codes ": a cut line was dropped\n"
 
--- the report is written, or there is nothing to report
-abbrev pub MayTellCut : {S : Type 0} → (S → List ℕ) → (S → ℕ) → List ℕ → S → S → Type 0
-MayTellCut transcript failures name old new = GoesOut transcript failures old new (cut_line name) ⊎ (new ≡ old)
+-- the report is written if it is due, and otherwise nothing is
+abbrev pub TellsCutIf : {S : Type 0} → (S → List ℕ) → (S → ℕ) → List ℕ → Bool → S → S → Type 0
+TellsCutIf transcript failures name true old new = GoesOut transcript failures old new (cut_line name)
+TellsCutIf transcript failures name false old new = new ≡ old
 
 -- the failure says at which line of this file the replay stopped, and why; or an allocation failed
 abbrev pub IsStopped : List ℕ → Stop → Failure → Type 0
@@ -134,13 +139,13 @@ Replays transcript failed name lines start left result old new =
     ((ended : Result ℕ Stop) × (told : List ℕ) × Resumes name start lines ended told left × Tells transcript failed old new told × IsReplayed name told ended result)
     ⊎ ((result ≡ Err failures.Memory) × (new ≡ old))
 
--- The file with this name was read, and the lines of its bytes that count are replayed, after a report if others were
--- cut.
+-- The file with this name was read, and the lines of its bytes that count are replayed, after a report exactly if others
+-- were cut.
 pub record IsReplay {S : Type 0} (transcript : S → List ℕ) (failures : S → ℕ) (name : List ℕ) (start left : State) (result : Result Refusals Failure) (asked asked' : List Event) (old new : S) : Type 0 where
   pub text : List ℕ
   pub asks : Asks (read name (Ok text)) asked asked'
   pub mid : S
-  pub cut : MayTellCut transcript failures name old mid
+  pub cut : TellsCutIf transcript failures name (is_cut text) old mid
   pub replays : Replays transcript failures name (kept_lines text) start left result mid new
 
 -- The file with this name was read, and the report that lines were cut could not be allocated.
@@ -188,9 +193,10 @@ pub record Copies (name : List ℕ) (number : ℕ) (answer : Result (Unit {0}) D
   pub reads : Asks (read name (Ok bytes)) old mid
   pub keeps : Asks (keep name bytes number answer) mid new
 
--- the file with this name is kept under some number
-abbrev pub HasKept : List ℕ → List Event → List Event → Type 0
-HasKept name old new = (number : ℕ) × Copies name number (Ok tt) old new
+-- the file with this name is kept under some number, which is reported
+abbrev pub HasKept : {S : Type 0} → (S → List ℕ) → (S → ℕ) → List ℕ → List Event → List Event → S → S → Type 0
+HasKept transcript failures name old new errors errors' =
+    (number : ℕ) × Copies name number (Ok tt) old new × GoesOut transcript failures errors errors' (old_line name number)
 
 -- The old file was not kept, and the failure names the name that it was to get.
 pub record IsNotCopied (name : List ℕ) (failure : Failure) (old new : List Event) : Type 0 where
@@ -203,4 +209,4 @@ pub record IsNotCopied (name : List ℕ) (failure : Failure) (old new : List Eve
 -- the report of this could not be allocated
 abbrev pub IsNotKept : List ℕ → Failure → List Event → List Event → Type 0
 IsNotKept name failure old new =
-    IsUnreadFile name failure old new ⊎ (IsNotCopied name failure old new ⊎ ((failure ≡ failures.Memory) × HasKept name old new))
+    IsUnreadFile name failure old new ⊎ (IsNotCopied name failure old new ⊎ ((failure ≡ failures.Memory) × (number : ℕ) × Copies name number (Ok tt) old new))

@@ -4,14 +4,14 @@ ghost use Rattle.xw_journal.specs.File.{form_of as form_of_bytes};
 ghost use Rattle.xw_journal.specs.declared.file.Form.TheVariants as forms;
 ghost use Rattle.xw_disk.specs.Disk.{open_, started};
 ghost use Rattle.xw_puzzle_files.specs.Files.{Asks, IsLineFault};
-ghost use Rattle.xw_cli.specs.Journals.{Begins, HasReplayed, IsEnded, IsNoJournal, IsNotOpened, IsUnended, IsUnreplayed};
+ghost use Rattle.xw_cli.specs.Journals.{drops, Begins, HasReplayed, IsEnded, IsNoJournal, IsNotOpened, IsUnended, IsUnreplayed};
 
-use crate::session_files::{Refusals, resume_text, tell_cut};
+use crate::session_files::{Refusals, resume_text, tell_cut_if};
 use std::alloc::Global;
 use xw_disk::{Disk, Start};
 use xw_feas::feasible::Feasible;
 use xw_feas::searchable::Searchable;
-use xw_journal::file::{FIRST_LINE, Form, form_of, kept, saved};
+use xw_journal::file::{FIRST_LINE, Form, form_of, is_cut, kept, saved};
 use xw_lines::Sink;
 use xw_puzzle_files::failure::{Failure, failure_of};
 use xw_puzzle_files::files::line_fault;
@@ -28,10 +28,10 @@ pub fn resume_journal<'a, D: Disk, F: Searchable, E: Sink>(
     session: &mut Session<F>,
     errors: &mut E,
 ) -> Result<(D::Journal, Refusals), Failure<'a>>
-    ensures ok { IfOk result (λ resumed. HasReplayed file.entry.now is_synced session.old resumed.1 session.new (D.log disk.old) (D.log disk.new)) }
+    ensures ok { IfOk result (λ resumed. HasReplayed E.transcript E.failures file.entry.now is_synced session.old resumed.1 session.new (D.log disk.old) (D.log disk.new) errors.old errors.new) }
     ensures transcript { IfOk result (λ resumed. D.Journal.transcript resumed.0 ≡ []) }
     ensures failures { IfOk result (λ resumed. D.Journal.failures resumed.0 ≡ 0) }
-    ensures err { IfErr result (λ failure. IsUnreplayed file.entry.now is_synced failure (D.log disk.old) (D.log disk.new)) }
+    ensures err { IfErr result (λ failure. IsUnreplayed E.transcript E.failures file.entry.now is_synced session.old failure (D.log disk.old) (D.log disk.new) errors.old errors.new) }
 {
     let (opened, bytes) = open_journal(disk, file)?;
     let text = bytes.as_slice();
@@ -41,9 +41,7 @@ pub fn resume_journal<'a, D: Disk, F: Searchable, E: Sink>(
         Ok(journal) => journal,
         Err(fault) => return Err(failure_of(fault, file)),
     };
-    if is_cut(text) {
-        tell_cut(alloc, file, errors)?;
-    }
+    tell_cut_if(alloc, file, drops(text), errors)?;
     Ok((journal, refused))
 }
 
@@ -95,10 +93,12 @@ fn is_comments(bytes: &[u8]) -> bool {
 }
 
 /// Returns whether some of these bytes are dropped when a journal begins with them.
-fn is_cut(bytes: &[u8]) -> bool {
+fn drops(bytes: &[u8]) -> bool
+    ensures { result ≡ drops bytes.now }
+{
     match form_of(bytes) {
-        Form::Begun => !bytes.is_empty(),
-        _ => kept(bytes).len() < bytes.len(),
+        Form::Begun => bytes.len() > 0,
+        _ => is_cut(bytes),
     }
 }
 

@@ -1,5 +1,5 @@
 //! Executes a call.
-ghost use Rattle.std.specs.Prelude.{◌≡◌, ◌⊎◌, ◌++◌, ◌∷◌, [], ℕ, Some, None, Ok, Err, option_map, MatchResult, Result, IfOk, IfErr, IsErr, OnOk, IsOkUnless};
+ghost use Rattle.std.specs.Prelude.{◌≡◌, ◌⊎◌, ◌++◌, ◌∷◌, [], ℕ, Some, None, Ok, Err, option_map, MatchResult, Result, IfOk, IfErr, IsErr, OnOk, OnErr, IsOkUnless};
 ghost use Rattle.xw_grid.specs.Puzzle.{puzzle_view};
 ghost use Rattle.xw_journal.specs.Journal.{AnswersJournaled, StopsAtJournal};
 ghost use Rattle.xw_lines.specs.Device.{flushed};
@@ -15,7 +15,7 @@ ghost use Rattle.xw_puzzle_files.specs.declared.failure.Status.TheVariants.{Acce
 ghost use Rattle.xw_grid.specs.Puzzle.{PuzzleShown};
 ghost use Rattle.xw_puzzle_files.specs.Files.{IfNamed, IsTextTold, IsUnread, IsUnwritten, IsWritten};
 ghost use Rattle.xw_cli.specs.Journals.{HasReplayed, IsUnreplayed};
-ghost use Rattle.xw_cli.specs.Performed.{IsJournaled, AreResumed, EndsJournal, Ends, HasNoWords, HasResumed, HasWords, IsConverted, IsEdited, IsFound, IsJournalEnd, IsJournalRun, IsNotPut, IsNotSaved, IsOpened, IsPerformed, IsPut, IsRunWith, IsSaved, IsSession, IsSessionRun, IsSilent, IsUnconverted, IsUnedited, IsUnopened, IsUnresumed, IsUnrun, IsNotKeptOver, Closes, Compares, Keeps, Performs};
+ghost use Rattle.xw_cli.specs.Performed.{IsJournaled, EndsJournal, Ends, HasNoWords, HasResumed, HasWords, IsConverted, IsEdited, IsFound, IsJournalEnd, IsJournalRun, IsNotPut, IsNotSaved, IsOpened, IsPerformed, IsPut, IsRunWith, IsSaved, IsSession, IsSessionRun, IsSilent, IsUnconverted, IsUnedited, IsUnopened, IsUnresumed, IsUnrun, IsNotKeptOver, Closes, Compares, Keeps, Performs, StillPuts};
 ghost use Rattle.xw_puzzle_files.specs.Apart.{IsNotApart};
 ghost use Rattle.xw_cli.specs.Streams.{AnswersInput, streams};
 
@@ -30,7 +30,7 @@ use xw_journal::{Cause, JournaledSession};
 use xw_lines::RunEnd;
 use xw_puzzle_files::apart::{keep_apart, keep_free, keep_session_apart, keep_writable};
 use xw_puzzle_files::checking::check_files;
-use xw_puzzle_files::explaining::report;
+use xw_puzzle_files::explaining::{report, tell};
 use xw_puzzle_files::failure::{Failure, Status, run_status};
 use xw_puzzle_files::files;
 use xw_puzzle_files::outlet::{Messages, Outlet};
@@ -47,7 +47,7 @@ pub fn perform<F: Searchable, D: Disk, I: Source, O: Outlet, E: Messages>(
     output: &mut O,
     errors: &mut E,
 ) -> Status
-    ensures { Performs E.transcript E.failures (O.is_closed output.new) (explained_if (E.is_terminal errors.old) call.entry) result
+    ensures { Performs E.transcript E.failures (E.is_terminal errors.old) (O.is_closed output.new) (explained_if (E.is_terminal errors.old) call.entry) result
         (streams D.log I.transcript I.is_at_end I.failures O.transcript O.failures disk.old input.old output.old)
         (streams D.log I.transcript I.is_at_end I.failures O.transcript O.failures disk.new input.new output.new) errors.old errors.new }
 {
@@ -71,7 +71,7 @@ fn run<'a, F: Searchable, D: Disk, I: Source, O: Sink, E: Messages>(
     output: &mut O,
     errors: &mut E,
 ) -> Result<Status, Failure<'a>>
-    ensures { IsPerformed E.transcript E.failures call.entry result
+    ensures { IsPerformed E.transcript E.failures (E.is_terminal errors.old) call.entry result
         (streams D.log I.transcript I.is_at_end I.failures O.transcript O.failures disk.old input.old output.old)
         (streams D.log I.transcript I.is_at_end I.failures O.transcript O.failures disk.new input.new output.new) errors.old errors.new }
 {
@@ -100,10 +100,10 @@ fn edit<'a, F: Searchable, D: Disk, I: Source, O: Sink, E: Messages>(
     output: &mut O,
     errors: &mut E,
 ) -> Result<Status, Failure<'a>>
-    ensures { (IsEdited named.entry explain result
+    ensures { (IsEdited E.transcript E.failures (E.is_terminal errors.old) named.entry explain result
         (streams D.log I.transcript I.is_at_end I.failures O.transcript O.failures disk.old input.old output.old)
-        (streams D.log I.transcript I.is_at_end I.failures O.transcript O.failures disk.new input.new output.new))
-        ⊎ (IfErr result (λ failure. IsUnedited named.entry explain failure (D.log disk.old) (D.log disk.new)) × IsErr result × (input.new ≡ input.old) × (output.new ≡ output.old)) }
+        (streams D.log I.transcript I.is_at_end I.failures O.transcript O.failures disk.new input.new output.new) errors.old errors.new)
+        ⊎ (IfErr result (λ failure. IsUnedited E.transcript E.failures (E.is_terminal errors.old) named.entry explain failure (D.log disk.old) (D.log disk.new) errors.old errors.new) × IsErr result × (input.new ≡ input.old) × (output.new ≡ output.old)) }
 {
     keep_apart(disk, named)?;
     keep_free(disk, named)?;
@@ -121,10 +121,10 @@ fn edit_apart<'a, F: Searchable, D: Disk, I: Source, O: Sink, E: Messages>(
     output: &mut O,
     errors: &mut E,
 ) -> Result<Status, Failure<'a>>
-    ensures { (IsEdited named.entry explain result
+    ensures { (IsEdited E.transcript E.failures (E.is_terminal errors.old) named.entry explain result
         (streams D.log I.transcript I.is_at_end I.failures O.transcript O.failures disk.old input.old output.old)
-        (streams D.log I.transcript I.is_at_end I.failures O.transcript O.failures disk.new input.new output.new))
-        ⊎ (IfErr result (λ failure. IsUnedited named.entry explain failure (D.log disk.old) (D.log disk.new)) × IsErr result × (input.new ≡ input.old) × (output.new ≡ output.old)) }
+        (streams D.log I.transcript I.is_at_end I.failures O.transcript O.failures disk.new input.new output.new) errors.old errors.new)
+        ⊎ (IfErr result (λ failure. IsUnedited E.transcript E.failures (E.is_terminal errors.old) named.entry explain failure (D.log disk.old) (D.log disk.new) errors.old errors.new) × IsErr result × (input.new ≡ input.old) × (output.new ≡ output.old)) }
 {
     let session: Session<F> = open(alloc, disk, named, explain, errors)?;
     match named.journal_file {
@@ -146,10 +146,10 @@ fn answer<'a, F: Searchable, D: Disk, I: Source, O: Sink, E: Sink>(
     output: &mut O,
     errors: &mut E,
 ) -> Result<Status, Failure<'a>>
-    ensures { (IsSession named.entry explain session result
+    ensures { (IsSession E.transcript E.failures named.entry explain session result
         (streams D.log I.transcript I.is_at_end I.failures O.transcript O.failures disk.old input.old output.old)
-        (streams D.log I.transcript I.is_at_end I.failures O.transcript O.failures disk.new input.new output.new))
-        ⊎ (IfErr result (λ failure. IsUnrun None named.entry failure (D.log disk.old) (D.log disk.new)) × IsErr result × (input.new ≡ input.old) × (output.new ≡ output.old)) }
+        (streams D.log I.transcript I.is_at_end I.failures O.transcript O.failures disk.new input.new output.new) errors.old errors.new)
+        ⊎ (IfErr result (λ failure. IsUnrun E.transcript E.failures None named.entry session failure (D.log disk.old) (D.log disk.new) errors.old errors.new) × IsErr result × (input.new ≡ input.old) × (output.new ≡ output.old)) }
 {
     let before = resume(alloc, disk, &mut session, named.resume_file, errors)?;
     converse(
@@ -169,9 +169,9 @@ fn converse<'a, F: Searchable, D: Disk, I: Source, O: Sink, E: Sink>(
     output: &mut O,
     errors: &mut E,
 ) -> Result<Status, Failure<'a>>
-    ensures { IsSessionRun named.entry explain before session result
+    ensures { IsSessionRun E.transcript E.failures named.entry explain before session result
         (streams D.log I.transcript I.is_at_end I.failures O.transcript O.failures disk.old input.old output.old)
-        (streams D.log I.transcript I.is_at_end I.failures O.transcript O.failures disk.new input.new output.new) }
+        (streams D.log I.transcript I.is_at_end I.failures O.transcript O.failures disk.new input.new output.new) errors.old errors.new }
 {
     let end = session.run_lines(input, output);
     let answered = run_status(end, before.count);
@@ -192,10 +192,10 @@ fn answer_journaled<'a, F: Searchable, D: Disk, I: Source, O: Sink, E: Sink>(
     output: &mut O,
     errors: &mut E,
 ) -> Result<Status, Failure<'a>>
-    ensures { (IsJournaled file.entry.now named.entry explain session result
+    ensures { (IsJournaled E.transcript E.failures file.entry.now named.entry explain session result
         (streams D.log I.transcript I.is_at_end I.failures O.transcript O.failures disk.old input.old output.old)
-        (streams D.log I.transcript I.is_at_end I.failures O.transcript O.failures disk.new input.new output.new))
-        ⊎ (IfErr result (λ failure. IsUnreplayed file.entry.now named.entry.is_synced failure (D.log disk.old) (D.log disk.new)) × IsErr result × (input.new ≡ input.old) × (output.new ≡ output.old)) }
+        (streams D.log I.transcript I.is_at_end I.failures O.transcript O.failures disk.new input.new output.new) errors.old errors.new)
+        ⊎ (IfErr result (λ failure. IsUnreplayed E.transcript E.failures file.entry.now named.entry.is_synced session failure (D.log disk.old) (D.log disk.new) errors.old errors.new) × IsErr result × (input.new ≡ input.old) × (output.new ≡ output.old)) }
 {
     let (journaled, before) = begin(alloc, disk, session, file, named.is_synced, errors)?;
     converse_journaled(
@@ -212,9 +212,9 @@ fn begin<'a, F: Searchable, D: Disk, E: Sink>(
     is_synced: bool,
     errors: &mut E,
 ) -> Result<(JournaledSession<F, D::Journal>, Refusals), Failure<'a>>
-    ensures ok { IfOk result (λ begun. HasReplayed file.entry.now is_synced session begun.1 begun.0.state (D.log disk.old) (D.log disk.new)) }
+    ensures ok { IfOk result (λ begun. HasReplayed E.transcript E.failures file.entry.now is_synced session begun.1 begun.0.state (D.log disk.old) (D.log disk.new) errors.old errors.new) }
     ensures new { IfOk result (λ begun. begun.0 ≡ record { state = begun.0.state; journal = []; failures = 0; cause = None }) }
-    ensures err { IfErr result (λ failure. IsUnreplayed file.entry.now is_synced failure (D.log disk.old) (D.log disk.new)) }
+    ensures err { IfErr result (λ failure. IsUnreplayed E.transcript E.failures file.entry.now is_synced session failure (D.log disk.old) (D.log disk.new) errors.old errors.new) }
 {
     let (journal, before) = resume_journal(alloc, disk, file, is_synced, &mut session, errors)?;
     let journaled = JournaledSession::new(alloc, session, journal)?;
@@ -235,9 +235,9 @@ fn converse_journaled<'a, F: Searchable, D: Disk, I: Source, O: Sink, E: Sink>(
     output: &mut O,
     errors: &mut E,
 ) -> Result<Status, Failure<'a>>
-    ensures { IsJournalRun file.entry.now named.entry explain before journaled result
+    ensures { IsJournalRun E.transcript E.failures file.entry.now named.entry explain before journaled result
         (streams D.log I.transcript I.is_at_end I.failures O.transcript O.failures disk.old input.old output.old)
-        (streams D.log I.transcript I.is_at_end I.failures O.transcript O.failures disk.new input.new output.new) }
+        (streams D.log I.transcript I.is_at_end I.failures O.transcript O.failures disk.new input.new output.new) errors.old errors.new }
 {
     let end = journaled.run_lines(input, output);
     let cause = journaled.cause();
@@ -276,8 +276,8 @@ fn open<'a, F: Feasible, D: Disk, E: Messages>(
     explain: bool,
     errors: &mut E,
 ) -> Result<Session<F>, Failure<'a>>
-    ensures ok { IfOk result (λ session. IsOpened named.entry session (D.log disk.old) (D.log disk.new)) }
-    ensures err { IfErr result (λ failure. IsUnopened named.entry explain failure (D.log disk.old) (D.log disk.new)) }
+    ensures ok { IfOk result (λ session. IsOpened E.transcript E.failures (E.is_terminal errors.old) explain named.entry session (D.log disk.old) (D.log disk.new) errors.old errors.new) }
+    ensures err { IfErr result (λ failure. IsUnopened E.transcript E.failures (E.is_terminal errors.old) explain named.entry failure (D.log disk.old) (D.log disk.new) errors.old errors.new) }
 {
     let bank = dictionary(alloc, disk, named.dict, explain, errors)?;
     match named.from_file {
@@ -294,8 +294,8 @@ fn dictionary<'a, D: Disk, E: Messages>(
     explain: bool,
     errors: &mut E,
 ) -> Result<Bank, Failure<'a>>
-    ensures ok { IfOk result (λ bank. HasWords named.entry bank.words (D.log disk.old) (D.log disk.new)) }
-    ensures err { IfErr result (λ failure. HasNoWords named.entry failure (D.log disk.old) (D.log disk.new)) }
+    ensures ok { IfOk result (λ bank. HasWords E.transcript E.failures (E.is_terminal errors.old) explain named.entry bank.words (D.log disk.old) (D.log disk.new) errors.old errors.new) }
+    ensures err { IfErr result (λ failure. HasNoWords E.transcript E.failures (E.is_terminal errors.old) named.entry failure (D.log disk.old) (D.log disk.new) errors.old errors.new) }
 {
     match named {
         Some(file) => read_dictionary(alloc, disk, file, explain, errors),
@@ -312,9 +312,9 @@ fn open_puzzle<'a, F: Feasible, D: Disk, E: Sink>(
     explain: bool,
     errors: &mut E,
 ) -> Result<Session<F>, Failure<'a>>
-    ensures ok { IfOk result (λ session. (puzzle : PuzzleShown) × IsFound file.entry.now puzzle (D.log disk.old) (D.log disk.new) × (session ≡ opened_on bank.words puzzle)) }
-    ensures err { IfErr result (λ failure. IsUnread file.entry.now explain failure (D.log disk.old) (D.log disk.new)
-        ⊎ ((failure ≡ Memory) × (puzzle : PuzzleShown) × IsFound file.entry.now puzzle (D.log disk.old) (D.log disk.new))) }
+    ensures ok { IfOk result (λ session. (puzzle : PuzzleShown) × IsFound E.transcript E.failures file.entry.now puzzle (D.log disk.old) (D.log disk.new) errors.old errors.new × (session ≡ opened_on bank.words puzzle)) }
+    ensures err { IfErr result (λ failure. (IsUnread file.entry.now explain failure (D.log disk.old) (D.log disk.new) × (errors.new ≡ errors.old))
+        ⊎ ((failure ≡ Memory) × (puzzle : PuzzleShown) × IsFound E.transcript E.failures file.entry.now puzzle (D.log disk.old) (D.log disk.new) errors.old errors.new)) }
 {
     let (_, puzzle) = files::read_puzzle(alloc, disk, file, explain, errors)?;
     Ok(opening::open_puzzle(alloc, bank, puzzle)?)
@@ -336,8 +336,8 @@ fn resume<'a, F: Searchable, D: Disk, E: Sink>(
     named: Option<&'a str>,
     errors: &mut E,
 ) -> Result<Refusals, Failure<'a>>
-    ensures ok { IfOk result (λ refused. HasResumed named.entry session.old refused session.new (D.log disk.old) (D.log disk.new)) }
-    ensures err { IfErr result (λ failure. IfNamed named.entry (λ name. IsUnresumed name failure (D.log disk.old) (D.log disk.new))) }
+    ensures ok { IfOk result (λ refused. HasResumed E.transcript E.failures named.entry session.old refused session.new (D.log disk.old) (D.log disk.new) errors.old errors.new) }
+    ensures err { IfErr result (λ failure. IfNamed named.entry (λ name. IsUnresumed E.transcript E.failures name session.old failure (D.log disk.old) (D.log disk.new) errors.old errors.new)) }
 {
     match named {
         Some(file) => resume_file(alloc, disk, file, session, errors),
@@ -346,8 +346,8 @@ fn resume<'a, F: Searchable, D: Disk, E: Sink>(
 }
 
 /// Ends a session that answered its input or failed: saves it in any case, and then, unless it failed, ends its
-/// journal and writes its puzzle. If it cannot be saved, the puzzle is written, and the journal stays. `refused` are the
-/// lines of the file to resume or of the journal that were refused.
+/// journal and writes its puzzle. If it cannot be saved, this is reported, the puzzle is written, and the journal stays.
+/// `refused` are the lines of the file to resume or of the journal that were refused.
 fn end_session<'a, F: Feasible, D: Disk, E: Sink>(
     alloc: Global,
     disk: &mut D,
@@ -359,7 +359,7 @@ fn end_session<'a, F: Feasible, D: Disk, E: Sink>(
     journal: Option<&'a str>,
     errors: &mut E,
 ) -> Result<Status, Failure<'a>>
-    ensures { Ends (option_map (λ file. file.now) journal.entry) named.entry explain refused session.now answered.entry result (D.log disk.old) (D.log disk.new) }
+    ensures { Ends E.transcript E.failures (option_map (λ file. file.now) journal.entry) named.entry explain refused session.now answered.entry result (D.log disk.old) (D.log disk.new) errors.old errors.new }
 {
     // Two names may lead to one file by now. This is tested before a file is replaced.
     let apart = keep_apart(disk, named);
@@ -377,11 +377,32 @@ fn end_session<'a, F: Feasible, D: Disk, E: Sink>(
             journal,
             apart,
         ),
-        Err(failure) => {
-            let _ = write_puzzle_if(alloc, disk, session, named, explain, apart);
-            Err(failure)
-        }
+        Err(failure) => Ok(put_unsaved(
+            alloc, disk, session, named, explain, &failure, apart, errors,
+        )),
     }
+}
+
+/// Reports that a session is not saved, and writes its puzzle all the same. If it cannot be written, reports this too.
+/// Returns the status of the first failure.
+fn put_unsaved<'a, F: Feasible, D: Disk, E: Sink>(
+    alloc: Global,
+    disk: &mut D,
+    session: &Session<F>,
+    named: SessionFiles<'a>,
+    explain: bool,
+    failure: &Failure<'_>,
+    apart: Result<(), Failure<'a>>,
+    errors: &mut E,
+) -> Status
+    requires { IfErr apart (λ failure. IsNotApart named failure) }
+    ensures { StillPuts E.transcript E.failures named.entry explain session.now failure.now result (D.log disk.old) (D.log disk.new) errors.old errors.new }
+{
+    let status = tell(alloc, failure, explain, disk.error(), errors);
+    if let Err(other) = write_puzzle_if(alloc, disk, session, named, explain, apart) {
+        let _ = tell(alloc, &other, explain, disk.error(), errors);
+    }
+    status
 }
 
 /// Ends the journal of a session that was saved, and writes its puzzle.
@@ -430,8 +451,8 @@ fn write_saved<'a, F: Feasible, D: Disk, E: Sink>(
     refused: Refusals,
     errors: &mut E,
 ) -> Result<(), Failure<'a>>
-    ensures ok { OnOk result (IsSaved named.entry named.entry.save_file refused session.now (D.log disk.old) (D.log disk.new)) }
-    ensures err { IfErr result (λ failure. IsNotSaved named.entry refused session.now failure (D.log disk.old) (D.log disk.new)) }
+    ensures ok { OnOk result (IsSaved E.transcript E.failures named.entry named.entry.save_file refused session.now (D.log disk.old) (D.log disk.new) errors.old errors.new) }
+    ensures err { IfErr result (λ failure. IsNotSaved E.transcript E.failures named.entry refused session.now failure (D.log disk.old) (D.log disk.new) errors.old errors.new) }
 {
     let Some(file) = named.save_file else {
         return Ok(());
@@ -450,8 +471,9 @@ fn keep_lost<'a, D: Disk, E: Sink>(
     refused: Refusals,
     errors: &mut E,
 ) -> Result<(), Failure<'a>>
-    ensures ok { OnOk result (Keeps named.entry.resume_file file.entry.now refused.is_loss (D.log disk.old) (D.log disk.new)) }
+    ensures ok { OnOk result (Keeps E.transcript E.failures named.entry.resume_file file.entry.now refused.is_loss (D.log disk.old) (D.log disk.new) errors.old errors.new) }
     ensures err { IfErr result (λ failure. ((failure ≡ Memory) × (D.log disk.new ≡ D.log disk.old)) ⊎ IsNotKeptOver named.entry.resume_file file.entry.now refused failure (D.log disk.old) (D.log disk.new)) }
+    ensures untold { OnErr result (errors.new ≡ errors.old) }
 {
     if !refused.is_loss {
         return Ok(());

@@ -6,7 +6,7 @@ ghost use Rattle.xw_puzzle_files.specs.declared.failure.Failure.TheVariants.{Mem
 ghost use Rattle.xw_puzzle_files.specs.Explained.{GoesOut};
 ghost use Rattle.xw_puzzle_files.specs.Files.{Asks, IsFileFault};
 ghost use Rattle.xw_disk.specs.Disk.{read, replace};
-ghost use Rattle.xw_cli.specs.SessionFiles.{counts_line, cut_line, file_of, is_long, loading_line, IsLoadedTold, ends_in_known, old_line, tells_loss, HasKept, IsLoaded, IsLoadingTold, MayTellLoading, IsNotKept, IsOverfull, IsUnloaded, IsStopped, Replays, TellsReplay, IsResumed, IsUnsaved};
+ghost use Rattle.xw_cli.specs.SessionFiles.{counts_line, cut_line, file_of, is_long, loading_line, IsLoadedTold, ends_in_known, old_line, tells_loss, HasKept, IsLoaded, IsLoadingTold, MayTellLoading, IsNotKept, IsOverfull, IsUnloaded, IsStopped, Replays, TellsCutIf, TellsReplay, IsResumed, IsUnsaved};
 ghost use Rattle.xw_session.specs.Resuming.{Tells};
 ghost use Rattle.xw_lines.specs.Cut.{lines_of};
 
@@ -18,7 +18,7 @@ use xw_disk::Disk;
 use xw_disk::replacing::kept_name;
 use xw_feas::feasible::Feasible;
 use xw_feas::searchable::Searchable;
-use xw_journal::file::{kept, saved};
+use xw_journal::file::{is_cut, kept, saved};
 use xw_lines::device;
 use xw_puzzle_files::failure::{Failure, old_failure_of};
 use xw_puzzle_files::files::{file_fault, line_fault, read_file, write_file};
@@ -59,10 +59,7 @@ pub fn read_dictionary<'a, D: Disk, E: Messages>(
     errors: &mut E,
 ) -> Result<Bank, Failure<'a>>
     // The dictionary is the one that the bytes of the file list, and a report counts their lines.
-    ensures ok { IfOk result (λ bank. IsLoaded file.entry.now bank.words (D.log disk.old) (D.log disk.new)) }
-    ensures told { OnOk result ((bytes : List ℕ) × (mid : E) × Asks (read file.entry.now (Ok bytes)) (D.log disk.old) (D.log disk.new)
-        × IsLoadingTold E.transcript E.failures (E.is_terminal errors.old) file.entry.now bytes errors.old mid
-        × IsLoadedTold E.transcript E.failures explain file.entry.now bytes mid errors.new) }
+    ensures ok { IfOk result (λ bank. IsLoaded E.transcript E.failures (E.is_terminal errors.old) explain file.entry.now bank.words (D.log disk.old) (D.log disk.new) errors.old errors.new) }
     ensures err { IfErr result (λ failure. IsUnloaded file.entry.now failure (D.log disk.old) (D.log disk.new)) }
     ensures untold { OnErr result (MayTellLoading E.transcript E.failures (E.is_terminal errors.old) file.entry.now errors.old errors.new) }
 {
@@ -163,19 +160,30 @@ pub fn resume_file<'a, D: Disk, F: Searchable, E: Sink>(
     ensures { IsResumed E.transcript E.failures file.entry.now session.old session.new result (D.log disk.old) (D.log disk.new) errors.old errors.new }
 {
     let text = read_file(disk, file)?;
-    let whole = kept(text.as_slice());
-    if whole.len() < text.len() {
-        tell_cut(alloc, file, errors)?;
+    let bytes = text.as_slice();
+    tell_cut_if(alloc, file, is_cut(bytes), errors)?;
+    resume_text(alloc, file, session, kept(bytes), errors)
+}
+
+/// Reports that a cut line was dropped if one was. Write errors are ignored.
+pub fn tell_cut_if<'a, E: Sink>(
+    alloc: Global,
+    file: &'a str,
+    is_due: bool,
+    errors: &mut E,
+) -> Result<(), Failure<'a>>
+    ensures told { OnOk result (TellsCutIf E.transcript E.failures file.entry.now is_due errors.old errors.new) }
+    ensures memory { IsOkUnless result Memory }
+    ensures untold { OnErr result (errors.new ≡ errors.old) }
+{
+    if is_due {
+        return tell_cut(alloc, file, errors);
     }
-    resume_text(alloc, file, session, whole, errors)
+    Ok(())
 }
 
 /// Reports that a cut line was dropped. Write errors are ignored.
-pub fn tell_cut<'a, E: Sink>(
-    alloc: Global,
-    file: &'a str,
-    errors: &mut E,
-) -> Result<(), Failure<'a>>
+fn tell_cut<'a, E: Sink>(alloc: Global, file: &'a str, errors: &mut E) -> Result<(), Failure<'a>>
     ensures told { OnOk result (GoesOut E.transcript E.failures errors.old errors.new (cut_line file.entry.now)) }
     ensures memory { IsOkUnless result Memory }
     ensures untold { OnErr result (errors.new ≡ errors.old) }
@@ -285,8 +293,9 @@ pub fn keep_old<'a, D: Disk, E: Sink>(
     apart: Option<&str>,
     errors: &mut E,
 ) -> Result<(), Failure<'a>>
-    ensures ok { OnOk result (HasKept file.entry.now (D.log disk.old) (D.log disk.new)) }
+    ensures ok { OnOk result (HasKept E.transcript E.failures file.entry.now (D.log disk.old) (D.log disk.new) errors.old errors.new) }
     ensures err { IfErr result (λ failure. IsNotKept file.entry.now failure (D.log disk.old) (D.log disk.new)) }
+    ensures untold { OnErr result (errors.new ≡ errors.old) }
 {
     let bytes = read_file(disk, file)?;
     match disk.keep(file, apart, bytes.as_slice()) {
@@ -304,6 +313,7 @@ fn tell_kept<'a, E: Sink>(
 ) -> Result<(), Failure<'a>>
     ensures told { OnOk result (GoesOut E.transcript E.failures errors.old errors.new (old_line file.entry.now number)) }
     ensures memory { IsOkUnless result Memory }
+    ensures untold { OnErr result (errors.new ≡ errors.old) }
 {
     let name = kept_name(alloc, file, number)?;
     let text = format!(in alloc; "xw: {file}: refused lines; the old file is kept as {name}\n")?;

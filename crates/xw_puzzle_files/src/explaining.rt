@@ -94,8 +94,9 @@ pub fn report<D: Disk, E: Sink>(
     tell(alloc, failure, explain, disk.error(), errors)
 }
 
-/// Prints the message of a failure, and returns the exit status. If the message cannot be allocated, prints `xw: memory` and returns `Failed`. Write errors are ignored.
-fn tell<E: Sink>(
+/// Prints the message of a failure, and returns the exit status. If the message cannot be allocated, prints `xw: memory`
+/// and returns `Failed`. Write errors are ignored.
+pub fn tell<E: Sink>(
     alloc: Global,
     failure: &Failure<'_>,
     explain: bool,

@@ -13,6 +13,6 @@ returns g c =
       end = c.run_lines-end.result;
       answers = answers_input Answers NeverStops g.D.Disk.log g.I.Source.transcript g.I.Source.is_at_end g.I.Source.failures g.O.Sink.transcript g.O.Sink.failures c.run_lines-end.result c.args.session c.run_lines-end.new.self
           c.args.disk.now c.end_session.new.disk c.args.input.now c.run_lines-end.new.source c.args.output.now c.run_lines-end.new.sink c.run_lines-end.ensures;
-      ends = subst (λ answered. Ends None c.args.named c.args.explain c.args.before c.run_lines-end.new.self answered c.end_session.result (g.D.Disk.log c.args.disk.now) (g.D.Disk.log c.end_session.new.disk))
+      ends = subst (λ answered. Ends g.E.Sink.transcript g.E.Sink.failures None c.args.named c.args.explain c.args.before c.run_lines-end.new.self answered c.end_session.result (g.D.Disk.log c.args.disk.now) (g.D.Disk.log c.end_session.new.disk) c.args.errors.now c.end_session.new.errors)
           c.run_status-answered.ensures c.end_session.ensures;
     }

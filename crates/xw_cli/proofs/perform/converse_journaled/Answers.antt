@@ -18,6 +18,6 @@ returns g c =
       takes = subst (λ lines. Asks (take_lines c.args.file.now lines) (g.D.Disk.log c.args.disk.now) (g.D.Disk.log c.close_journal.new.self)) c.into_parts-session.ensures.transcript c.close_journal.ensures;
       answered = c.journal_status-answered.result;
       answered_is = subst (λ cause. IsJournalEnd c.args.file.now c.args.before.count c.run_lines-end.result cause c.journal_status-answered.result) c.cause-cause.ensures c.journal_status-answered.ensures;
-      ends = subst (λ state. Ends (Some c.args.file.now) c.args.named c.args.explain c.args.before state c.journal_status-answered.result c.end_session.result (g.D.Disk.log c.close_journal.new.self) (g.D.Disk.log c.end_session.new.disk))
+      ends = subst (λ state. Ends g.E.Sink.transcript g.E.Sink.failures (Some c.args.file.now) c.args.named c.args.explain c.args.before state c.journal_status-answered.result c.end_session.result (g.D.Disk.log c.close_journal.new.self) (g.D.Disk.log c.end_session.new.disk) c.args.errors.now c.end_session.new.errors)
           c.into_parts-session.ensures.session c.end_session.ensures;
     }

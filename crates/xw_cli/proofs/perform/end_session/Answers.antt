@@ -1,27 +1,29 @@
 use Rattle.std.proofs.Common.{refl}
 use Rattle.std.proofs.lemmas.Result.{err_from_is_err_and}
-use Rattle.xw_cli.proofs.Steps.{closed, not_saved, saves, still_puts, unanswered}
+use Rattle.xw_cli.proofs.Steps.{closed, not_saved, saves, unanswered}
 use Rattle.xw_cli.proofs.perform.end_session.Goals as goal
 
 pub returns-in_err-status : goal.returns-in_err-status
 returns-in_err-status g c =
     let e = err_from_is_err_and c.from_residual.result c.from_residual.ensures.1 in
     rw (e.1, e.2)
-    (unanswered _ c.args.named c.args.explain c.args.refused c.args.session.now c.args.answered _ c.in_err-status.field-0.0 c.write_saved-saved.result
-    (g.D.Disk.log c.args.disk.now) (g.D.Disk.log c.write_saved-saved.new.disk) c.in_err-status.was refl
-    (saves c.args.named c.args.refused c.args.session.now c.write_saved-saved.result (g.D.Disk.log c.args.disk.now) (g.D.Disk.log c.write_saved-saved.new.disk) c.write_saved-saved.ensures.ok c.write_saved-saved.ensures.err))
+    (unanswered g.E.Sink.transcript g.E.Sink.failures _ c.args.named c.args.explain c.args.refused c.args.session.now c.args.answered _ c.in_err-status.field-0.0 c.write_saved-saved.result
+    (g.D.Disk.log c.args.disk.now) (g.D.Disk.log c.write_saved-saved.new.disk) c.args.errors.now c.write_saved-saved.new.errors c.in_err-status.was refl
+    (saves g.E.Sink.transcript g.E.Sink.failures c.args.named c.args.refused c.args.session.now c.write_saved-saved.result (g.D.Disk.log c.args.disk.now) (g.D.Disk.log c.write_saved-saved.new.disk) c.args.errors.now c.write_saved-saved.new.errors
+    c.write_saved-saved.ensures.ok c.write_saved-saved.ensures.err))
 
 pub returns-in-Ok : goal.returns-in-Ok
 returns-in-Ok g c =
-    closed _ c.args.named c.args.explain c.args.refused c.args.session.now c.args.answered c.close.result c.in_ok-status.status _ c.write_saved-saved.result
-    (g.D.Disk.log c.args.disk.now) (g.D.Disk.log c.write_saved-saved.new.disk) (g.D.Disk.log c.close.new.disk) c.in_ok-status.was c.in-Ok.is
-    (saves c.args.named c.args.refused c.args.session.now c.write_saved-saved.result (g.D.Disk.log c.args.disk.now) (g.D.Disk.log c.write_saved-saved.new.disk) c.write_saved-saved.ensures.ok c.write_saved-saved.ensures.err)
+    closed g.E.Sink.transcript g.E.Sink.failures _ c.args.named c.args.explain c.args.refused c.args.session.now c.args.answered c.close.result c.in_ok-status.status _ c.write_saved-saved.result
+    (g.D.Disk.log c.args.disk.now) (g.D.Disk.log c.write_saved-saved.new.disk) (g.D.Disk.log c.close.new.disk) c.args.errors.now c.write_saved-saved.new.errors c.in_ok-status.was c.in-Ok.is
+    (saves g.E.Sink.transcript g.E.Sink.failures c.args.named c.args.refused c.args.session.now c.write_saved-saved.result (g.D.Disk.log c.args.disk.now) (g.D.Disk.log c.write_saved-saved.new.disk) c.args.errors.now c.write_saved-saved.new.errors
+    c.write_saved-saved.ensures.ok c.write_saved-saved.ensures.err)
     c.close.ensures
 
 pub returns-in-Err : goal.returns-in-Err
 returns-in-Err g c =
-    not_saved _ c.args.named c.args.explain c.args.refused c.args.session.now c.args.answered _ c.in_ok-status.status c.in-Err.failure c.write_saved-saved.result
-    (g.D.Disk.log c.args.disk.now) (g.D.Disk.log c.write_saved-saved.new.disk) (g.D.Disk.log c.write_puzzle_if.new.disk) c.in_ok-status.was c.in-Err.is refl
-    (saves c.args.named c.args.refused c.args.session.now c.write_saved-saved.result (g.D.Disk.log c.args.disk.now) (g.D.Disk.log c.write_saved-saved.new.disk) c.write_saved-saved.ensures.ok c.write_saved-saved.ensures.err)
-    (still_puts c.args.named c.args.explain c.args.session.now c.in_ok-status.status c.write_puzzle_if.result (g.D.Disk.log c.write_saved-saved.new.disk) (g.D.Disk.log c.write_puzzle_if.new.disk)
-    c.write_puzzle_if.ensures.ok c.write_puzzle_if.ensures.err)
+    not_saved g.E.Sink.transcript g.E.Sink.failures _ c.args.named c.args.explain c.args.refused c.args.session.now c.args.answered c.in_ok-status.status c.put_unsaved.result c.in-Err.failure c.write_saved-saved.result
+    (g.D.Disk.log c.args.disk.now) (g.D.Disk.log c.write_saved-saved.new.disk) (g.D.Disk.log c.put_unsaved.new.disk) c.args.errors.now c.write_saved-saved.new.errors c.put_unsaved.new.errors c.in_ok-status.was c.in-Err.is
+    (saves g.E.Sink.transcript g.E.Sink.failures c.args.named c.args.refused c.args.session.now c.write_saved-saved.result (g.D.Disk.log c.args.disk.now) (g.D.Disk.log c.write_saved-saved.new.disk) c.args.errors.now c.write_saved-saved.new.errors
+    c.write_saved-saved.ensures.ok c.write_saved-saved.ensures.err)
+    c.put_unsaved.ensures
