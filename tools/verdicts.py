@@ -14,7 +14,8 @@ ERROR = re.compile(r"^(?:\./)?(\S+\.antt):\d+:\d+: error: (?:`([^`]+)`: )?(.*)",
 # what an error says if a goal, or a part of it, is not what its answer proves. Others say that a name is not there, or that an answer has the
 # wrong parts for the code
 UNPROVED = re.compile(
-    r"expected type|the two types|is checked against|^give the call less to do|^`(?:search|grind|omega|cc|simp|rw|grw|hlevel|assumption|first_of)`"
+    r"expected type|the two types|is checked against|^give the call less to do|^give a proof of that as the last argument"
+    r"|^`(?:search|grind|omega|cc|simp|rw|grw|hlevel|assumption|first_of)`"
 )
 # a search as the prover makes it for a goal without an answer, but a shorter one: half a second in place of two
 SEARCH = "search again-rules fits 200 steps 1000000"
