@@ -21,3 +21,4 @@ pub mod GreatestLemmas
 pub mod Elements
 pub mod PlacedLemmas
 pub mod WellFormedLemmas
+pub mod JudgeLemmas

@@ -1,6 +1,6 @@
 -- Lemmas about writing lists of cells.
 use Rattle.std.proofs.Common.{◌≡◌, ℕ, zero, suc, ◌+◌, ◌<◌, Bool, true, false, cond, not, List, [], ◌∷◌, ◌++◌, drop, length, get_or, set, Some, None, refl, sym, ◌∙◌, ap, arith}
-use Rattle.std.specs.Prelude.{Option, Result, Ok, Err, slice_get}
+use Rattle.std.specs.Prelude.{Option, Result, Ok, Err, IsOk, All, slice_get}
 use Rattle.std.proofs.lemmas.List.{drop_more}
 use Rattle.xw_grid.specs.declared.cell.Cell.{Cell}
 use Rattle.xw_grid.specs.declared.cell.Square.{Square}
@@ -10,7 +10,7 @@ use Rattle.xw_grid.specs.declared.fault.GridFault.TheVariants.{OutOfGrid, OnBloc
 use Rattle.xw_grid.specs.Grid.{Grid, IsGrid, is_inside, is_open, is_block, is_block_square, index_of}
 use Rattle.xw_grid.specs.Edit.{set_entry, with_entry}
 use Rattle.xw_feas.specs.Shape.{fault_at}
-use Rattle.xw_feas.specs.State.{then_write, write_list}
+use Rattle.xw_feas.specs.State.{State, after, then_write, write_list, with_grid, by_fault, list_written}
 use Rattle.xw_grid.proofs.ChangeLemmas.{open_from_no_block}
 
 -- ---- one cell
@@ -97,3 +97,16 @@ write_list-push (first ∷ list) grid written = by_first (set_entry grid first.0
       → then_write (write_list (list ++ written ∷ [])) result ≡ then_write (λ g. set_entry g written.0 written.1) (then_write (write_list list) result)
   by_first (Ok now) later = later now
   by_first (Err fault) later = refl
+
+-- a list whose cells can be written is written
+pub list_taken : (state : State) (list : List (Cell × Option ℕ)) → All (λ (written : Cell × Option ℕ). fault_at state.grid written.0 ≡ None) list → IsOk (after state (list_written list))
+list_taken state list all = by_result (write_list list state.grid) (taken list state.grid (λ k written below. all k written below)) where
+  taken : (list : List (Cell × Option ℕ)) (grid : Grid) → ((k : ℕ) (d : Cell × Option ℕ) → k < length list → fault_at grid (get_or list k d).0 ≡ None) → IsOk (write_list list grid)
+  taken [] grid all = refl
+  taken (written ∷ list) grid all =
+      let none : fault_at grid written.0 ≡ None = all 0 written (omega arith) in
+      rw (entry_taken grid written.0 written.1 none) (taken list (with_entry grid written.0 written.1) (λ k d below. fault_kept grid written.0 written.1 none (get_or list k d).0 ∙ all (suc k) d (omega (arith, below))))
+
+  by_result : (result : Result Grid GridFault) → IsOk result → IsOk (with_grid state (by_fault result))
+  by_result (Ok grid) ok = refl
+  by_result (Err fault) ok = cc

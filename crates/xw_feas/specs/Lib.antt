@@ -23,3 +23,5 @@ pub mod Passes
 pub mod Snapshot
 pub mod PlacedWord
 pub mod Greatest
+pub mod Pending
+pub mod Position

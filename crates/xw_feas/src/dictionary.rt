@@ -21,7 +21,7 @@ pub fn known_distinct(bank: &Bank)
 
 /// Strikes a word, and returns its index among the known words of its length. Returns the refusals of
 /// `Bank::strike`.
-pub fn strike_in(bank: &mut Bank, word: &[u8]) -> Result<usize, WordFault>
+pub(crate) fn strike_in(bank: &mut Bank, word: &[u8]) -> Result<usize, WordFault>
     ensures index { IfOk result (λ index. strike_answer bank.old.words word.now ≡ Ok index) }
     ensures ok { OnOk result (strike_word bank.old.words word.now ≡ Ok bank.new.words) }
     ensures refused { IfErr result (λ fault. strike_word bank.old.words word.now ≡ Err fault) }
@@ -32,7 +32,7 @@ pub fn strike_in(bank: &mut Bank, word: &[u8]) -> Result<usize, WordFault>
 }
 
 /// Makes a word active again. The word must be known and not active. Its grade is as `Bank::add` says.
-pub fn return_in(bank: &mut Bank, word: &[u8], grade: Option<u8>) -> Result<(), WordFault>
+pub(crate) fn return_in(bank: &mut Bank, word: &[u8], grade: Option<u8>) -> Result<(), WordFault>
     requires { IsReturned (add_answer bank.old.words word.now) }
     ensures ok { OnOk result (add_word bank.old.words word.now grade ≡ Ok bank.new.words) }
     ensures refused { IfErr result (λ fault. IsAddRefused bank.old.words word.now grade fault) }
@@ -43,32 +43,23 @@ pub fn return_in(bank: &mut Bank, word: &[u8], grade: Option<u8>) -> Result<(), 
     Ok(())
 }
 
-/// Reserves room for a word that is not known. Returns `Memory` if an allocation fails.
-pub fn reserve_in(bank: &mut Bank, word: &[u8]) -> Result<(), WordFault>
-    requires { IsNew (add_answer bank.old.words word.now) }
-    ensures words { bank.new.words ≡ bank.old.words }
-    ensures room { OnOk result (has_room bank.new (length word.now) ≡ true) }
-    ensures memory { IsOkUnless result WordFault.Memory }
-{
-    let _ = bank.known(word.len());
-    bank.reserve(word.len())
-}
-
 /// Adds a word that is not known, in reserved room. Its grade is as `Bank::add` says.
-pub fn add_in(bank: &mut Bank, word: &[u8], grade: Option<u8>)
+pub(crate) fn add_in(bank: &mut Bank, word: &[u8], grade: Option<u8>)
     requires new { IsNew (add_answer bank.old.words word.now) }
     requires room { has_room bank.old (length word.now) ≡ true }
     ensures words { add_word bank.old.words word.now grade ≡ Ok bank.new.words }
     ensures counts { GrowsAt bank.old.words bank.new.words (length word.now) }
+    ensures distinct { IsDictionary bank.new.words }
 {
     let _ = bank.known(word.len());
     let mut letters = [Letter::first(); LONGEST];
     spell(&mut letters, word);
     let _ = bank.add_reserved(&letters[..word.len()], grade);
+    known_distinct(bank);
 }
 
 /// Leaves out the words below a grade, as `Bank::set_least` does.
-pub fn limit_in(bank: &mut Bank, grade: u8)
+pub(crate) fn limit_in(bank: &mut Bank, grade: u8)
     ensures words { bank.new.words ≡ with_least grade bank.old.words }
     ensures counts { SameCounts bank.old.words bank.new.words }
 {

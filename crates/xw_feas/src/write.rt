@@ -12,7 +12,7 @@ use xw_grid::grid::Grid;
 use xw_letters::letter::Letter;
 
 /// Whether a letter can be written into the cell, or why not.
-fn judge(grid: &Grid, cell: Cell) -> Result<(), GridFault>
+pub(crate) fn judge_cell(grid: &Grid, cell: Cell) -> Result<(), GridFault>
     ensures ok { OnOk result (fault_at grid.now cell ≡ None) }
     ensures refused { IfErr result (λ fault. fault_at grid.now cell ≡ Some fault) }
 {
@@ -26,12 +26,12 @@ fn judge(grid: &Grid, cell: Cell) -> Result<(), GridFault>
 }
 
 /// Returns the fault of the first cell of the list that cannot be written.
-fn judge_list(grid: &Grid, list: &[(Cell, Option<Letter>)]) -> Result<(), GridFault>
+pub(crate) fn judge_list(grid: &Grid, list: &[(Cell, Option<Letter>)]) -> Result<(), GridFault>
     ensures ok { OnOk result (All (λ (written : CellOfGrid × Option ℕ). fault_at grid.now written.0 ≡ None) list.now) }
     ensures refused { IfErr result (λ fault. write_list list.now grid.now ≡ Err fault) }
 {
     for index in 0..list.len() {
-        judge(grid, list[index].0)?;
+        judge_cell(grid, list[index].0)?;
     }
     Ok(())
 }
@@ -61,7 +61,7 @@ fn enter_list(grid: &mut Grid, list: &[(Cell, Option<Letter>)])
 
 /// Writes each cell of a list, in order. If a cell is outside the grid or a block, nothing changes, and
 /// the fault of the first such cell is returned.
-pub fn write(grid: &mut Grid, list: &[(Cell, Option<Letter>)]) -> Result<(), GridFault>
+pub(crate) fn write(grid: &mut Grid, list: &[(Cell, Option<Letter>)]) -> Result<(), GridFault>
     ensures ok { OnOk result (write_list list.now grid.old ≡ Ok grid.new) }
     ensures refused { IfErr result (λ fault. write_list list.now grid.old ≡ Err fault) }
     ensures same { OnErr result (grid.new ≡ grid.old) }

@@ -6,3 +6,4 @@ pub mod Next
 pub mod Noting
 mod Saving
 pub mod Trying
+pub mod InPlace

@@ -1,5 +1,8 @@
 -- The invariant of the engine between edits.
-use Rattle.std.specs.Prelude.{◌≡◌, false, is_some}
+use Rattle.std.specs.Prelude.{◌≡◌, false, List, is_some, length}
+use Rattle.xw_words.specs.Dictionary.{Dictionary}
+use Rattle.xw_grid.specs.declared.lights.Light.{Light}
+use Rattle.xw_grid.specs.Grid.{Grid}
 use Rattle.xw_grid.specs.Light.{lights_of}
 use Rattle.xw_feas.specs.AnswersOf.{answers_of}
 use Rattle.xw_feas.specs.Board.{board_of}
@@ -7,8 +10,12 @@ use Rattle.xw_feas.specs.Feasible.{Answers, AreAnswers}
 use Rattle.xw_feas.specs.Single.{AreAnswers-prop, IsWellFormed-prop}
 use Rattle.xw_feas.specs.State.{State}
 use Rattle.xw_feas.specs.WellFormed.{IsWellFormed}
+use Rattle.xw_net.specs.declared.change.Change.{Change}
 use Rattle.xw_net.specs.declared.net.Net.{Net}
-use Rattle.xw_net.specs.Net.{flags_of, sets_of, IsSettledFor}
+use Rattle.xw_net.specs.Change.{before_of, cells_of}
+use Rattle.xw_net.specs.Fit.{HasRoomBetween}
+use Rattle.xw_net.specs.Net.{flags_of, sets_of, known_counts, IsSettledFor, StoodFor}
+use Rattle.xw_net.specs.Update.{AreInside}
 use mathlib.Core.Logic.{∥∥₁_prop}
 use mathlib.Core.Bool.{Bool-set}
 
@@ -32,3 +39,10 @@ IsKept-prop state net x y = λ i. record {
   answers = AreAnswers-prop (board_of state.grid) state.words (net_answers state net) x.answers y.answers i;
   formed = IsWellFormed-prop state x.formed y.formed i;
 }
+
+-- the conditions of `Net::settle` that do not concern the words
+pub record CanFollow (grid : Grid) (lights : List Light) (words : Dictionary) (change : Change) (net : Net) : Type 0 where
+  pub inside : AreInside grid (cells_of change)
+  pub cells : length (sets_of net) ≡ length grid.squares
+  pub stood : StoodFor (before_of lights change) (known_counts words) net
+  pub room : HasRoomBetween (before_of lights change) lights (known_counts words) net net.spare

@@ -14,7 +14,7 @@ use Rattle.xw_net.specs.Cost.{RoseWithinCost}
 
 -- the grid and the dictionary of an engine
 abbrev pub state_of : Live → State
-state_of live = record { grid = live.grid; words = live.bank.words }
+state_of live = record { grid = live.position.grid; words = live.position.bank.words }
 
 -- the feasible words and letters that an engine holds
 abbrev pub answers_now : Live → Answers
@@ -30,9 +30,9 @@ pub record IsDone (before now : Live) (action : Action) : Type 0 where
 
 -- nothing has changed, and no tick was spent
 pub record IsAsBefore (before now : Live) : Type 0 where
-  pub grid : now.grid ≡ before.grid
-  pub words : now.bank.words ≡ before.bank.words
-  pub flags : flags_of (lights_of before.grid) now.net ≡ flags_of (lights_of before.grid) before.net
+  pub grid : now.position.grid ≡ before.position.grid
+  pub words : now.position.bank.words ≡ before.position.bank.words
+  pub flags : flags_of (lights_of before.position.grid) now.net ≡ flags_of (lights_of before.position.grid) before.net
   pub letters : sets_of now.net ≡ sets_of before.net
   pub spent : now.spent ≡ before.spent
 

@@ -6,7 +6,6 @@ mod noted;
 mod placing;
 pub mod searching;
 mod settling;
-mod shape_edit;
 mod turned;
 mod written;
 

@@ -6,7 +6,6 @@ ghost use Rattle.xw_feas.specs.State.{known_count, known_placed};
 use crate::live::Live;
 use crate::settling::{keep_letters, settle};
 use crate::written::Written;
-use xw_feas::place::place_known;
 use xw_net::change::Change;
 
 impl Live {
@@ -15,22 +14,14 @@ impl Live {
     /// Places a known word in a light, both by index, and updates the answers. The ticks it takes are within the
     /// edit's cost.
     pub fn place_known(&mut self, light: usize, index: usize)
-        requires light { light < length (lights_of self.old.grid) }
+        requires light { light < length (lights_of (state_of self.old).grid) }
         requires index { index < known_count (state_of self.old) light }
         ensures { IsDone self.old self.new (known_placed (state_of self.old) light index) }
     {
-        let written = Written::of_index(&self.grid, &self.lights, light);
-        place_known(&mut self.grid, &self.lights, &self.bank, light, index);
-        self.grid.well_formed();
+        let written = Written::of_index(&self.position, light);
+        self.position.place_known(light, index);
         keep_letters(&mut self.before, &self.net);
         let change = Change::Letters(written.as_slice());
-        self.spent = settle(
-            &mut self.net,
-            self.spent,
-            &change,
-            &self.grid,
-            &self.lights,
-            &self.bank,
-        );
+        self.spent = settle(&mut self.net, self.spent, &change, &self.position);
     }
 }

@@ -7,7 +7,6 @@ use crate::written::Written;
 use std::alloc::AllocError;
 use std::snapshot::Snapshot;
 use xw_feas::edit::{EntryEdit, Refusal};
-use xw_feas::grid_edit::edit_entries;
 use xw_feas::searchable::Searchable;
 use xw_grid::grid::Grid;
 use xw_letters::letter::Letter;
@@ -51,9 +50,8 @@ impl Live {
         ensures risen { self.old.spent ≤ self.new.spent }
         ensures refused { OnErr result (self.new.spent ≡ self.old.spent) }
     {
-        let written = Written::of_entries(&self.grid, &self.lights, edit);
-        edit_entries(&mut self.grid, &self.lights, edit)?;
-        self.grid.well_formed();
+        let written = Written::of_entries(&self.position, edit);
+        self.position.enter(edit)?;
         keep_letters(&mut self.before, &self.net);
         let change = Change::Letters(written.as_slice());
         let in_turn = is_letter(edit);
@@ -61,9 +59,7 @@ impl Live {
             &mut self.net,
             self.spent,
             &change,
-            &self.grid,
-            &self.lights,
-            &self.bank,
+            &self.position,
             watched,
             in_turn,
         );
@@ -71,8 +67,15 @@ impl Live {
         let Some(light) = dead else {
             return Ok(None);
         };
-        self.net.copy_from(&mark.net, &self.grid, &mark.grid, &self.lights, &self.bank);
-        self.grid.copy_from(&mark.grid);
+        let position = &self.position;
+        self.net.copy_from(
+            &mark.net,
+            &position.grid,
+            &mark.grid,
+            &position.lights,
+            &position.bank,
+        );
+        self.position.copy_grid(&mark.grid);
         Ok(Some(light))
     }
 }
@@ -90,29 +93,29 @@ impl Searchable for Live {
     ghost saved = { λ snapshot. record { grid = snapshot.grid; words = snapshot.bank.value.words } };
 
     fn snapshot(&self) -> Result<Saved, AllocError> {
-        let grid = match self.grid.copy() {
+        let position = &self.position;
+        let grid = match position.grid.copy() {
             Ok(grid) => grid,
             Err(_) => return Err(AllocError),
         };
-        let net = self
-            .net
-            .copy(self.alloc, &self.grid, &self.lights, &self.bank)?;
+        let net = self.net.copy(self.alloc, &position.grid, &position.lights, &position.bank)?;
         Ok(Saved {
             grid,
             net,
-            bank: Snapshot::of(&self.bank),
+            bank: Snapshot::of(&position.bank),
         })
     }
 
     fn save(&self, snapshot: &mut Saved) {
+        let position = &self.position;
         snapshot.net.copy_from(
             &self.net,
             &snapshot.grid,
-            &self.grid,
-            &self.lights,
-            &self.bank,
+            &position.grid,
+            &position.lights,
+            &position.bank,
         );
-        snapshot.grid.copy_from(&self.grid);
+        snapshot.grid.copy_from(&position.grid);
     }
 
     fn exchange(&mut self, snapshot: &mut Saved)
@@ -121,7 +124,7 @@ impl Searchable for Live {
         ensures saved { saved_state snapshot.new ≡ state_of self.old }
         ensures spent { self.new.spent ≡ self.old.spent }
     {
-        std::mem::swap(&mut self.grid, &mut snapshot.grid);
+        self.position.exchange(&mut snapshot.grid);
         std::mem::swap(&mut self.net, &mut snapshot.net);
     }
 
@@ -140,25 +143,15 @@ impl Searchable for Live {
     }
 
     fn tally(&self, light: usize, position: usize, letter: Letter) -> usize {
-        self.net.tally(
-            &self.grid,
-            &self.lights,
-            &self.bank,
-            light,
-            position,
-            letter,
-        )
+        let at = &self.position;
+        self.net
+            .tally(&at.grid, &at.lights, &at.bank, light, position, letter)
     }
 
     fn promise(&self, light: usize, position: usize, letter: Letter) -> u64 {
-        self.net.promise(
-            &self.grid,
-            &self.lights,
-            &self.bank,
-            light,
-            position,
-            letter,
-        )
+        let at = &self.position;
+        self.net
+            .promise(&at.grid, &at.lights, &at.bank, light, position, letter)
     }
 
     fn emptied(&self) -> Option<usize> {

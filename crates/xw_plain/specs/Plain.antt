@@ -1,9 +1,26 @@
--- What a refused edit of words keeps.
-use Rattle.std.specs.Prelude.{◌≡◌}
+-- What an edit does to the engine.
+use Rattle.std.specs.Prelude.{◌≡◌, Result, Ok, Err}
+use Rattle.xw_feas.specs.State.{State, Action, after, IsRefused}
+use Rattle.xw_feas.specs.declared.edit.Refusal.{Refusal}
 use Rattle.xw_plain.specs.declared.plain.Plain.{Plain}
 
--- the dictionary and the answers are unchanged
-pub record SameAnswers (old new : Plain) : Type 0 where
-  pub dictionary : new.bank.words ≡ old.bank.words
-  pub words : new.words ≡ old.words
-  pub letters : new.letters ≡ old.letters
+-- the grid and the dictionary of an engine
+abbrev pub state_of : Plain → State
+state_of plain = record { grid = plain.position.grid; words = plain.position.bank.words }
+
+-- the edit was applied, and `before` has the letters from before it
+pub record IsDone (before now : Plain) (action : Action) : Type 0 where
+  pub made : after (state_of before) action ≡ Ok (state_of now)
+  pub letters : now.before.items ≡ before.letters.items
+
+-- the edit was refused, and changed nothing
+pub record IsKept (before now : Plain) (action : Action) (refusal : Refusal) : Type 0 where
+  pub rule : IsRefused (state_of before) action refusal
+  pub state : state_of now ≡ state_of before
+  pub words : now.words ≡ before.words
+  pub letters : now.letters ≡ before.letters
+
+-- the edit was applied, or refused for a reason
+abbrev pub IsApplied : Plain → Plain → Action → Result (Unit {0}) Refusal → Type 0
+IsApplied before now action (Ok done) = IsDone before now action
+IsApplied before now action (Err refusal) = IsKept before now action refusal

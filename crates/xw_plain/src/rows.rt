@@ -7,6 +7,7 @@ ghost use Rattle.xw_feas.specs.Rows.{HasWordRows, row_len};
 use crate::flags::Flags;
 use std::alloc::{AllocError, Global};
 use xw_feas::board::Board;
+use xw_feas::position::Position;
 use xw_grid::fault::GridFault;
 use xw_grid::grid::Grid;
 use xw_grid::lights::Lights;
@@ -61,16 +62,16 @@ pub fn make_grid_rows(
     Ok(make_rows(alloc, &Board::new(grid, lights), bank, None)?)
 }
 
-/// A row for each light of a board, with room for one more word of length `count`. Returns `Memory`
+/// A row for each light of a position, with room for one more word of length `count`. Returns `Memory`
 /// if an allocation fails.
 pub fn make_grown_rows(
     alloc: Global,
-    board: &Board<'_>,
-    bank: &Bank,
+    position: &Position,
     count: usize,
 ) -> Result<Vec<Flags>, WordFault>
-    ensures ok { IfOk result (λ rows. HasWordRows board.now bank.now.words (Some count) rows.items) }
+    ensures ok { IfOk result (λ rows. HasWordRows (board_of position.now.grid) position.now.bank.words (Some count) rows.items) }
     ensures memory { IsOkUnless result WordFault.Memory }
 {
-    Ok(make_rows(alloc, board, bank, Some(count))?)
+    let board = Board::new(&position.grid, &position.lights);
+    Ok(make_rows(alloc, &board, &position.bank, Some(count))?)
 }

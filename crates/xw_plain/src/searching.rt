@@ -25,15 +25,15 @@ impl Plain {
     /// The letter at a position of a word of a light, by its index; the word that the letters of
     /// the light spell comes after all known words.
     fn letter_of(&self, light: usize, choice: usize, position: usize) -> Letter
-        requires light { light < length (lights_of self.now.grid) }
-        requires choice { choice < length (choices (board_of self.now.grid) self.now.bank.words (light_at (board_of self.now.grid) light)) }
-        requires position { position < length (light_at (board_of self.now.grid) light) }
-        ensures { result ≡ slice_index (choice_at (board_of self.now.grid) self.now.bank.words light choice) position }
+        requires light { light < length (lights_of self.now.position.grid) }
+        requires choice { choice < length (choices (board_of self.now.position.grid) self.now.position.bank.words (light_at (board_of self.now.position.grid) light)) }
+        requires position { position < length (light_at (board_of self.now.position.grid) light) }
+        ensures { result ≡ slice_index (choice_at (board_of self.now.position.grid) self.now.position.bank.words light choice) position }
     {
-        let board = Board::new(&self.grid, &self.lights);
+        let board = Board::new(&self.position.grid, &self.position.lights);
         let cells = board.light(light);
-        if choice < self.bank.known(cells.len()) {
-            self.bank.word(cells.len(), choice)[position]
+        if choice < self.position.bank.known(cells.len()) {
+            self.position.bank.word(cells.len(), choice)[position]
         } else {
             board.letter(cells.at(position))
         }
@@ -41,11 +41,11 @@ impl Plain {
 
     /// 1 if a word of a light, by its index, is feasible and has the letter at a position; otherwise 0.
     fn count_choice(&self, light: usize, choice: usize, position: usize, letter: Letter) -> usize
-        requires light { light < length (lights_of self.now.grid) }
-        requires choice { choice < length (choices (board_of self.now.grid) self.now.bank.words (light_at (board_of self.now.grid) light)) }
-        requires position { position < length (light_at (board_of self.now.grid) light) }
+        requires light { light < length (lights_of self.now.position.grid) }
+        requires choice { choice < length (choices (board_of self.now.position.grid) self.now.position.bank.words (light_at (board_of self.now.position.grid) light)) }
+        requires position { position < length (light_at (board_of self.now.position.grid) light) }
         ensures small { result ≤ 1 }
-        ensures count { result ≡ (if stands_with (board_of self.now.grid) self.now.bank.words self.now.words.items light choice position letter then 1 else 0) }
+        ensures count { result ≡ (if stands_with (board_of self.now.position.grid) self.now.position.bank.words self.now.words.items light choice position letter then 1 else 0) }
     {
         let row = &self.words[light];
         if row.at(choice) && self.letter_of(light, choice, position).byte() == letter.byte() {
@@ -63,16 +63,16 @@ impl Searchable for Plain {
 
     fn snapshot(&self) -> Result<Saved, AllocError> {
         Ok(Saved {
-            grid: match self.grid.copy() {
+            grid: match self.position.grid.copy() {
                 Ok(grid) => grid,
                 Err(_) => return Err(AllocError),
             },
-            bank: Snapshot::of(&self.bank),
+            bank: Snapshot::of(&self.position.bank),
         })
     }
 
     fn save(&self, snapshot: &mut Saved) {
-        snapshot.grid.copy_from(&self.grid);
+        snapshot.grid.copy_from(&self.position.grid);
     }
 
     fn exchange(&mut self, snapshot: &mut Saved) {

@@ -16,14 +16,14 @@ unfolding sets_of
 settle-requires-clause-cells c = omega (arith, c.requires.cells)
 
 pub settle-requires-clause-stood : goal.settle-requires-clause-stood
-settle-requires-clause-stood c = subst (λ (words : Dictionary). StoodFor (before_of c.args.lights.now c.args.change.now) (known_counts words) c.args.net.now) (sym c.new-rows.ensures.words) c.requires.stood
+settle-requires-clause-stood c = subst (λ (words : Dictionary). StoodFor (before_of c.args.position.now.lights c.args.change.now) (known_counts words) c.args.net.now) (sym c.new-rows.ensures.words) c.requires.stood
 
 pub settle-requires-clause-room : goal.settle-requires-clause-room
-settle-requires-clause-room c = subst (λ (words : Dictionary). HasRoomBetween (before_of c.args.lights.now c.args.change.now) c.args.lights.now (known_counts words) c.args.net.now c.args.net.now.spare) (sym c.new-rows.ensures.words) c.requires.room
+settle-requires-clause-room c = subst (λ (words : Dictionary). HasRoomBetween (before_of c.args.position.now.lights c.args.change.now) c.args.position.now.lights (known_counts words) c.args.net.now c.args.net.now.spare) (sym c.new-rows.ensures.words) c.requires.room
 
 pub returns-clause-kept : goal.returns-clause-kept
 returns-clause-kept c before action change known =
-    let now : State = record { grid = c.args.grid.now; words = c.args.bank.now.words } in
+    let now : State = record { grid = c.args.position.now.grid; words = c.args.position.now.bank.words } in
     let net = c.settle.new.self in
     kept_from now net
     (∥∥₁_elim known ∥∥₁_prop (λ settled. ∣ c.settle.ensures.settled before now.words action (λ len. ap (λ (words : Dictionary). row words len) c.new-rows.ensures.words) change settled ∣₁))
@@ -32,7 +32,7 @@ returns-clause-kept c before action change known =
 
 pub returns-clause-cost : goal.returns-clause-cost
 returns-clause-cost c before action change known member region =
-    let now : State = record { grid = c.args.grid.now; words = c.args.bank.now.words } in
+    let now : State = record { grid = c.args.position.now.grid; words = c.args.position.now.bank.words } in
     ∥∥₁_elim known le_prop (λ settled.
     let rise = c.settle.ensures.cost before now.words action member (λ len. ap (λ (words : Dictionary). row words len) c.new-rows.ensures.words) change settled region in
     omega (arith, rise, c.spent.ensures, c.new-rows.ensures.spent))

@@ -16,10 +16,10 @@ unfolding sets_of
 try_settle-dead-requires-clause-cells c = omega (arith, c.requires.cells)
 
 pub try_settle-dead-requires-clause-stood : goal.try_settle-dead-requires-clause-stood
-try_settle-dead-requires-clause-stood c = subst (λ (words : Dictionary). StoodFor (before_of c.args.lights.now c.args.change.now) (known_counts words) c.args.net.now) (sym c.new-reads.ensures.words) c.requires.stood
+try_settle-dead-requires-clause-stood c = subst (λ (words : Dictionary). StoodFor (before_of c.args.position.now.lights c.args.change.now) (known_counts words) c.args.net.now) (sym c.new-reads.ensures.words) c.requires.stood
 
 pub try_settle-dead-requires-clause-room : goal.try_settle-dead-requires-clause-room
-try_settle-dead-requires-clause-room c = subst (λ (words : Dictionary). HasRoomBetween (before_of c.args.lights.now c.args.change.now) c.args.lights.now (known_counts words) c.args.net.now c.args.net.now.spare) (sym c.new-reads.ensures.words) c.requires.room
+try_settle-dead-requires-clause-room c = subst (λ (words : Dictionary). HasRoomBetween (before_of c.args.position.now.lights c.args.change.now) c.args.position.now.lights (known_counts words) c.args.net.now c.args.net.now.spare) (sym c.new-reads.ensures.words) c.requires.room
 
 -- what holds if the net was not stopped
 none_then : {A B : Type 0} (result : Option ℕ) → IfNone result A → (A → B) → IfNone result B
@@ -29,7 +29,7 @@ none_then (Some light) is then = is
 pub returns-clause-kept : goal.returns-clause-kept
 returns-clause-kept c =
     none_then c.try_settle-dead.result c.try_settle-dead.ensures.settled (λ settles before action change known.
-    let now : State = record { grid = c.args.grid.now; words = c.args.bank.now.words } in
+    let now : State = record { grid = c.args.position.now.grid; words = c.args.position.now.bank.words } in
     let net = c.try_settle-dead.new.self in
     kept_from now net
     (∥∥₁_elim known ∥∥₁_prop (λ settled. ∣ settles before now.words action (λ len. ap (λ (words : Dictionary). row words len) c.new-reads.ensures.words) change settled ∣₁))
@@ -39,4 +39,4 @@ returns-clause-kept c =
 pub returns-clause-stopped : goal.returns-clause-stopped
 returns-clause-stopped c =
     IfSome_then c.try_settle-dead.result c.try_settle-dead.ensures.stopped (λ light stops before action change known.
-    ∥∥₁_elim known ∥∥₁_prop (λ settled. ∣ stops before c.args.bank.now.words action (λ len. ap (λ (words : Dictionary). row words len) c.new-reads.ensures.words) change settled ∣₁))
+    ∥∥₁_elim known ∥∥₁_prop (λ settled. ∣ stops before c.args.position.now.bank.words action (λ len. ap (λ (words : Dictionary). row words len) c.new-reads.ensures.words) change settled ∣₁))

@@ -1,82 +1,54 @@
-use Rattle.std.proofs.Common.{◌≡◌, length, refl, sym, ◌∙◌, ap}
-use Rattle.std.specs.Prelude.{Ok}
-use Rattle.xw_words.specs.Dictionary.{row, entry_at}
-use Rattle.xw_feas.specs.State.{State, light_of, known_placed, after}
-use Rattle.xw_feas.specs.WellFormed.{IsWellFormed}
+use Rattle.std.proofs.Common.{◌≡◌, length, refl, ◌∙◌, ap}
+use Rattle.xw_words.specs.Dictionary.{Dictionary, row, entry_at}
+use Rattle.xw_feas.specs.Position.{state_of as position_state}
+use Rattle.xw_feas.specs.State.{light_of, known_placed}
+use Rattle.xw_net.specs.Change.{IsChange}
 use Rattle.xw_live.specs.Engine.{IsKept}
-use Rattle.xw_net.specs.Net.{known_counts}
 use Rattle.xw_live.specs.Live.{state_of}
-use Rattle.xw_net.proofs.Edits.ChangeFacts.{change_made}
-use Rattle.xw_live.proofs.Made.{known_of_grid, grid_made, light_written}
-use Rattle.xw_feas.proofs.WellFormedLemmas.{state_formed}
-use Rattle.xw_live.proofs.Keeping.{kept_cells, stood_same, room_without, room_of_lights}
-use Rattle.xw_net.proofs.Edits.ListedCells.{edit_in_grid}
+use Rattle.xw_live.proofs.InPlace.{can_follow, told, same_cells_kept, same_room_kept}
+use Rattle.xw_live.proofs.Made.{known_of_grid, light_written}
 use Rattle.xw_live.proofs.live.Live.place_known.Goals as goal
 
-pub settle-self-requires-clause-cells : goal.settle-self-requires-clause-cells
-settle-self-requires-clause-cells c =
+pub settle-self-requires : goal.settle-self-requires
+settle-self-requires c =
     let old = c.args.self.now in
-    kept_cells (state_of old) old.net old.kept ∙ sym c.place_known.ensures.shape.cells
-
-pub settle-self-requires-clause-inside : goal.settle-self-requires-clause-inside
-settle-self-requires-clause-inside c =
-    let old = c.args.self.now in
+    let now = c.place_known.new.self in
     let before = state_of old in
     let action = known_placed before c.args.light c.args.index in
-    let word = (entry_at (row old.bank.words (light_of before c.args.light).size) c.args.index).word in
-    let grid = c.place_known.new.grid in
-    let now : State = record { grid = grid; words = old.bank.words } in
-    let is = known_of_grid before c.args.light c.args.index in
-    let made : after before action ≡ Ok now = grid_made before action grid is c.place_known.ensures.placed in
-    edit_in_grid before now action _ old.kept.formed.grid made (c.as_slice.ensures ∙ c.of_index-written.ensures ∙ light_written before.grid c.args.light word c.requires.light)
-
-pub settle-self-requires-clause-stood : goal.settle-self-requires-clause-stood
-settle-self-requires-clause-stood c =
-    let old = c.args.self.now in
-    stood_same (state_of old) old.net old.lights old.light_list old.kept.settled old.bank.words (λ len. refl)
-
-pub settle-self-requires-clause-room : goal.settle-self-requires-clause-room
-settle-self-requires-clause-room c =
-    let old = c.args.self.now in
-    room_without old.lights old.lights (known_counts old.bank.words) old.net old.net.spare old.kept.none_waits refl (room_of_lights (state_of old) old.net old.lights old.light_list old.kept.settled)
+    let word = (entry_at (row old.position.bank.words (light_of before c.args.light).size) c.args.index).word in
+    let written = c.as_slice.ensures ∙ c.of_index-written.ensures ∙ light_written before.grid c.args.light word c.requires.light in
+    can_follow old now action c.place_known.ensures.made c.place_known.ensures.shape (λ len. ap (λ (words : Dictionary). length (row words len)) c.place_known.ensures.words) _ written refl
 
 pub invariant_of-self : goal.invariant_of-self
 invariant_of-self c =
     let old = c.args.self.now in
+    let now = c.place_known.new.self in
     let before = state_of old in
     let action = known_placed before c.args.light c.args.index in
-    let word = (entry_at (row old.bank.words (light_of before c.args.light).size) c.args.index).word in
-    let grid = c.place_known.new.grid in
-    let now : State = record { grid = grid; words = old.bank.words } in
     let is = known_of_grid before c.args.light c.args.index in
-    let made : after before action ≡ Ok now = grid_made before action grid is c.place_known.ensures.placed in
-    let formed : IsWellFormed now = state_formed grid old.bank.words c.well_formed-2.ensures old.kept.formed.dictionary in
-    let kept : IsKept now c.settle-self.new.net = c.settle-self.ensures.kept before action (change_made before now action _ made is.none_turned is.none_back old.kept.formed formed (c.as_slice.ensures ∙ c.of_index-written.ensures ∙ light_written before.grid c.args.light word c.requires.light) old.light_list is.no_word) old.kept.settled in
+    let word = (entry_at (row old.position.bank.words (light_of before c.args.light).size) c.args.index).word in
+    let written = c.as_slice.ensures ∙ c.of_index-written.ensures ∙ light_written before.grid c.args.light word c.requires.light in
+    let change : IsChange before (position_state now) action _ = told old now action c.place_known.ensures.made c.place_known.ensures.shape _ is.none_turned is.none_back written refl is.no_word in
+    let kept : IsKept (position_state now) c.settle-self.new.net = c.settle-self.ensures.kept before action change old.kept.settled in
     record {
-      light_list = old.light_list ∙ sym c.place_known.ensures.shape.lights;
       kept = kept;
-      same_cells =
-          ap length c.keep_letters.ensures
-          ∙ kept_cells before old.net old.kept
-          ∙ sym c.place_known.ensures.shape.cells
-          ∙ sym (kept_cells now c.settle-self.new.net kept);
-      same_room = old.same_room ∙ old.same_cells ∙ ap length (sym c.keep_letters.ensures);
+      same_cells = same_cells_kept old now action c.place_known.ensures.made c.place_known.ensures.shape c.settle-self.new.net c.keep_letters.new.before.items c.keep_letters.ensures kept;
+      same_room = same_room_kept old c.keep_letters.new.before.items c.keep_letters.ensures;
     }
 
 pub returns : goal.returns
 returns c =
     let old = c.args.self.now in
+    let now = c.place_known.new.self in
     let before = state_of old in
     let action = known_placed before c.args.light c.args.index in
-    let word = (entry_at (row old.bank.words (light_of before c.args.light).size) c.args.index).word in
-    let grid = c.place_known.new.grid in
-    let now : State = record { grid = grid; words = old.bank.words } in
     let is = known_of_grid before c.args.light c.args.index in
-    let made : after before action ≡ Ok now = grid_made before action grid is c.place_known.ensures.placed in
-    let formed : IsWellFormed now = state_formed grid old.bank.words c.well_formed-2.ensures old.kept.formed.dictionary in
+    let word = (entry_at (row old.position.bank.words (light_of before c.args.light).size) c.args.index).word in
+    let written = c.as_slice.ensures ∙ c.of_index-written.ensures ∙ light_written before.grid c.args.light word c.requires.light in
+    let change : IsChange before (position_state now) action _ = told old now action c.place_known.ensures.made c.place_known.ensures.shape _ is.none_turned is.none_back written refl is.no_word in
     record {
-      made = made;
+      made = c.place_known.ensures.made;
       letters = c.keep_letters.ensures;
-      cost = c.settle-self.ensures.cost before action (change_made before now action _ made is.none_turned is.none_back old.kept.formed formed (c.as_slice.ensures ∙ c.of_index-written.ensures ∙ light_written before.grid c.args.light word c.requires.light) old.light_list is.no_word) old.kept.settled;
+      cost = c.settle-self.ensures.cost before action change old.kept.settled;
       risen = c.settle-self.ensures.risen;
     }

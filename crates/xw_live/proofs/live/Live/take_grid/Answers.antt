@@ -8,18 +8,18 @@ use Rattle.xw_live.proofs.live.Live.take_grid.Goals as goal
 pub replace-requires-clause-kept : goal.replace-requires-clause-kept
 replace-requires-clause-kept c =
     let old = c.args.self.now in
-    let state : State = record { grid = c.args.grid; words = old.bank.words } in
+    let state : State = record { grid = c.args.grid; words = old.position.bank.words } in
     let net = c.in_ok-net.net in
     kept_from state net ∣ c.in_ok-net.ensures.settled ∣₁
     c.in_ok-net.ensures.none_waits
-    (state_formed c.args.grid old.bank.words c.well_formed-2.ensures old.kept.formed.dictionary)
+    (state_formed c.args.grid old.position.bank.words c.well_formed-2.ensures old.kept.formed.dictionary)
 
 pub replace-requires-clause-cells : goal.replace-requires-clause-cells
 replace-requires-clause-cells c =
     let old = c.args.self.now in
-    let state : State = record { grid = c.args.grid; words = old.bank.words } in
+    let state : State = record { grid = c.args.grid; words = old.position.bank.words } in
     let net = c.in_ok-net.net in
     let kept : IsKept state net = kept_from state net ∣ c.in_ok-net.ensures.settled ∣₁
     c.in_ok-net.ensures.none_waits
-    (state_formed c.args.grid old.bank.words c.well_formed-2.ensures old.kept.formed.dictionary) in
+    (state_formed c.args.grid old.position.bank.words c.well_formed-2.ensures old.kept.formed.dictionary) in
     c.in_ok-before.ensures.ok ∙ sym (kept_cells state net kept)

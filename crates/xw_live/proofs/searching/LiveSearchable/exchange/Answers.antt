@@ -1,11 +1,16 @@
-use Rattle.std.proofs.Common.{length, sym, ap, ◌∙◌}
-use Rattle.xw_grid.specs.Light.{lights_of}
+use Rattle.std.proofs.Common.{◌≡◌, length, refl, sym, ap, ◌∙◌, subst}
 use Rattle.xw_feas.specs.State.{State}
 use Rattle.xw_net.specs.Net.{sets_of}
 use Rattle.xw_net.specs.declared.net.Net.{Net}
+use Rattle.xw_live.specs.Engine.{IsKept}
 use Rattle.xw_live.specs.Live.{state_of}
 use Rattle.xw_live.proofs.Saving.{kept_same, kept_moved, same_sets}
 use Rattle.xw_live.proofs.searching.LiveSearchable.exchange.Goals as goal
+
+pub exchange-requires : goal.exchange-requires
+exchange-requires c =
+    let shape = c.requires.twin.shape in
+    record { lights = sym shape.lights; opens = λ cell. sym (shape.opens cell); cells = sym shape.cells }
 
 pub invariant_of-self : goal.invariant_of-self
 invariant_of-self c =
@@ -14,13 +19,12 @@ invariant_of-self c =
     let saved : State = record { grid = c.args.snapshot.now.grid; words = c.args.snapshot.now.bank.value.words } in
     let twin = c.requires.twin in
     record {
-      light_list = live.light_list ∙ twin.shape.lights ∙ sym (ap lights_of c.swap.ensures.x_after);
-      kept = kept_moved c.swap.ensures.x_after c.swap-2.ensures.x_after (kept_same kept.grid kept.net (sym twin.words) kept.kept);
-      same_cells = live.same_cells ∙ same_sets saved (state_of live) twin live.net kept.net live.kept kept.kept ∙ sym (ap (λ (net : Net). length (sets_of net)) c.swap-2.ensures.x_after);
+      kept = subst (λ (state : State). IsKept state c.swap.new.x) (sym c.exchange.ensures.now) (kept_moved refl c.swap.ensures.x_after (kept_same kept.grid kept.net (sym twin.words) kept.kept));
+      same_cells = live.same_cells ∙ same_sets saved (state_of live) twin live.net kept.net live.kept kept.kept ∙ sym (ap (λ (net : Net). length (sets_of net)) c.swap.ensures.x_after);
       same_room = live.same_room;
     }
 
 pub invariant_of-snapshot : goal.invariant_of-snapshot
 invariant_of-snapshot c =
     let live = c.args.self.now in
-    record { kept = kept_moved c.swap.ensures.y_after c.swap-2.ensures.y_after (kept_same live.grid live.net c.requires.twin.words live.kept) }
+    record { kept = kept_moved c.exchange.ensures.before c.swap.ensures.y_after (kept_same live.position.grid live.net c.requires.twin.words live.kept) }

@@ -15,7 +15,7 @@ pub copy_from-requires-clause-can : goal.copy_from-requires-clause-can
 copy_from-requires-clause-can c =
     let live = c.args.self.now in
     let saved : State = record { grid = c.args.snapshot.now.grid; words = c.args.snapshot.now.bank.value.words } in
-    can_copy saved (state_of live) c.requires.twin live.net c.args.snapshot.now.net live.kept c.args.snapshot.now.kept live.lights live.light_list
+    can_copy saved (state_of live) c.requires.twin live.net c.args.snapshot.now.net live.kept c.args.snapshot.now.kept live.position.lights live.position.light_list
 
 pub copy_from-requires-clause-before : goal.copy_from-requires-clause-before
 copy_from-requires-clause-before c =
@@ -29,8 +29,8 @@ invariant_of-snapshot c =
     let live = c.args.self.now in
     let net = c.copy_from.new.self in
     let copied : IsKept (state_of c.args.self.now) c.copy_from.new.self =
-    kept_copy (state_of live) live.net net live.lights live.light_list c.copy_from.ensures.copied (ap is_some c.copy_from.ensures.spare ∙ c.args.snapshot.now.kept.none_waits) live.kept in
+    kept_copy (state_of live) live.net net live.position.lights live.position.light_list c.copy_from.ensures.copied (ap is_some c.copy_from.ensures.spare ∙ c.args.snapshot.now.kept.none_waits) live.kept in
     record {
       kept = subst (λ (grid : Grid). IsKept (record { grid = grid; words = c.args.snapshot.now.bank.value.words }) c.copy_from.new.self) (sym c.copy_from-2.ensures)
-          (kept_same live.grid net c.requires.twin.words copied);
+          (kept_same live.position.grid net c.requires.twin.words copied);
     }

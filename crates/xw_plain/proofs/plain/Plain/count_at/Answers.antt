@@ -11,9 +11,9 @@ returns c =
     let engine = c.args.self.now in
     let words = engine.words.items in
     let row = c.index-row.result.now in
-    let below : c.args.light < length words = omega (arith, engine.rows.lights, c.requires, length-lights engine.grid) in
+    let below : c.args.light < length words = omega (arith, engine.rows.lights, c.requires, length-lights engine.position.grid) in
     let is : row ≡ get_or words c.args.light [] = get_or_read words c.args.light row below c.index-row.ensures [] in
-    c.count.ensures ∙ ap standing_count is ∙ count_is (board_of engine.grid) engine.bank.words words engine.letters.items engine.rows c.args.light below
+    c.count.ensures ∙ ap standing_count is ∙ count_is (board_of engine.position.grid) engine.position.bank.words words engine.letters.items engine.rows c.args.light below
 
 pub index-row-requires : goal.index-row-requires
-index-row-requires c = omega (arith, c.args.self.now.rows.lights, c.requires, length-lights c.args.self.now.grid)
+index-row-requires c = omega (arith, c.args.self.now.rows.lights, c.requires, length-lights c.args.self.now.position.grid)

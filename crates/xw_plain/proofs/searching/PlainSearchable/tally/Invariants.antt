@@ -7,6 +7,6 @@ use Rattle.xw_plain.proofs.searching.PlainSearchable.tally.Given as goal
 -- the words so far are counted
 abbrev pub invariant-loop-choice : goal.invariant-loop-choice
 invariant-loop-choice l = record {
-  tally : l.total ≡ count_by (λ word. eqb (get_or word l.position 0) l.letter) (items_where (take l.choice (get_or l.self.words.items l.light [])) (choices (board_of l.self.grid) l.self.bank.words (light_at (board_of l.self.grid) l.light)));
+  tally : l.total ≡ count_by (λ word. eqb (get_or word l.position 0) l.letter) (items_where (take l.choice (get_or l.self.words.items l.light [])) (choices (board_of l.self.position.grid) l.self.position.bank.words (light_at (board_of l.self.position.grid) l.light)));
   small : l.total ≤ l.choice;
 }

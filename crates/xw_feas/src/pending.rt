@@ -1,0 +1,41 @@
+//! Edits that a position accepts.
+use crate::edit::EntryEdit;
+use xw_grid::cell::{Cell, Side, Symmetry};
+use xw_letters::letter::Letter;
+
+/// An accepted edit, by what has to be reserved for it.
+#[derive(Clone, Copy)]
+pub enum Pending<'a> {
+    /// Nothing.
+    InPlace(InPlace<'a>),
+    /// Another grid, with its lights.
+    Shape(ShapeEdit),
+    /// Room for a word that is not known. The word has this grade and will get this index.
+    New(&'a [u8], Option<u8>, usize),
+}
+
+/// An accepted edit that needs no memory.
+#[derive(Clone, Copy)]
+pub enum InPlace<'a> {
+    /// Writes or clears the letters of a cell or a light.
+    Entries(EntryEdit<'a>),
+    /// Writes a list of cells.
+    List(&'a [(Cell, Option<Letter>)]),
+    /// Sets the symmetry.
+    Symmetry(Symmetry),
+    /// Makes a known word active again. The word has this grade and this index.
+    Return(&'a [u8], Option<u8>, usize),
+    /// Strikes the word, which has this index.
+    Strike(&'a [u8], usize),
+    /// Leaves out the words below a grade.
+    Least(u8),
+}
+
+/// An edit of blocks or bars.
+#[derive(Clone, Copy)]
+pub enum ShapeEdit {
+    /// Toggles the block at a cell and its orbit.
+    Block(Cell),
+    /// Toggles the bar at an edge and its orbit.
+    Bar(Cell, Side),
+}

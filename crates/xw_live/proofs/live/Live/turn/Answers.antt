@@ -1,0 +1,42 @@
+use Rattle.std.proofs.Common.{◌≡◌, ◌∙◌, sym, ap, refl, subst, map, arith}
+use Rattle.xw_feas.specs.Pending.{in_place_action}
+use Rattle.xw_feas.specs.Position.{state_of as position_state}
+use Rattle.xw_net.proofs.Edits.ChangeFacts.{word_turns_none, word_brings_none}
+use Rattle.xw_net.specs.Change.{IsChange, with_entry_of}
+use Rattle.xw_live.specs.Engine.{IsKept}
+use Rattle.xw_live.specs.Live.{state_of}
+use Rattle.xw_live.proofs.InPlace.{can_follow, told, same_cells_kept, same_room_kept}
+use Rattle.xw_live.proofs.live.Live.turn.Goals as goal
+
+pub settle-self-requires : goal.settle-self-requires
+settle-self-requires c =
+    let old = c.args.self.now in
+    can_follow old c.commit.new.self (in_place_action c.args.edit.now) c.commit.ensures.made c.commit.ensures.shape c.commit.ensures.counts _ (sym (ap (map (with_entry_of old.position.grid)) c.requires.no_cells)) refl
+
+pub invariant_of-self : goal.invariant_of-self
+invariant_of-self c =
+    let old = c.args.self.now in
+    let now = c.commit.new.self in
+    let action = in_place_action c.args.edit.now in
+    let none = sym (ap (map (with_entry_of old.position.grid)) c.requires.no_cells) in
+    let change : IsChange (state_of old) (position_state now) action _ = told old now action c.commit.ensures.made c.commit.ensures.shape _ (λ len. sym (word_turns_none old.position.bank.words action (c.args.len, c.args.index) c.requires.word len)) (sym (word_brings_none old.position.bank.words action (c.args.len, c.args.index) c.requires.word)) none refl (sym c.requires.word) in
+    let kept : IsKept (position_state now) c.settle-self.new.net = c.settle-self.ensures.kept (state_of old) action change old.kept.settled in
+    record {
+      kept = kept;
+      same_cells = same_cells_kept old now action c.commit.ensures.made c.commit.ensures.shape c.settle-self.new.net c.keep_letters.new.before.items c.keep_letters.ensures kept;
+      same_room = same_room_kept old c.keep_letters.new.before.items c.keep_letters.ensures;
+    }
+
+pub returns : goal.returns
+returns c =
+    let old = c.args.self.now in
+    let now = c.commit.new.self in
+    let action = in_place_action c.args.edit.now in
+    let none = sym (ap (map (with_entry_of old.position.grid)) c.requires.no_cells) in
+    let change : IsChange (state_of old) (position_state now) action _ = told old now action c.commit.ensures.made c.commit.ensures.shape _ (λ len. sym (word_turns_none old.position.bank.words action (c.args.len, c.args.index) c.requires.word len)) (sym (word_brings_none old.position.bank.words action (c.args.len, c.args.index) c.requires.word)) none refl (sym c.requires.word) in
+    record {
+      made = c.commit.ensures.made;
+      letters = c.keep_letters.ensures;
+      cost = c.settle-self.ensures.cost (state_of old) action change old.kept.settled;
+      risen = c.settle-self.ensures.risen;
+    }
