@@ -71,7 +71,7 @@ export class Xw {
   static open(module: WebAssembly.Module, beginning?: Beginning): Xw;
 
   /**
-   * What was not taken from the record, each with a line feed after it: `xw: record: a cut line was dropped` if its end was cut off, and then
+   * What was not taken from the record, each with a line feed after it: `xw: record: an incomplete last command is ignored` if its end was cut off, and then
    * `xw: record: line N: NAME` for each line that was refused.
    */
   readonly reports: string;

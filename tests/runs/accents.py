@@ -85,7 +85,7 @@ CASES = {
     "journal": [run("edit --journal made.xw", LINES, output=b"ok\n" * 5), has("made.xw", RECORD), told("--journal made.xw")],
     "journal that was cut": [
         write("cut.xw", FIRST + LINES + b"cut"),
-        run("edit --journal cut.xw", b"texts\n", TEXTS + b"ok\n", b"xw: cut.xw: a cut line was dropped\n"),
+        run("edit --journal cut.xw", b"texts\n", TEXTS + b"ok\n", b"xw: cut.xw: an incomplete last command is ignored\n"),
     ],
     "UTF-8 is kept too, and is not Windows-1252": [
         run("edit --to made.puz", b"size 2 1\nplace 1 across at\ntitle Caf\xC3\xA9\nclue 1 across c\n", output=b"ok\n" * 4),

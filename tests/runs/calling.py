@@ -254,7 +254,7 @@ CASES = {
     ],
     "words_that_name_no_file": [run("edit")],
     # Words that are no text are wrong words.
-    "words_that_are_no_text": [run(b"check \xFF", errors=b"xw: the arguments are no text\n", status=USAGE)],
+    "words_that_are_no_text": [run(b"check \xFF", errors=b"xw: arguments are not valid UTF-8\n", status=USAGE)],
     **{f"wrong_words: xw {words}": [run(words, errors=told, status=USAGE)] for words, told in WRONG.items()},
     **{
         f"nameless: xw {words}": [run(Words(words), errors=b"xw: the name of a file is empty\n", status=USAGE)] for words in NAMELESS

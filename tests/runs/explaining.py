@@ -89,7 +89,7 @@ CASES = {
     "puz_faults_told, boards": told(PLAIN[:59], "Short", "boards", CUT_OFF),
     "wrong_sum_told": told(WRONG_SUM, "BadSum", "file checksum", "the file is damaged: a checksum is wrong"),
     # The faulty line of a text file, or its end.
-    "text_faults_told, line": told(TEXT[:20], "Tag", "line 2", "another line stands where a tag must come"),
+    "text_faults_told, line": told(TEXT[:20], "Tag", "line 2", "a tag is expected here"),
     "text_faults_told, end": told(b"\n\n", "Header", "end of file", NO_PUZZLE),
     "text_faults_told, byte": told(b"<ACROSS PUZZLE>\n\n<\0", "NulByte", "line 3", NO_PUZZLE),
     # A cell of a text file is reported by row and column.
@@ -107,15 +107,15 @@ CASES = {
     "no_journal_told": is_no_command("--journal", PLAIN, 1, "Command", "this is no journal; nothing in it was changed"),
     "no_list_as_journal_told": is_no_command("--journal", b"cat\ndog\n", 1, "Command", "this is no journal; nothing in it was changed"),
     "no_session_told": is_no_command("--resume", b"cat\ndog\n", 1, "Command", "this is no journal; nothing in it was changed"),
-    "wrong_line_told": is_no_command("--resume", b"add cat\nadx dog\n", 2, "Command", "no command has this name; nothing in the file was changed"),
+    "wrong_line_told": is_no_command("--resume", b"add cat\nadx dog\n", 2, "Command", "not a session file: it has an unknown command; nothing in it was changed"),
     "wrong_words_told": is_no_command(
-        "--resume", b"add cat\nsize 5\n", 2, "Arguments", "the rest of the line does not fit the command; nothing in the file was changed"
+        "--resume", b"add cat\nsize 5\n", 2, "Arguments", "the arguments of the command are wrong; nothing in the file was changed"
     ),
     "long_line_told": is_no_command(
         "--resume", b"#" * 4097 + b"\n", 1, "LineTooLong", "the line has more than 4,096 bytes; nothing in the file was changed"
     ),
     "cut_line_told": is_no_command(
-        "--journal", b"add cat\nadd dog", 2, "Cut", "the last line has no line feed, so this may be no journal; nothing in it was changed"
+        "--journal", b"add cat\nadd dog", 2, "Cut", "the last line has no line feed, so this may not be a journal; nothing in it was changed"
     ),
     # The fault of a bar has no location.
     "barred_told": is_not_written("barred.txt", b"bar 1 1 right\n", "Barred", "a puzzle file cannot hold bars"),

@@ -268,7 +268,7 @@ def is_no_journal(name):
 
 
 A_B = record(b"set 1 1 A\n", b"set 1 2 B\n")
-CUT = b"xw: mine.xw: a cut line was dropped\n"
+CUT = b"xw: mine.xw: an incomplete last command is ignored\n"
 
 # The first lines of a journal that is longer than a small puzzle file, and lines that fill a grid.
 LONG = FIRST + b"# " + b"a note " * 100 + b"\n"

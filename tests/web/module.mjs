@@ -118,7 +118,7 @@ const CASES = {
     same(Xw.open(module, { list: 'caf\u00e9\ncat\n' }).line('match ...').lines, ['CAT']);
   },
   'the end of a record that was cut off is dropped': () => {
-    const [first, dropped] = ['# xw session 1\n', 'xw: record: a cut line was dropped\n'];
+    const [first, dropped] = ['# xw session 1\n', 'xw: record: an incomplete last command is ignored\n'];
     for (const cut of ['title Two', '# xw begin\nset 1 1 A\n', '# xw begin\nset 1 1 A\n# xw end']) {
       const xw = Xw.open(module, { record: `${first}size 2 1\ntitle One\n${cut}` });
       same([xw.reports, xw.line('show').lines, xw.line('texts').lines], [dropped, ['- -'], ['title One']]);

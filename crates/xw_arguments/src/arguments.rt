@@ -366,9 +366,7 @@ fn convert<'a>(alloc: Global) -> Result<Command<'a>, AllocError>
         ),
         explain(alloc),
     ]?;
-    let command = Command::new(alloc, "convert").about(
-        "Convert a puzzle file to another format",
-    );
+    let command = Command::new(alloc, "convert").about("Convert a puzzle file to another format");
     with_args(command, operands)
 }
 

@@ -94,7 +94,7 @@ IsUnloaded name failure old new = IsUnreadFile name failure old new ⊎ IsBadLis
 
 -- the report of lines that do not count because they were cut
 abbrev pub cut_line : List ℕ → List ℕ
-cut_line name = codes "xw: " ++ name ++ codes ": a cut line was dropped\n"
+cut_line name = codes "xw: " ++ name ++ codes ": an incomplete last command is ignored\n"
 
 -- the report is written if it is due, and otherwise nothing is
 abbrev pub TellsCutIf : {S : Type 0} → (S → List ℕ) → (S → ℕ) → List ℕ → Bool → S → S → Type 0

@@ -165,7 +165,7 @@ pub fn resume_file<'a, D: Disk, F: Searchable, E: Sink>(
     resume_text(alloc, file, session, kept(bytes), errors)
 }
 
-/// Reports that a cut line was dropped if one was. Write errors are ignored.
+/// Reports that an incomplete last command is ignored if one was. Write errors are ignored.
 pub fn tell_cut_if<'a, E: Sink>(
     alloc: Global,
     file: &'a str,
@@ -182,13 +182,13 @@ pub fn tell_cut_if<'a, E: Sink>(
     Ok(())
 }
 
-/// Reports that a cut line was dropped. Write errors are ignored.
+/// Reports that an incomplete last command is ignored. Write errors are ignored.
 fn tell_cut<'a, E: Sink>(alloc: Global, file: &'a str, errors: &mut E) -> Result<(), Failure<'a>>
     ensures told { OnOk result (GoesOut E.transcript E.failures errors.old errors.new (cut_line file.entry.now)) }
     ensures memory { IsOkUnless result Memory }
     ensures untold { OnErr result (errors.new ≡ errors.old) }
 {
-    let text = format!(in alloc; "xw: {file}: a cut line was dropped\n")?;
+    let text = format!(in alloc; "xw: {file}: an incomplete last command is ignored\n")?;
     let _ = device::write_all(errors, text.as_bytes());
     Ok(())
 }

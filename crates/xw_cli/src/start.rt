@@ -87,7 +87,7 @@ fn start_gathered<F: Searchable, E: Messages>(
         Ok(words) => words.collect(rt.alloc())?,
         Err(error) if error.kind() == ErrorKind::OutOfMemory => return Err(error),
         Err(_) => {
-            let text = String::from_str(rt.alloc(), "xw: the arguments are no text\n")?;
+            let text = String::from_str(rt.alloc(), "xw: arguments are not valid UTF-8\n")?;
             return Ok(explain(&Usage::Wrong(text), &mut output, errors));
         }
     };

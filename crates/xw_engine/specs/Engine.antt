@@ -90,7 +90,7 @@ record_name = codes "record"
 
 -- the report of a record whose end was cut off
 abbrev pub cut_line : List ℕ
-cut_line = codes "xw: record: a cut line was dropped\n"
+cut_line = codes "xw: record: an incomplete last command is ignored\n"
 
 abbrev pub cut_report : Bool → List ℕ
 cut_report is_cut = if is_cut then cut_line else []

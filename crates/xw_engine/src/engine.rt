@@ -23,7 +23,7 @@ use xw_words::{Bank, WordFault};
 const RECORD: &str = "record";
 
 /// The report of a record whose end was cut off.
-const CUT: &[u8] = b"xw: record: a cut line was dropped\n";
+const CUT: &[u8] = b"xw: record: an incomplete last command is ignored\n";
 
 /// A session over a word list, and the answer to the last call.
 #[derive(Drop)]

@@ -13,11 +13,11 @@ abbrev pub said_of_text : List ℕ → Option (List ℕ)
 said_of_text name =
     if bytes_eq name (codes "Header") then Some (codes "this is no puzzle file") else
     if bytes_eq name (codes "NulByte") then Some (codes "this is no puzzle file") else
-    if bytes_eq name (codes "Tag") then Some (codes "another line stands where a tag must come") else
-    if bytes_eq name (codes "SizeLine") then Some (codes "another line stands where the size must come, such as 15x15") else
-    if bytes_eq name (codes "GridLine") then Some (codes "a row of the grid is missing or has another length") else
-    if bytes_eq name (codes "AcrossCount") then Some (codes "there are more clues than lights, or fewer") else
-    if bytes_eq name (codes "DownCount") then Some (codes "there are more clues than lights, or fewer") else None
+    if bytes_eq name (codes "Tag") then Some (codes "a tag is expected here") else
+    if bytes_eq name (codes "SizeLine") then Some (codes "the size is expected here, such as 15x15") else
+    if bytes_eq name (codes "GridLine") then Some (codes "a row is missing, or its length differs from the grid's width") else
+    if bytes_eq name (codes "AcrossCount") then Some (codes "the number of clues differs from the number of lights") else
+    if bytes_eq name (codes "DownCount") then Some (codes "the number of clues differs from the number of lights") else None
 
 -- the faults of a `.puz` file and of a word list
 abbrev pub said_of_puz : List ℕ → Option (List ℕ)
@@ -28,7 +28,7 @@ said_of_puz name =
     if bytes_eq name (codes "BadCell") then Some (codes "a cell is neither a letter nor a block") else
     if bytes_eq name (codes "Scrambled") then Some (codes "the solution is locked") else
     if bytes_eq name (codes "Version") then Some (codes "this version of .puz cannot be read") else
-    if bytes_eq name (codes "ClueCount") then Some (codes "there are more clues than lights, or fewer") else
+    if bytes_eq name (codes "ClueCount") then Some (codes "the number of clues differs from the number of lights") else
     if bytes_eq name (codes "Full") then Some (codes "the list has more than 1,048,576 words of one length") else None
 
 -- why a format cannot hold a puzzle
@@ -49,10 +49,10 @@ said name = said_or (said_of_text name) (said_or (said_of_puz name) (said_of_puz
 abbrev pub said_of_line : ℕ → List ℕ → Option (List ℕ)
 said_of_line number name =
     if (number == 1) && bytes_eq name (codes "Command") then Some (codes "this is no journal; nothing in it was changed") else
-    if bytes_eq name (codes "Command") then Some (codes "no command has this name; nothing in the file was changed") else
-    if bytes_eq name (codes "Arguments") then Some (codes "the rest of the line does not fit the command; nothing in the file was changed") else
+    if bytes_eq name (codes "Command") then Some (codes "not a session file: it has an unknown command; nothing in it was changed") else
+    if bytes_eq name (codes "Arguments") then Some (codes "the arguments of the command are wrong; nothing in the file was changed") else
     if bytes_eq name (codes "LineTooLong") then Some (codes "the line has more than 4,096 bytes; nothing in the file was changed") else
-    if bytes_eq name (codes "Cut") then Some (codes "the last line has no line feed, so this may be no journal; nothing in it was changed") else None
+    if bytes_eq name (codes "Cut") then Some (codes "the last line has no line feed, so this may not be a journal; nothing in it was changed") else None
 
 -- ---- the line with the sentence
 

@@ -13,11 +13,11 @@ fn said_of_text(name: &str) -> Option<&'static str>
     match name {
         "Header" => Some("this is no puzzle file"),
         "NulByte" => Some("this is no puzzle file"),
-        "Tag" => Some("another line stands where a tag must come"),
-        "SizeLine" => Some("another line stands where the size must come, such as 15x15"),
-        "GridLine" => Some("a row of the grid is missing or has another length"),
-        "AcrossCount" => Some("there are more clues than lights, or fewer"),
-        "DownCount" => Some("there are more clues than lights, or fewer"),
+        "Tag" => Some("a tag is expected here"),
+        "SizeLine" => Some("the size is expected here, such as 15x15"),
+        "GridLine" => Some("a row is missing, or its length differs from the grid's width"),
+        "AcrossCount" => Some("the number of clues differs from the number of lights"),
+        "DownCount" => Some("the number of clues differs from the number of lights"),
         _ => None,
     }
 }
@@ -33,7 +33,7 @@ fn said_of_puz(name: &str) -> Option<&'static str>
         "BadCell" => Some("a cell is neither a letter nor a block"),
         "Scrambled" => Some("the solution is locked"),
         "Version" => Some("this version of .puz cannot be read"),
-        "ClueCount" => Some("there are more clues than lights, or fewer"),
+        "ClueCount" => Some("the number of clues differs from the number of lights"),
         "Full" => Some("the list has more than 1,048,576 words of one length"),
         _ => None,
     }
@@ -72,15 +72,17 @@ fn said_of_line(number: usize, name: &str) -> Option<&'static str>
         return Some("this is no journal; nothing in it was changed");
     }
     match name {
-        "Command" => Some("no command has this name; nothing in the file was changed"),
+        "Command" => Some(
+            "not a session file: it has an unknown command; nothing in it was changed",
+        ),
         "Arguments" => Some(
-            "the rest of the line does not fit the command; nothing in the file was changed",
+            "the arguments of the command are wrong; nothing in the file was changed",
         ),
         "LineTooLong" => Some(
             "the line has more than 4,096 bytes; nothing in the file was changed",
         ),
         "Cut" => Some(
-            "the last line has no line feed, so this may be no journal; nothing in it was changed",
+            "the last line has no line feed, so this may not be a journal; nothing in it was changed",
         ),
         _ => None,
     }
