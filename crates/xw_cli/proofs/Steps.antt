@@ -6,11 +6,8 @@ use Rattle.std.specs.Prelude.{Option, Some}
 use Rattle.std.specs.Borrow.{Bor}
 use Rattle.xw_words.specs.Dictionary.{Dictionary}
 use Rattle.xw_words.specs.WordList.{listed_in}
-use Rattle.xw_grid.specs.Puzzle.{PuzzleShown}
-use Rattle.xw_journal.specs.File.{kept_lines}
 use Rattle.xw_lines.specs.Device.{HasFailed}
 use Rattle.xw_text.specs.Lines.{lines_of}
-use Rattle.xw_session.specs.Opening.{puzzle_of}
 use Rattle.xw_session.specs.Resuming.{Resumes, Tells}
 use Rattle.xw_session.specs.State.{State}
 use Rattle.xw_session.specs.declared.resuming.Stop.{Stop}
@@ -25,7 +22,7 @@ use Rattle.xw_puzzle_files.specs.declared.failure.Status.{Status}
 use Rattle.xw_puzzle_files.specs.declared.failure.Status.TheVariants.{Accepted}
 use Rattle.xw_puzzle_files.specs.Told.{IsFaultOf}
 use Rattle.xw_cli.specs.Journals.{HasReplayed, IsEnded, IsUnended, IsUnreplayed}
-use Rattle.xw_puzzle_files.specs.Files.{Asks, IfNamed, AreBytesFor, IsMalformed, IsUnread, IsUnreadFile, IsUnreplaced, IsUnwritten, IsWritten}
+use Rattle.xw_puzzle_files.specs.Files.{Asks, IfNamed, IsUnreplaced}
 use Rattle.xw_cli.specs.declared.session_files.Refusals.{Refusals}
 use Rattle.xw_cli.specs.SessionFiles.{Copies, HasKept, IsLoaded, IsLoadedTold, IsLoadingTold, IsReplayed, IsResumed, IsUnsaved, Replays, TellsReplay, ends_in_known, file_of, old_line, tells_loss}
 use Rattle.xw_puzzle_files.specs.Explained.{GoesOut}

@@ -1,17 +1,13 @@
 -- What a call does, and which failures may end it.
-use Rattle.std.specs.Prelude.{◌≡◌, ◌⊎◌, ◌++◌, ℕ, Bool, true, false, MatchBool, List, [], ◌∷◌, Option, Some, None, Result, Ok, Err, IfErr, IsErr, MatchResult, map, codes, decimal, length}
+use Rattle.std.specs.Prelude.{◌≡◌, ◌⊎◌, ℕ, Bool, true, false, MatchBool, List, [], Option, Some, None, Result, Ok, Err, IfErr, IsErr, MatchResult, map}
 use Rattle.std.specs.Borrow.{Bor}
 use Rattle.xw_words.specs.Dictionary.{Dictionary, no_words}
-use Rattle.xw_grid.specs.Grid.{Grid}
-use Rattle.xw_grid.specs.Light.{lights_of}
 use Rattle.xw_grid.specs.Puzzle.{PuzzleShown}
 use Rattle.xw_files.specs.Formats.{IsRead}
 use Rattle.xw_files.specs.declared.kind.Kind.{Kind}
-use Rattle.xw_files.specs.declared.kind.Kind.TheVariants.{Puz, Text}
 use Rattle.xw_journal.specs.Journal.{AnswersJournaled, JournaledState, StopsAtJournal}
 use Rattle.xw_journal.specs.declared.cause.Cause.{Cause}
 use Rattle.xw_journal.specs.declared.cause.Cause.TheVariants as causes
-use Rattle.xw_lines.specs.Device.{Begins, HasFailed, flushed}
 use Rattle.xw_lines.specs.Spoken.{NeverStops}
 use Rattle.xw_lines.specs.declared.outcome.RunEnd.{RunEnd}
 use Rattle.xw_lines.specs.declared.outcome.RunEnd.TheVariants.{Stopped}

@@ -399,6 +399,9 @@ fn put_unsaved<'a, F: Feasible, D: Disk, E: Sink>(
     ensures { StillPuts E.transcript E.failures named.entry explain session.now failure.now result (D.log disk.old) (D.log disk.new) errors.old errors.new }
 {
     let status = tell(alloc, failure, explain, disk.error(), errors);
+    let Some(_) = named.to_file else {
+        return status;
+    };
     if let Err(other) = write_puzzle_if(alloc, disk, session, named, explain, apart) {
         let _ = tell(alloc, &other, explain, disk.error(), errors);
     }
