@@ -168,11 +168,16 @@ def keeps_proofs_without_rt(room, program):
     compare("what is kept", proofs(room), kept)
 
 
+def heed_interrupts():
+    """Lets ^C reach the process also where these tests run in the background, which ignores it."""
+    signal.signal(signal.SIGINT, signal.SIG_DFL)
+
+
 def stops(room, program):
     """^C ends the prover too, says what is kept, and the next build goes on from there."""
     held = room / "top/crates/xw/held"
     held.touch()
-    with subprocess.Popen([room / "top/build", "program"], env=environment(room), stderr=subprocess.PIPE) as build:
+    with subprocess.Popen([room / "top/build", "program"], env=environment(room), stderr=subprocess.PIPE, preexec_fn=heed_interrupts) as build:
         for line in build.stderr:
             if line.startswith(b"xw: low proved"):
                 break
