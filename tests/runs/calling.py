@@ -253,8 +253,8 @@ CASES = {
         ),
     ],
     "words_that_name_no_file": [run("edit")],
-    # Words that are no text are wrong words.
-    "words_that_are_no_text": [run(b"check \xFF", errors=b"xw: arguments are not valid UTF-8\n", status=USAGE)],
+    # Arguments that are not valid UTF-8 are wrong usage.
+    "arguments_that_are_not_utf_8": [run(b"check \xFF", errors=b"xw: arguments are not valid UTF-8\n", status=USAGE)],
     **{f"wrong_words: xw {words}": [run(words, errors=told, status=USAGE)] for words, told in WRONG.items()},
     **{
         f"nameless: xw {words}": [run(Words(words), errors=b"xw: the name of a file is empty\n", status=USAGE)] for words in NAMELESS
