@@ -6,7 +6,7 @@ has to be true:
 - everything is as without the refusal;
 - a command is answered `no Memory`, and everything else is as if its line were not there;
 - the run ends with `xw: memory` and status 4, and each file has its old bytes or its new ones. If both the session and the puzzle are to be
-  written, each may have this message.
+  written, each may have this message, or the session alone, with a fault of the puzzle after it.
 """
 import mmap
 import os
@@ -233,6 +233,8 @@ class Call:
         self.room, self.words, self.lines, self.files, self.journal = room, words, lines, files, journal
         self.known = {}
         self.program = Stopped(room, program, words.split())
+        # whether a session that is not saved is reported before the puzzle is written
+        self.writes_both = "--save" in words and "--to" in words
         self.ample = self.wanted()
         self.count = self.program["count"]
         self.names = set(os.listdir(room)) | set(files)
@@ -261,7 +263,7 @@ class Call:
         assert not extra, f"{what}{extra} is there"
         if found == self.ample:
             return
-        if found[2].endswith(MESSAGE):
+        if found[2].endswith(MESSAGE) or self.writes_both and MESSAGE in found[2]:
             self.has_ended(what, *found)
         else:
             self.has_refused(what, *found)
@@ -287,9 +289,7 @@ class Call:
         indices = self.refused_lines(what, output) if output else frozenset(range(len(self.lines)))
         ample = self.wanted(indices)
         compare(what + "status", status, FAILED)
-        told = errors.removesuffix(MESSAGE)
-        if "--save" in self.words and "--to" in self.words:
-            told = told.removesuffix(MESSAGE)
+        told = errors.replace(MESSAGE, b"") if self.writes_both else errors.removesuffix(MESSAGE)
         assert ample[2].startswith(told), f"{what}messages {errors!r}"
         if output:
             compare(what + "other answers", [it for it in answers_of(output) if it != REFUSAL], answers_of(ample[1]))
