@@ -26,7 +26,7 @@ export class Fault extends Error {
 
 // The characters of the bytes 80 to 9F in Windows-1252, as browsers read it: a byte without a character is a control character. All other
 // bytes are the characters of the same number. So each byte is one character, and bytes that are read and written again are the same.
-// TextDecoder is not used, since some versions of Node take windows-1252 for ISO-8859-1.
+// TextDecoder is used for ASCII alone, since some versions of Node take windows-1252 for ISO-8859-1.
 const HIGH = '€\x81‚ƒ„…†‡ˆ‰Š‹Œ\x8dŽ\x8f\x90‘’“”•–—˜™š›œ\x9džŸ';
 const HIGH_BYTES = new Map(Array.from(HIGH, (character, at) => [character, 0x80 + at]));
 
@@ -52,9 +52,17 @@ function strange(code) {
   return new Fault('Character', character, `${character} (${name}) is not a character of Windows-1252`);
 }
 
+const ASCII = new TextDecoder();
+
+function isAscii(bytes) {
+  for (let at = 0; at < bytes.length; at++) if (bytes[at] > 0x7f) return false;
+  return true;
+}
+
 // The string that bytes are in Windows-1252. It has one character for each byte. Throws a TypeError for anything but bytes.
 export function toText(source) {
   const bytes = rawBytesOf(source, 'the source is not a Uint8Array or an ArrayBuffer');
+  if (isAscii(bytes)) return ASCII.decode(bytes);
   let text = '';
   for (let at = 0; at < bytes.length; at += 8192) text += String.fromCharCode.apply(null, bytes.subarray(at, at + 8192));
   return text.replace(/[\x80-\x9f]/g, (character) => HIGH[character.charCodeAt(0) - 0x80]);

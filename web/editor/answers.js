@@ -82,7 +82,7 @@ export const changedIn = cells().read;
 export const circles = () => listed('circles', placed);
 
 // How many words each light has left.
-export const counts = () => query('counts', (lines) => Uint32Array.from(lines, (line) => Number(fieldsOf(line)[2])));
+export const counts = () => query('counts', (lines) => Uint32Array.from(lines, (line) => Number(line.slice(line.lastIndexOf(' ') + 1))));
 
 // The texts as commands spell them, by field.
 export const texts = () => query('texts', (lines) => new Map(lines.map(textIn)));

@@ -1,9 +1,10 @@
 // The page: it joins the views with the session.
 import { Claim } from './claim.js';
+import { ClueBank } from './clue-bank.js';
 import { CluesView } from './clues.js';
 import { CrossingsView } from './crossings-view.js';
 import { DetailsView } from './details.js';
-import { openDialog } from './dialogs.js';
+import { askDialog, openDialog } from './dialogs.js';
 import { Editor } from './editor.js';
 import { Edits } from './edits.js';
 import { Facts, showFill, showKept } from './facts.js';
@@ -15,6 +16,7 @@ import { Fills } from './fills.js';
 import { GridView } from './grid.js';
 import { Helpers } from './helpers.js';
 import { whenIdle } from './idle.js';
+import { Leaving } from './leaving.js';
 import { LibraryView } from './library.js';
 import { ListsInUse } from './lists-in-use.js';
 import { leaveDialogsTo, takeActions, takeMenu, takeParts, toNextPane } from './menu.js';
@@ -58,9 +60,12 @@ function goTo(light, cell = light.cells[0]) {
 
 const soon = () => reasons.soon();
 const mayEdit = () => edits.mayEdit();
-const edits = new Edits(editor, { isFilling: () => filler.isRunning, soon, toGrid });
+const leaving = new Leaving();
+const kept = (takeBack) => leaving.kept(takeBack);
+const edits = new Edits(editor, { isFilling: () => filler.isRunning, soon, toGrid, kept, showTab: (name) => tabs.show(name) });
 const edit = (lines, options) => edits.edit(lines, options);
 const editText = (element, field) => edits.text(element, field);
+const leave = (event, edited) => edits.leave(event, edited);
 const toClue = (light) => tabs.toClue(light);
 
 // The views.
@@ -93,10 +98,14 @@ const words = new WordsView(
   },
 );
 $('candidates').addEventListener('scroll', () => words.scrolled());
+const bank = new ClueBank(editor);
 const clues = new CluesView(
   editor,
   { list: $('clue-list'), summary: $('clue-summary'), lengths: $('clue-lengths') },
-  { text: editText, texts: (texts) => edits.addLengths(texts), toGrid },
+  {
+    text: editText, texts: (texts) => edits.addLengths(texts), toGrid, use: (light, clue) => edits.useClue(light, clue), keep: (light) => edits.keepClue(light),
+    former: (word) => bank.of(word), leave,
+  },
 );
 const details = new DetailsView(
   editor,
@@ -104,7 +113,7 @@ const details = new DetailsView(
     panel: $('puzzle'), title: $('title'), author: $('author'), copyright: $('copyright'), notes: $('notes'), checks: $('checks'), counts: $('counts'),
     lengths: $('lengths'), frequency: $('frequency'), wordForm: $('word-form'), word: $('word'), changed: $('changed'),
   },
-  { edit, text: editText, toGrid, toClue, keepWord: (word, isHidden) => lists.keepWord(word, isHidden) },
+  { edit, text: editText, toGrid, toClue, leave, keepWord: (word, isHidden) => lists.keepWord(word, isHidden) },
 );
 const tabs = new Tabs(details, clues, toGrid);
 const themes = new ThemesView(
@@ -119,7 +128,7 @@ const themes = new ThemesView(
 const figures = new Figures(editor, { box: $('figures'), text: $('figures-text'), worst: $('figures-worst') }, (light) => goTo(light));
 const fills = new Fills(editor, { box: $('fills'), list: $('fills-list') }, mayEdit);
 const filler = new Filler(editor, helpers, fills, {
-  show: (progress) => showFill(progress, filler.isRunning, toGrid), explain: () => whenIdle(() => reasons.ask().catch(() => {})), proved: (proof) => figures.prove(proof),
+  show: (progress) => showFill(progress, filler.isRunning, toGrid), explain: () => whenIdle(() => reasons.ask().catch(() => {})), figures,
 });
 const nextLight = new NextLight(editor, faults, toGrid);
 
@@ -127,20 +136,33 @@ const nextLight = new NextLight(editor, faults, toGrid);
 
 const files = new Files(editor, {
   mayEdit, toGrid, toClue, opened: toGrid, changeLists: (changed, name, bytes) => lists.change(changed, name, bytes), addPuzzles: (text) => shelf.addAll(text),
+  saved: () => shelf.saved(), askRows,
 });
 files.takeDrops(document.body);
+// Asks whether rows of letters are a grid or a list.
+function askRows(name, rows) {
+  $('rows-told').textContent = `${name} has ${rows.length} lines of ${rows[0].length} letters: a grid, or a list of words?`;
+  return askDialog($('rows-dialog'));
+}
+
 const lists = new ListsInUse(editor, {
-  mayEdit, stop: () => filler.stop(), soon, shown: () => facts.show(), toGrid, save: (text, name) => files.saveText(text, name), unforeseen,
+  mayEdit, stop: () => filler.stop(), soon, shown: () => facts.show(), toGrid, save: (text, name) => files.saveText(text, name), unforeseen, kept,
 });
 const puzzles = new NewPuzzle(editor, { mayEdit, soon, toGrid, addVersion: () => shelf.addVersion() });
 const printing = new PrintDialog(editor);
 
+// whether the file that is being picked is to be a word list
+let isPickingList = false;
+
 $('picker').addEventListener('change', async () => {
-  for (const file of [...$('picker').files]) await files.open(file);
+  const isList = isPickingList;
+  isPickingList = false;
+  for (const file of [...$('picker').files]) await files.open(file, isList);
   $('picker').value = '';
 });
 
-function pick(accept) {
+function pick(accept, isList = false) {
+  isPickingList = isList;
   $('picker').accept = accept;
   $('picker').click();
 }
@@ -170,7 +192,7 @@ const ACTIONS = {
   'clues-csv': async () => files.saveClues('csv'),
   'clues-html': async () => files.saveClues('html'),
   'save-session': () => files.saveSession(),
-  list: () => pick('.txt,.dict,.csv,.tsv'),
+  list: () => pick('.txt,.dict,.csv,.tsv', true),
   'built-in': () => lists.change((now) => now.onlyBuiltIn()),
   print: () => printing.open(),
   undo: () => edits.step(true),
@@ -186,7 +208,7 @@ const ACTIONS = {
 
 const keys = () => ({
   f1: ACTIONS.help, f2: () => tabs.toField('words', 'filter'), f3: () => toClue(editor.light), f4: () => tabs.toField('puzzle', 'title'), f6: toNextPane,
-  escape: filler.isRunning || filler.isRaising ? () => filler.stop() : undefined,
+  escape: filler.isRunning || filler.isRaising ? () => filler.stop() : leaving.action,
 });
 
 takeActions(ACTIONS, { keys, takeTyped, unforeseen });
@@ -208,7 +230,7 @@ document.addEventListener('visibilitychange', () => document.hidden && takeTyped
 addEventListener('pagehide', takeTyped);
 
 const claim = new Claim();
-const shelf = new Shelf(editor, claim, () => files.saveSession());
+const shelf = new Shelf(editor, claim, bank, () => files.saveSession());
 const library = new LibraryView($('library-dialog'), $('library-list'), shelf, (session, isVersion) => puzzles.reopen(session, isVersion).catch(unforeseen));
 $('library-save').addEventListener('click', () => shelf.all().then((text) => files.saveText(text, 'puzzles.json')).catch(unforeseen));
 shelf.addEventListener('kept', (/** @type {CustomEvent} */ { detail }) => showKept(detail));

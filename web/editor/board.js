@@ -97,6 +97,15 @@ export class Board {
     return light.cells.every((cell) => this.cells[cell].letter);
   }
 
+  hasClue(light) {
+    return this.texts.has(`clue ${light.name}`);
+  }
+
+  // The name that records have for the clue of a light.
+  clueField(light) {
+    return `clue ${this.cells[light.cells[0]].coordinates} ${light.direction}`;
+  }
+
   // The first cell without a letter in reading order, or -1.
   firstEmpty() {
     return this.cells.findIndex((cell) => !cell.block && !cell.letter);

@@ -1,7 +1,12 @@
 // The tab of clues: one list of all lights, with a field for each.
 import { hasEnumeration, withEnumeration } from './enumeration.js';
+import { put } from './page.js';
 import { termed } from './terms.js';
 import { titleOf } from './words.js';
+import { staleClues, staleWord } from './written.js';
+
+// the most old clues that are offered for a word
+const MOST_OFFERED = 4;
 
 export class CluesView {
   /** @type {import('./editor.js').Editor} */
@@ -12,10 +17,15 @@ export class CluesView {
   #fields = new Map();
   #due = 0;
   #here = null;
+  // old clues for the word of the cursor's light, and what they are shown for
+  #offers = Object.assign(document.createElement('div'), { className: 'offers', hidden: true });
+  #offered = '';
   // whether the tab is in sight
   isShown = false;
 
-  // `lengths` is the button that gives all clues an enumeration. `actions`: `text` sets the text of a field, `texts` those of several in one step.
+  // `lengths` is the button that gives all clues an enumeration. `actions`: `text` sets the text of a field, `texts` those of several in one step, `use`
+  // the clue of a light, `keep` keeps a clue for the word that is there, `former` promises the clues that a
+  // word had before, and `leave` leaves a field by Esc.
   constructor(editor, { list: root, summary, lengths }, actions) {
     this.#editor = editor;
     this.#root = root;
@@ -23,9 +33,9 @@ export class CluesView {
     this.#lengths = lengths;
     this.actions = actions;
     lengths.addEventListener('click', () => this.#addLengths());
-    root.addEventListener('click', (event) => this.#addLength(event.target.closest('.length')));
+    root.addEventListener('click', (event) => this.#click(event.target.closest('button')));
     root.addEventListener('input', (event) => this.#showLength(event.target));
-    editor.on(['board'], () => this.draw());
+    editor.on(['board', 'written'], () => this.draw());
     editor.on(['letters'], () => this.#wordsSoon());
     editor.on(['cursor'], () => this.#mark());
     root.addEventListener('keydown', (event) => this.#key(event));
@@ -75,6 +85,8 @@ export class CluesView {
   #make(names) {
     this.names = names;
     this.#fields.clear();
+    this.#offered = '';
+    this.#offers.hidden = true;
     const part = (direction, title) => {
       const heading = document.createElement('h3');
       heading.textContent = title;
@@ -103,8 +115,10 @@ export class CluesView {
     length.title = 'Put the length at the end of the clue';
     length.setAttribute('aria-label', `put (${light.cells.length}) at the end of the clue of ${titleOf(light)}`);
     length.tabIndex = -1;
-    row.append(number, word, field, length);
-    this.#fields.set(light.name, { row, word, field, length });
+    const note = Object.assign(document.createElement('span'), { className: 'written', id: `written-${light.number}-${light.direction}` });
+    field.setAttribute('aria-describedby', note.id);
+    row.append(number, word, field, length, note);
+    this.#fields.set(light.name, { row, word, field, length, note, stale: '' });
     return row;
   }
 
@@ -114,10 +128,20 @@ export class CluesView {
     if (length) length.disabled = !field.value.trim() || hasEnumeration(field.value);
   }
 
-  // Puts the length of a light at the end of its clue, and selects it, so that another one can be typed over it, such as 3,5.
-  #addLength(button) {
+  #click(button) {
     if (!button) return;
-    const field = button.previousElementSibling;
+    const { keep, drop, use } = button.dataset;
+    if (button.className === 'length') return this.#addLength(button.previousElementSibling);
+    const light = this.#editor.board.byName.get(keep ?? drop ?? use);
+    if (!light) return;
+    // the button goes
+    this.#fields.get(light.name).field.focus();
+    if (keep) this.actions.keep(light);
+    else this.actions.use(light, drop ? '' : button.textContent);
+  }
+
+  // Puts the length of a light at the end of its clue, and selects it, so that another one can be typed over it, such as 3,5.
+  #addLength(field) {
     field.value = withEnumeration(field.value, this.#editor.board.byName.get(field.dataset.light).cells.length);
     this.#showLength(field);
     this.#change(field);
@@ -135,8 +159,7 @@ export class CluesView {
 
   #addLengths() {
     const { board } = this.#editor;
-    const fieldOf = (light) => `clue ${board.cells[light.cells[0]].coordinates} ${light.direction}`;
-    return this.actions.texts(this.#withoutLengths.map((light) => [fieldOf(light), withEnumeration(this.#fields.get(light.name).field.value, light.cells.length)]));
+    return this.actions.texts(this.#withoutLengths.map((light) => [board.clueField(light), withEnumeration(this.#fields.get(light.name).field.value, light.cells.length)]));
   }
 
   // Letters come one after another: the words are shown once for those of a frame, and only in sight.
@@ -159,11 +182,42 @@ export class CluesView {
     const { board } = this.#editor;
     for (const light of board.lights) {
       const { word } = this.#fields.get(light.name);
-      word.textContent = board.spell(light).replaceAll('.', '·');
+      put(word, 'textContent', board.spell(light).replaceAll('.', '·'));
       word.classList.toggle('entered', board.isEntered(light));
+      this.#showWritten(light);
     }
-    const lacking = board.lights.filter((light) => !board.texts.has(`clue ${light.name}`)).length;
-    this.#summary.textContent = termed(lacking ? `${board.lights.length - lacking} of ${board.lights.length} lights have a clue` : 'every light has a clue');
+    const lacking = board.lights.filter((light) => !board.hasClue(light)).length;
+    const stale = staleClues(this.#editor).length;
+    const told = lacking ? `${board.lights.length - lacking} of ${board.lights.length} lights have a clue` : 'every light has a clue';
+    put(this.#summary, 'textContent', termed(stale ? `${told}; ${stale} ${stale === 1 ? 'is' : 'are'} for another word` : told));
+    this.#offer();
+  }
+
+  // Marks a clue that was written for another word, with what can be done.
+  #showWritten(light) {
+    const { board, written } = this.#editor;
+    const entry = this.#fields.get(light.name);
+    const word = staleWord(board, light, written);
+    if (entry.stale === word) return;
+    entry.stale = word;
+    entry.row.classList.toggle('stale', Boolean(word));
+    entry.note.replaceChildren(...(word ? [`Written for ${word}: `, dataButton('Keep', { keep: light.name }), ' ', dataButton('Drop', { drop: light.name })] : []));
+  }
+
+  // Offers the clues that the word of the cursor's light had before, if it has none, or one for another word.
+  async #offer() {
+    const { board, light, written } = this.#editor;
+    const isDue = this.isShown && light && board.isEntered(light) && (!board.hasClue(light) || staleWord(board, light, written));
+    const offered = isDue ? [light.name, board.spell(light), board.hasClue(light)].join() : '';
+    if (offered === this.#offered) return;
+    this.#offered = offered;
+    this.#offers.hidden = true;
+    const clues = isDue ? await this.actions.former(board.spell(light)) : [];
+    if (offered !== this.#offered || !clues.length) return;
+    const buttons = clues.slice(0, MOST_OFFERED).map((clue) => dataButton(clue, { use: light.name }));
+    this.#offers.replaceChildren(`Clues for ${board.spell(light)} before: `, ...buttons);
+    this.#fields.get(light.name)?.row.after(this.#offers);
+    this.#offers.hidden = false;
   }
 
   #mark() {
@@ -171,6 +225,7 @@ export class CluesView {
     const here = (light && this.#fields.get(light.name)) ?? null;
     if (here !== this.#here) this.#here?.row.classList.remove('here');
     this.#here = here;
+    this.#offer();
     if (!here) return;
     here.row.classList.add('here');
     if (!this.isShown) return;
@@ -184,10 +239,8 @@ export class CluesView {
 
   #key(event) {
     const step = { Enter: event.shiftKey ? -1 : 1, ArrowDown: 1, ArrowUp: -1 }[event.key];
-    if (event.key === 'Escape') {
-      event.target.value = event.target.dataset.kept;
-      this.actions.toGrid();
-    }
+    if (!event.target.dataset.light) return;
+    if (event.key === 'Escape') this.actions.leave(event, this.#change(event.target));
     if (!step || event.isComposing) return;
     event.preventDefault();
     const fields = [...this.#root.querySelectorAll('input')];
@@ -206,26 +259,37 @@ export class CluesView {
 
   #lacking() {
     const { board } = this.#editor;
-    return board.lights.find((light) => !board.texts.has(`clue ${light.name}`)) ?? board.lights[0];
+    return board.lights.find((light) => !board.hasClue(light)) ?? board.lights[0];
   }
 
-  async #change(field) {
-    if (field.value === field.dataset.kept) return;
-    field.value = field.value.trim();
+  // Takes over what a field holds, and promises what it is refused for, or null. Returns null if the clue is that already.
+  #change(field) {
     const light = this.#editor.board.byName.get(field.dataset.light);
-    if (!light) return;
-    const { name, cells, direction } = light;
+    if (!light || field.value === field.dataset.kept) return null;
+    field.value = field.value.trim();
+    return this.#send(field, light);
+  }
+
+  async #send(field, light) {
+    const { name } = light;
     const count = (step) => this.#underWay.set(name, (this.#underWay.get(name) ?? 0) + step).get(name);
     count(1);
-    const refused = await this.actions.text(field, `clue ${this.#editor.board.cells[cells[0]].coordinates} ${direction}`);
-    if (count(-1)) return;
+    const refused = await this.actions.text(field, this.#editor.board.clueField(light));
+    if (count(-1)) return refused;
     this.#underWay.delete(name);
     const now = this.#editor.board.byName.get(name);
     // what was refused stays in its field, so that it can be tried again
     if (refused) field.dataset.kept = this.#editor.textOf(`clue ${name}`);
     else if (now) this.#showText(now);
     this.#lengths.disabled = !this.#withoutLengths.length;
+    return refused;
   }
+}
+
+function dataButton(text, data) {
+  const button = Object.assign(document.createElement('button'), { type: 'button', textContent: text });
+  Object.assign(button.dataset, data);
+  return button;
 }
 
 // Scrolls a box so that an element of it is in sight, and nothing around the box.

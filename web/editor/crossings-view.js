@@ -1,5 +1,6 @@
 // The lights that cross the one under the cursor, with their letters and the number of words that each has left.
 import { onceIdle } from './idle.js';
+import { put } from './page.js';
 import { titleOf } from './words.js';
 
 export class CrossingsView {
@@ -31,12 +32,14 @@ export class CrossingsView {
       const { root, name, word, count } = this.#rows[at];
       if (!root.parentElement) list.append(root);
       const isEntered = board.isEntered(other);
-      Object.assign(root.dataset, { light: other.name, cell });
-      put(name, titleOf(other));
-      put(word, board.spell(other).replaceAll('.', '·'));
-      put(count, isEntered ? '' : other.count.toLocaleString('en'));
-      root.className = `crossing${isEntered ? ' entered' : other.count ? '' : ' dead'}`;
-      root.setAttribute('aria-label', isEntered ? `${titleOf(other)}, ${board.spell(other)}` : `${titleOf(other)}, ${other.count} words left`);
+      put(root.dataset, 'light', other.name);
+      put(root.dataset, 'cell', String(cell));
+      put(name, 'textContent', titleOf(other));
+      put(word, 'textContent', board.spell(other).replaceAll('.', '·'));
+      put(count, 'textContent', isEntered ? '' : other.count.toLocaleString('en'));
+      put(root, 'className', `crossing${isEntered ? ' entered' : other.count ? '' : ' dead'}`);
+      const label = isEntered ? `${titleOf(other)}, ${board.spell(other)}` : `${titleOf(other)}, ${other.count} words left`;
+      if (root.getAttribute('aria-label') !== label) root.setAttribute('aria-label', label);
     });
   }
 }
@@ -45,8 +48,4 @@ function makeCrossing() {
   const root = Object.assign(document.createElement('button'), { type: 'button' });
   const [name, word, count] = ['b', 'span', 'small'].map((kind) => root.appendChild(document.createElement(kind)));
   return { root, name, word, count };
-}
-
-function put(element, text) {
-  if (element.textContent !== text) element.textContent = text;
 }

@@ -6,6 +6,7 @@ import { refuse, say } from './messages.js';
 import { warningsOf } from './rules.js';
 import { termed } from './terms.js';
 import { titleOf } from './words.js';
+import { staleClues } from './written.js';
 
 // how long after an edit counts are asked for, in milliseconds
 const SETTLED = 200;
@@ -21,11 +22,11 @@ export class DetailsView {
     this.#elements = elements;
     this.actions = actions;
     editor.on(['board'], () => this.#takeTexts());
-    editor.on(['step'], () => this.#soon());
+    editor.on(['step', 'written'], () => this.#soon());
     for (const field of ['title', 'author', 'copyright', 'notes']) {
       elements[field].addEventListener('change', () => this.#change(field));
       elements[field].addEventListener('keydown', (event) => {
-        if (event.key === 'Escape') actions.toGrid();
+        if (event.key === 'Escape') actions.leave(event, this.#change(field));
       });
     }
     elements.wordForm.addEventListener('submit', (event) => {
@@ -49,13 +50,14 @@ export class DetailsView {
     }
   }
 
+  // Takes over what a field holds, and promises what it is refused for, or null. Returns null if the text is that already.
   #change(field) {
     const element = this.#elements[field];
-    if (element.value === element.dataset.kept) return;
+    if (element.value === element.dataset.kept) return null;
     element.value = element.value.trim();
     // what is typed after it stays when the answer comes
     element.dataset.text = element.value;
-    this.actions.text(element, field);
+    return this.actions.text(element, field);
   }
 
   #soon() {
@@ -97,10 +99,15 @@ export class DetailsView {
       item.append(button('Add it', { add: word }), button('Erase it', { erase: light.name }));
       items.push(item);
     }
-    const lacking = board.lights.filter((light) => !board.texts.has(`clue ${light.name}`));
+    const lacking = board.lights.filter((light) => !board.hasClue(light));
     if (lacking.length) {
       const text = lacking.length === 1 ? `${titleOf(lacking[0])} has no clue` : `${lacking.length} lights have no clue`;
       items.push(check(text, lacking[0].name, 'clue'));
+    }
+    const stale = staleClues(this.#editor);
+    if (stale.length) {
+      const [{ light, word }] = stale;
+      items.push(check(stale.length === 1 ? `the clue of ${titleOf(light)} was written for ${word}` : `${stale.length} clues were written for other words`, light.name, 'clue'));
     }
     const empty = board.firstEmpty();
     if (empty >= 0) {
@@ -117,7 +124,7 @@ export class DetailsView {
       item.append(button(`⚠ ${warning.text}`, { ...place, ...(warning.isClue && { tab: 'clue' }) }));
       items.push(item);
     }
-    if (!items.length) items.push(element('li', 'Nothing is missing: no repeat, no unlisted word, no empty cell, a clue for each light.', 'good'));
+    if (!items.length) items.push(element('li', 'Nothing is missing: no repeat, no unlisted word, no empty cell, a clue for each light and its word.', 'good'));
     this.#elements.checks.replaceChildren(...items);
   }
 

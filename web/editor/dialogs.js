@@ -5,3 +5,9 @@ export function openDialog(dialog) {
   dialog.returnValue = '';
   dialog.showModal();
 }
+
+// Opens a dialog, and promises its answer: the value of the button that was pressed, or '' after Esc.
+export function askDialog(dialog) {
+  openDialog(dialog);
+  return new Promise((resolve) => dialog.addEventListener('close', () => resolve(dialog.returnValue), { once: true }));
+}

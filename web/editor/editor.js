@@ -6,8 +6,10 @@ import { refusalText, refuse } from './messages.js';
 import { EditorState, NO_REASON, newPuzzleName, only } from './state.js';
 import { whenIdle } from './idle.js';
 import { useTermsOf } from './terms.js';
+import { adopted, withoutWords } from './written.js';
 
 /** @typedef {import('./state.js').Step} Step */
+/** @typedef {import('./state.js').Place} Place */
 /** @typedef {import('./answers.js').Direction} Direction */
 
 const MOST_STEPS = 5000;
@@ -35,11 +37,12 @@ export class Editor extends EditorState {
     this.engine = new Engine(makeWorker, () => this.#restart());
   }
 
-  async begin(module, list, { record, pencil, puzzle, originals = [] }) {
+  async begin(module, list, { record, pencil, puzzle, originals = [], written = [] }) {
     this.module = module;
     await this.engine.call('load', { bytes: module });
     await this.#open(list, record);
-    this.change({ board: this.board, pencil: new Set(pencil), originals: new Map(originals), puzzle: puzzle ?? this.puzzle });
+    const words = adopted(this.board, new Map(written));
+    this.change({ board: this.board, pencil: new Set(pencil), originals: new Map(originals), written: words, puzzle: puzzle ?? this.puzzle });
     this.#now = this.#state(this.record);
   }
 
@@ -47,7 +50,9 @@ export class Editor extends EditorState {
   get state() {
     const end = this.#due.indexOf(null);
     const lines = (end < 0 ? this.#due : this.#due.slice(0, end)).flat();
-    return { ...this.#state([this.record, ...lines.map((line) => `${line}\n`)].join('')), originals: [...this.dueOriginals] };
+    // a clue that is under way has its word when it is there
+    const written = [...this.written].filter(([field]) => !lines.some((line) => line.startsWith(`text ${field} `)));
+    return { ...this.#state([this.record, ...lines.map((line) => `${line}\n`)].join('')), originals: [...this.dueOriginals], written };
   }
 
   // The texts as they were typed, with those of the edits that are under way.
@@ -113,7 +118,13 @@ export class Editor extends EditorState {
 
   /** @returns {Step} */
   #state(record) {
-    return { puzzle: this.puzzle, record, pencil: [...this.pencil], originals: [...this.originals], cursor: this.cursor, direction: this.direction };
+    const { puzzle, pencil, originals, written } = this;
+    return { puzzle, record, pencil: [...pencil], originals: [...originals], written: [...written], ...this.#place };
+  }
+
+  /** @returns {Place} */
+  get #place() {
+    return { cursor: this.cursor, direction: this.direction };
   }
 
   // The text of a field (`title` or `clue N DIR`) as it was typed.
@@ -121,7 +132,7 @@ export class Editor extends EditorState {
     const { board } = this;
     const text = unescapeText(board.texts.get(field) ?? '');
     const light = field.startsWith('clue ') ? board.byName.get(field.slice('clue '.length)) : null;
-    const original = this.originals.get(light ? `clue ${board.cells[light.cells[0]].coordinates} ${light.direction}` : field);
+    const original = this.originals.get(light ? board.clueField(light) : field);
     return original !== undefined && nearestText(original).near === text ? original : text;
   }
 
@@ -141,19 +152,22 @@ export class Editor extends EditorState {
 
   // Sends lines as one step of the history. If one is refused, all are taken back, and its name is returned.
   // The answer is shown before the record is read. Edits of one `stroke`, as a drag is, are one step. With `only`, the lines belong to the step
-  // before, and are sent only if the record is this one still; else the answer is `Changed`.
+  // before, and are sent only if the record is this one still; else the answer is `Changed`. `rewritten` names the clues that are for other words now.
+  // The step is `at` a place, or else at that of the cursor, and the cursor is at `to` after it.
   /**
    * @param {string[]} lines
    * @param {{
-   *   isWhole?: boolean, pencil?: Set<string> | null, originals?: Map<string, string> | null, stroke?: object | null, only?: string | null,
+   *   isWhole?: boolean, pencil?: Set<string> | null, originals?: Map<string, string> | null, rewritten?: string[], stroke?: object | null, only?: string | null,
+   *   at?: Place, to?: Place,
    * }} options
    * @returns {Promise<string | null>}
    */
   edit(lines, options = {}) {
     if (options.originals) this.#dueOriginals.push(options.originals);
+    const { at = this.#place, to = at } = options;
     return this.inOrder(async () => {
       try {
-        return await this.#edit(lines, options);
+        return await this.#edit(lines, { from: at, to }, options);
       } catch (fault) {
         return fault.status ?? 'Engine';
       } finally {
@@ -162,7 +176,7 @@ export class Editor extends EditorState {
     }, lines);
   }
 
-  async #edit(lines, { isWhole = true, pencil = null, originals = null, stroke = null, only = null }) {
+  async #edit(lines, places, { isWhole = true, pencil = null, originals = null, rewritten = [], stroke = null, only = null }) {
     if (only !== null && only !== this.record) return 'Changed';
     const told = await this.engine.call('edit', { lines, isWhole });
     const refused = told.answers.find(({ refusal }) => refusal)?.refusal ?? null;
@@ -172,14 +186,15 @@ export class Editor extends EditorState {
       return refused;
     }
     this.#unmark();
-    this.hold({ pencil: pencil ?? this.pencil, originals: originals ?? this.originals });
+    this.hold({ ...(pencil && { pencil }), ...(originals && { originals }) });
     if (isWhole) this.#takeWhole(told);
     else this.#takeLetters(lines, told);
     if (!isWhole) await this.#idle();
     const record = await this.engine.call('record');
     this.hold({ record, ...(isWhole && { sym: parseRecord(record).sym }) });
-    if (only === null) this.#step(stroke);
-    else this.#arrive(this.#state(this.record));
+    this.#adopt(withoutWords(this.written, rewritten));
+    if (only === null) this.#step(places, stroke);
+    else this.#arrive({ ...this.#state(this.record), ...placesOf(this.#now) });
     return null;
   }
 
@@ -216,15 +231,24 @@ export class Editor extends EditorState {
     if (this.pencil.has(coordinates)) this.hold({ pencil: only(this.pencil, (other) => other !== coordinates) });
   }
 
+  // Gives clues that have no word yet those of their lights.
+  #adopt(written) {
+    const now = adopted(this.board, written);
+    if (now !== this.written) this.hold({ written: now });
+  }
+
   // the stroke of the last step
   #stroke = null;
 
-  #step(stroke = null) {
-    const now = this.#state(this.record);
-    const isSameState = ['record', 'pencil', 'originals'].every((part) => String(now[part]) === String(this.#now[part] ?? ''));
-    if (!isSameState) {
-      const isLonger = stroke && stroke === this.#stroke;
-      if (!isLonger) this.#past.push(this.#now);
+  /** @param {{ from: Place, to: Place }} places */
+  #step({ from, to }, stroke = null) {
+    const now = { ...this.#state(this.record), ...to, from };
+    const isSameState = ['record', 'pencil', 'originals', 'written'].every((part) => String(now[part]) === String(this.#now[part] ?? ''));
+    const isLonger = stroke && stroke === this.#stroke;
+    if (isSameState) Object.assign(now, placesOf(this.#now));
+    else {
+      if (isLonger) now.from = this.#now.from;
+      else this.#past.push(this.#now);
       if (this.#past.length > MOST_STEPS) this.#past.shift();
       this.#future = [];
       this.#stroke = stroke;
@@ -241,7 +265,7 @@ export class Editor extends EditorState {
   }
 
   // Leads the engine to a record, and checks that it is there. The cursor goes with it to another place, unless it was moved meanwhile.
-  /** @param {{ cursor: number, direction: Direction }} place */
+  /** @param {Place} place */
   async #goTo(record, place = this) {
     const { cursor, direction } = this;
     const now = await this.engine.call('record');
@@ -282,40 +306,46 @@ export class Editor extends EditorState {
     return this.#future.length > 0;
   }
 
+  // Goes back to where the cursor was before the last step.
   undo() {
-    return this.#move(() => this.#past, () => this.#future);
+    return this.#move(() => this.#past, () => this.#future, () => this.#now.from);
   }
 
+  // Goes forth to where the cursor was after the next step.
   redo() {
-    return this.#move(() => this.#future, () => this.#past);
+    return this.#move(() => this.#future, () => this.#past, (state) => state);
   }
 
-  #move(from, to) {
+  // Returns the two steps, or null if there is none to go to.
+  #move(from, to, placeOf) {
     return this.inOrder(async () => {
-      const state = from().pop();
-      if (!state) return false;
+      const [before, state] = [this.#now, from().pop()];
+      if (!state) return null;
       this.#stroke = null;
-      to().push(this.#now);
-      await this.#take(state);
-      return true;
+      const place = placeOf(state) ?? state;
+      to().push(before);
+      await this.#take(state, place);
+      return { before, now: this.#now };
     });
   }
 
-  async #take(state) {
-    this.hold({ pencil: new Set(state.pencil), originals: new Map(state.originals) });
+  async #take(state, place) {
+    this.hold({ pencil: new Set(state.pencil), originals: new Map(state.originals), written: new Map(state.written) });
     // the board that is here may not have that cell
-    await this.#goTo(state.record, state);
+    await this.#goTo(state.record, place);
     this.hold({ puzzle: state.puzzle, edited: null });
     this.#arrive({ ...state, record: this.record });
   }
 
   // Goes to another puzzle as one step, such as that of a file.
-  replace({ record, pencil = [], originals = [], puzzle = newPuzzleName() }) {
+  replace({ record, pencil = [], originals = [], written = [], puzzle = newPuzzleName() }) {
+    const from = this.#place;
     return this.inOrder(async () => {
       this.hold({ pencil: new Set(pencil), originals: new Map(originals), chosen: new Set() });
       await this.#goTo(record);
       this.hold({ puzzle, cursor: Math.max(0, this.board.cells.findIndex((cell) => !cell.block)), direction: 'across', edited: null });
-      this.#step();
+      this.#adopt(new Map(written));
+      this.#step({ from, to: this.#place });
       this.change({ board: this.board });
     });
   }
@@ -326,7 +356,7 @@ export class Editor extends EditorState {
       const old = this.list;
       try {
         await this.#open(list, this.record);
-        this.#now = this.#state(this.record);
+        this.#now = { ...this.#state(this.record), ...placesOf(this.#now) };
         this.change({ step: undefined });
         return null;
       } catch (fault) {
@@ -354,13 +384,23 @@ export class Editor extends EditorState {
 
   // Takes back what lines did that are no step of the history, such as an unfinished fill.
   restore() {
-    return this.inOrder(() => this.#take({ ...this.#now, cursor: this.cursor, direction: this.direction }));
+    return this.inOrder(() => this.#take(this.#now, this));
   }
 
   setPencil(pencil, stroke = null) {
+    const place = this.#place;
     return this.inOrder(() => {
       this.change({ pencil, board: this.board });
-      this.#step(stroke);
+      this.#step({ from: place, to: place }, stroke);
+    });
+  }
+
+  // Says that the clue of a light is for the word that stands there, or for the next one that does.
+  keepClue(light) {
+    const place = { cursor: light.cells[0], direction: light.direction };
+    return this.inOrder(() => {
+      this.#adopt(withoutWords(this.written, [this.board.clueField(light)]));
+      this.#step({ from: place, to: place });
     });
   }
 
@@ -402,24 +442,29 @@ export class Editor extends EditorState {
   }
 
   moveTo(index, direction = this.direction) {
-    this.change(this.#placed(index, direction));
+    this.change(this.placed(index, direction));
   }
 
   // The cursor in a cell, in the direction of a light there.
-  #placed(cursor, direction) {
+  /** @returns {Place} */
+  placed(cursor, direction = this.direction) {
     const cell = this.board.cells[cursor];
     const other = direction === 'across' ? 'down' : 'across';
     return { cursor, direction: !cell[direction] && cell[other] ? other : direction };
   }
 
-  // Enters a letter ahead of the engine, or none, and moves the cursor. The next transaction tells it.
-  enter(index, letter, next) {
+  // Enters a letter ahead of the engine, or none, and moves the cursor to a place. The next transaction tells it.
+  enter(index, letter, place) {
     const { cells } = this.board;
     this.hold({ edited: { cell: index, direction: this.direction } });
     this.#takeInk(cells[index].coordinates);
     cells[index].letter = letter;
-    this.hold(next === index ? { cursor: index } : this.#placed(next, this.direction));
+    this.hold(place);
   }
 }
+
+// The places of a step.
+/** @param {Step} step */
+const placesOf = ({ cursor, direction, from }) => ({ cursor, direction, from });
 
 const isSame = (one, other) => bodyOf(one).join('\n') === bodyOf(other).join('\n');

@@ -1,13 +1,17 @@
 // What the user changes, and what is said of it.
+import { changeBeside } from './changed.js';
+import { enumerated } from './enumeration.js';
 import { endingMessage, refusalText, refuse, say, sayAsIs } from './messages.js';
 import { $ } from './page.js';
 import { escapeText, nearestText, strangeCharacter, textLines } from './record.js';
+import { titleOf } from './words.js';
 
 export class Edits {
   /** @type {import('./editor.js').Editor} */
   #editor;
 
-  // `actions`: `isFilling` tells whether a fill has the engine, `soon` looks for dead ends, `toGrid` goes to the grid.
+  // `actions`: `isFilling` tells whether a fill has the engine, `soon` looks for dead ends, `toGrid` goes to the grid, `showTab`
+  // shows a tab, `kept` is told what takes a text back that Esc keeps.
   constructor(editor, actions) {
     this.#editor = editor;
     this.actions = actions;
@@ -24,8 +28,10 @@ export class Edits {
   async edit(lines, options) {
     if (!this.mayEdit()) return 'Filling';
     const endMessage = endingMessage();
+    const clued = this.#cluesAt(lines);
     const refused = await this.#editor.edit(lines, options);
     if (!refused) {
+      this.#tellHidden(clued);
       if (options?.isWhole !== false || $('status').dataset.tone === 'bad') endMessage();
       // of several letters the last one tells
       if (!this.#editor.hasEdits) this.actions.soon();
@@ -36,6 +42,24 @@ export class Edits {
     // a block over letters is another thing to try
     if (!(options?.isBlock && refused === 'Occupied')) refuse(refusalText(refused));
     return refused;
+  }
+
+  // The lights with clues before lines that change blocks or bars, by the names that records have for the clues.
+  #cluesAt(lines) {
+    const { board } = this.#editor;
+    const isOfGrid = lines.some((line) => /^(block|bar) /.test(line));
+    return isOfGrid ? new Map(board.lights.filter((light) => board.hasClue(light)).map((light) => [board.clueField(light), titleOf(light)])) : new Map();
+  }
+
+  // Says which clues have no light any more. They are kept for it.
+  #tellHidden(clued) {
+    if (!clued.size) return;
+    const { board } = this.#editor;
+    const there = new Set(board.lights.map((light) => board.clueField(light)));
+    const [first, ...others] = [...clued].filter(([field]) => !there.has(field)).map(([, title]) => title);
+    if (!first) return;
+    const hidden = others.length ? `${others.length + 1} clues are hidden, since their lights are gone` : `the clue of ${first} is hidden, since its light is gone`;
+    refuse(`${hidden}: undo brings ${others.length ? 'them' : 'it'} back`);
   }
 
   // Sets a text to what an element holds; returns what it is refused for, or null.
@@ -51,13 +75,48 @@ export class Edits {
   // Sets the texts of fields in one step. The engine gets near characters for those that it cannot keep.
   #texts(texts) {
     const originals = new Map(this.#editor.dueOriginals);
+    const rewritten = texts.filter(([field, typed]) => this.#isRewritten(field, typed)).map(([field]) => field);
+    const light = texts.length === 1 ? this.#lightOf(texts[0][0]) : null;
     const lines = texts.flatMap(([field, typed]) => {
       const { near, count } = nearestText(typed);
       if (count) originals.set(field, typed);
       else originals.delete(field);
       return textLines(field, escapeText(near));
     });
-    return this.edit(lines, { originals });
+    return this.edit(lines, { originals, rewritten, ...(light && { at: { cursor: light.cells[0], direction: light.direction } }) });
+  }
+
+  // The light of a clue, by the name that records have for it; or null.
+  #lightOf(field) {
+    const [, row, column, direction] = field.split(' ');
+    return (direction && this.#editor.board.at(`${row} ${column}`)?.[direction]) || null;
+  }
+
+  // Whether a clue says something else than before: a length at its end says nothing of another word.
+  #isRewritten(field, typed) {
+    const light = this.#lightOf(field);
+    const said = (text) => enumerated(text, 0).text.trim();
+    return Boolean(light) && said(typed) !== said(this.#editor.textOf(`clue ${light.name}`));
+  }
+
+  // Keeps the clue of a light for the word that is there now.
+  async keepClue(light) {
+    if (this.mayEdit()) await this.#editor.keepClue(light);
+  }
+
+  // Gives a light another clue, or none.
+  useClue(light, clue) {
+    return this.#texts([[this.#editor.board.clueField(light), clue]]);
+  }
+
+  // Leaves a field of texts by Esc. `edited` promises what its edit is refused for, or is null if there is none. Another Esc takes the edit back.
+  leave(event, edited) {
+    this.actions.toGrid();
+    if (!edited) return;
+    event.stopPropagation();
+    this.actions.kept(async () => {
+      if (!(await edited)) await this.#editor.undo();
+    });
   }
 
   // Gives clues the lengths of their words.
@@ -95,6 +154,20 @@ export class Edits {
     const done = await (isBack ? this.#editor.undo() : this.#editor.redo());
     if (!done) return say(isBack ? 'there is nothing to undo' : 'there is nothing to redo');
     endMessage();
+    this.#showChange(done, isBack);
     this.actions.soon();
+  }
+
+  // Shows the tab of a step that changes nothing in the grid, and says what it changes.
+  #showChange({ before, now }, isBack) {
+    const { board } = this.#editor;
+    const titled = (coordinates, direction) => {
+      const light = board.at(coordinates)?.[direction];
+      return light ? titleOf(light) : 'a light that is gone';
+    };
+    const change = changeBeside(before, now, titled);
+    if (!change) return;
+    if (change.tab) this.actions.showTab(change.tab);
+    say(`${isBack ? 'undone' : 'done again'}: ${change.text}`);
   }
 }

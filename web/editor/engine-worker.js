@@ -1,5 +1,5 @@
 // The engine in a worker: it answers the messages of engine.js, edits in order and ahead of queries that wait.
-import { Xw, load, toText } from '../xw.js';
+import { Xw, load, toBytes, toText } from '../xw.js';
 import * as answers from './answers.js';
 import { MOST, UNSCORED, gradeOf } from './grades.js';
 import { letterIn, lettersOf, withoutLeast } from './record.js';
@@ -20,6 +20,9 @@ const ask = (line) => xw.line(line);
  * @param {import('./answers.js').Query<T>} query
  */
 const asked = ({ line, read }) => read(ask(line).lines);
+
+// Sends an edit whose answer nobody reads. Returns whether it is refused.
+const isRefused = (line) => xw.answer(toBytes(line)).status === 'Refused';
 
 const counts = () => asked(answers.counts());
 
@@ -44,13 +47,14 @@ function probe({ light, words, cleared = {} }) {
   // an edit was ahead of this query, and the light is gone
   if (!here) return { left: {}, taken: {} };
   const isDead = deadWithout(here);
+  const isOpen = openWith(here, lights);
   const standing = Object.keys(cleared).length ? lettersIn(lights) : new Map();
   const entered = (coordinates) => ({ coordinates, letter: standing.get(coordinates) ?? '.' });
   const [left, taken] = [{}, {}];
   for (const word of words) {
     const gone = (cleared[word] ?? [[]]).map((cells) => cells.map(entered).filter(({ letter }) => letter !== '.'));
     taken[word] = gone.findIndex((cells) => {
-      left[word] = leftAfter(here, word, cells, isDead);
+      left[word] = leftAfter(here, word, cells, (at) => isOpen(at, cells) && !isDead[at]);
       return left[word] !== 0;
     });
     if (performance.now() > end) break;
@@ -60,6 +64,15 @@ function probe({ light, words, cleared = {} }) {
 
 // The letters of all lights, by coordinates.
 const lettersIn = (lights) => new Map(lights.flatMap(answers.cellsOf).map(({ coordinates, letter }) => [coordinates, letter]));
+
+// Tells by the number of a light whether it has an empty cell after a word is placed in the given one, and other cells are cleared.
+function openWith(light, lights) {
+  const own = new Set(answers.cellsOf(light).map(({ coordinates }) => coordinates));
+  const cells = lights.map((other) => answers.cellsOf(other).map(({ coordinates, letter }) => ({ coordinates, isEmpty: letter === '.' && !own.has(coordinates) })));
+  const isOpen = cells.map((some) => some.some(({ isEmpty }) => isEmpty));
+  const isCleared = (at, cleared) => cells[at].some(({ coordinates }) => !own.has(coordinates) && cleared.some((cell) => cell.coordinates === coordinates));
+  return (at, cleared) => isOpen[at] || (cleared.length > 0 && isCleared(at, cleared));
+}
 
 // Whether each light has no word whatever stands in the given one, as where the dead end is in another part of the grid.
 function deadWithout(light) {
@@ -74,21 +87,19 @@ function deadWithout(light) {
 }
 
 function clear(cells) {
-  for (const { coordinates } of cells) ask(`clear ${coordinates}`);
+  for (const { coordinates } of cells) isRefused(`clear ${coordinates}`);
 }
 
 function putBack(cells) {
-  for (const { coordinates, letter } of cells) ask(letter === '.' ? `clear ${coordinates}` : `set ${coordinates} ${letter}`);
+  for (const { coordinates, letter } of cells) isRefused(letter === '.' ? `clear ${coordinates}` : `set ${coordinates} ${letter}`);
 }
 
-// The fewest words that a light has after a word is placed in one and letters elsewhere are cleared, or that this fills the grid.
-function leftAfter(light, word, cleared, isDead) {
+// The fewest words that one of some lights has after a word is placed in one and letters elsewhere are cleared, or that this fills the grid.
+// `isCounted` tells by the number of a light whether it is one of them.
+function leftAfter(light, word, cleared, isCounted) {
   clear(cleared);
-  const isRefused = ask(`place ${light.name} ${word}`).refusal !== null;
-  const open = isRefused ? [] : asked(answers.lights()).map((other) => !answers.isWhole(other));
-  const left = counts().filter((_, at) => open[at] && !isDead[at]);
+  const left = isRefused(`place ${light.name} ${word}`) ? [0] : counts().filter((_, at) => isCounted(at));
   putBack([...answers.cellsOf(light), ...cleared]);
-  if (isRefused) return 0;
   return left.length ? Math.min(...left) : 'done';
 }
 

@@ -5,6 +5,7 @@ import { say } from './messages.js';
 import { $, put } from './page.js';
 import { termed } from './terms.js';
 import { wordCount } from './word-list.js';
+import { staleClues } from './written.js';
 
 export class Facts {
   /** @type {import('./editor.js').Editor} */
@@ -12,7 +13,7 @@ export class Facts {
 
   constructor(editor) {
     this.#editor = editor;
-    editor.on(['step'], () => whenIdle(() => this.show()));
+    editor.on(['step', 'written'], () => whenIdle(() => this.show()));
     editor.on(['board'], () => this.show());
     editor.on(['board', 'chosen'], () => this.#showChosen());
   }
@@ -35,8 +36,9 @@ export class Facts {
 
   // What comes after a fill.
   #showDone(lacking) {
-    const { lights, texts } = this.#editor.board;
-    const clued = lights.filter((light) => texts.has(`clue ${light.name}`)).length;
+    const { board } = this.#editor;
+    const { lights } = board;
+    const clued = lights.filter((light) => board.hasClue(light)).length - staleClues(this.#editor).length;
     put($('done'), 'hidden', lacking > 0 || !lights.length);
     const clues = clued === lights.length ? ', and have clues' : `. Clues: ${clued} of ${lights.length}`;
     put($('done-text'), 'textContent', `All ${lights.length} words are in${clues}`);

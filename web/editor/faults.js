@@ -3,6 +3,7 @@ import { dups, unlisted } from './answers.js';
 import { gradeOf } from './grades.js';
 import { whenIdle } from './idle.js';
 import { parseRecord } from './record.js';
+import { isSameSet } from './state.js';
 import { readPersonal } from './word-list.js';
 
 // Why words that stand in the grid are not in use, each in a few words: they are hidden, have a score below the least one, or are in no list.
@@ -49,7 +50,8 @@ export class Faults extends EventTarget {
     if (turn !== this.#turn) return;
     this.unlisted = new Map(found.map(({ name, word }, at) => [name, { word, why: whys[at] }]));
     this.repeated = new Map(repeated.map(({ name, first }) => [name, first.name]));
-    this.#editor.change({ faulty: this.#editor.board.cellsOf([...this.unlisted.keys(), ...this.repeated.keys()]) });
+    const faulty = this.#editor.board.cellsOf([...this.unlisted.keys(), ...this.repeated.keys()]);
+    if (!isSameSet(faulty, this.#editor.faulty)) this.#editor.change({ faulty });
     this.dispatchEvent(new Event('told'));
   }
 

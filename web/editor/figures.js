@@ -1,5 +1,5 @@
 // How good the words in the grid are: the worst, the mean, and how many are weak, which are marked; and what is proved of fills.
-import { figuresOf, figuresText, gradeOf, scoreOf } from './grades.js';
+import { MOST, figuresOf, figuresText, gradeOf, scoreOf } from './grades.js';
 import { whenIdle } from './idle.js';
 import { wordsOf } from './record.js';
 import { termed } from './terms.js';
@@ -16,7 +16,8 @@ export class Figures {
   #figures = null;
   /** @type {Map<string, number>} */
   #scores = new Map();
-  // what is proved: { bound, names, key }, a grade at which there is no fill of the lights with these names, or of all lights
+  // what is proved: { bound, names, fixed, key }, a grade at which there is no fill of the lights with these names, or of all lights, around letters that
+  // were fixed, by coordinates
   #proof = null;
 
   // `elements` are the box, the text in it, and the button that goes to the worst word.
@@ -37,17 +38,28 @@ export class Figures {
     this.#tell();
   }
 
-  // Takes over what is proved of the fill in the grid, and returns what is said of it.
-  async prove({ bound, names }) {
-    this.#proof = { bound, names, key: this.#key() };
+  // Takes over what is proved of the fill in the grid, and returns what is said of it. What was proved before stays if it says more.
+  async prove({ bound, names, fixed }) {
+    if (bound <= this.boundOf(names)) this.#proof = { bound, names, fixed, key: this.#key() };
     await this.#show();
     return this.text;
   }
 
-  // What a proof rests on: the grid, its letters in ink, and the words.
+  // A grade at which there is no fill of the lights with these names, as far as is proved.
+  boundOf(names) {
+    return this.#isProved && String(names) === String(this.#proof.names) ? this.#proof.bound : MOST + 1;
+  }
+
+  // Whether the proof holds: for the same grid and words, and around the letters that were fixed. Others may have come, which leave fewer fills.
+  get #isProved() {
+    const isThere = ([coordinates, letter]) => this.#editor.board.at(coordinates)?.letter === letter;
+    return this.#proof !== null && this.#proof.key === this.#key() && [...this.#proof.fixed].every(isThere);
+  }
+
+  // The grid without its letters, and the words.
   #key() {
-    const { board, pencil, record, list } = this.#editor;
-    const cells = board.cells.map((cell) => `${cell.block ? '#' : pencil.has(cell.coordinates) ? '' : cell.letter}${cell.right ? '|' : ''}${cell.below ? '_' : ''}`);
+    const { board, record, list } = this.#editor;
+    const cells = board.cells.map((cell) => `${cell.block ? '#' : ''}${cell.right ? '|' : ''}${cell.below ? '_' : ''}`);
     return [cells, wordsOf(record), list.name, list.words, list.personal].join();
   }
 
@@ -82,13 +94,16 @@ export class Figures {
   #proofText() {
     const { board, pencil, list } = this.#editor;
     const proof = this.#proof;
-    if (!proof || proof.bound > 100 || proof.key !== this.#key()) return '';
+    if (!proof || proof.bound > MOST || !this.#isProved) return '';
     const isOwn = (light) => (!proof.names.length || proof.names.includes(light.name)) && light.cells.some((cell) => pencil.has(board.cells[cell].coordinates));
     const own = board.lights.filter((light) => this.#scores.has(light.name) && isOwn(light)).map(({ name }) => this.#scores.get(name));
     if (!own.length) return '';
     const worst = Math.min(...own);
     const isBest = proof.bound <= gradeOf(worst, list.best) + 1;
-    const text = `no fill${proof.names.length ? ' of these lights' : ''} is better${isBest ? '' : ` than ${scoreOf(proof.bound, list.best) - 1}`}`;
+    // a fill changes no letter in ink, but others in pencil might be other ones
+    const isPart = [...proof.fixed.keys()].some((coordinates) => pencil.has(coordinates));
+    const part = proof.names.length ? ' of these lights' : isPart ? ' of the cells that were empty' : '';
+    const text = `no fill${part} is better${isBest ? '' : ` than ${scoreOf(proof.bound, list.best) - 1}`}`;
     return worst > this.#figures.worst ? `; the fill’s worst ${worst}, and ${text}` : `; ${text}`;
   }
 

@@ -1,15 +1,22 @@
 // Files: what is opened, dropped and saved.
 import { toBytes, toText } from '../xw.js';
 import { csvOf, htmlOf } from './clue-sheet.js';
+import { droppedOfPuz, joinedText } from './dropped.js';
 import { enumerated } from './enumeration.js';
 import { ipuzOf, recordOfIpuz } from './ipuz.js';
-import { SESSION_HEAD, hasCommands, kindOf } from './kinds.js';
+import { SESSION_HEAD, hasCommands, isPuz, kindOf } from './kinds.js';
 import { refusalText, refuseAsIs as refuse, sayAsIs as say } from './messages.js';
 import { bodyOf, strangeCharacter } from './record.js';
 import { termed } from './terms.js';
+import { asVersion1, letterRows, recordOfRows } from './text-grids.js';
+import { listText } from './word-list.js';
+import { titleOf } from './words.js';
+import { staleClues } from './written.js';
 
+// Notes of sessions, which the program passes over.
 const PENCIL = '# pencil ';
 const ORIGINALS = '# originals ';
+const WRITTEN = '# written ';
 
 // the most bytes of a file that is opened; larger ones are none of those that the page knows
 const MOST_BYTES = 1 << 27;
@@ -23,8 +30,8 @@ export class Files {
     this.actions = actions;
   }
 
-  // Opens a file of any kind. Returns whether it could.
-  async open(file) {
+  // Opens a file of any kind, or one that is said to be a word list. Returns whether it could.
+  async open(file, isList = false) {
     if (!this.actions.mayEdit()) return false;
     const bytes = await this.#bytesOf(file);
     if (!bytes) return false;
@@ -34,7 +41,11 @@ export class Files {
           return await this.openList(file.name, bytes);
         case 'puzzle':
           await this.#editor.replace({ record: await this.#editor.engine.call('read', { puzzle: bytes }) });
-          break;
+          return this.#opened(file.name, isPuz(bytes) ? droppedOfPuz(bytes) : []);
+        case 'text2':
+          return await this.#openText2(file.name, bytes);
+        case 'rows':
+          return await (isList ? this.openList(file.name, bytes) : this.#openRows(file.name, bytes));
         case 'ipuz':
           return await this.#openIpuz(file.name, new TextDecoder().decode(bytes));
         case 'puzzles':
@@ -56,16 +67,35 @@ export class Files {
     return this.#opened(file.name);
   }
 
-  #opened(name, more = '') {
+  // `dropped` has what of the file is not kept.
+  #opened(name, dropped = [], more = '') {
     this.actions.opened(name);
-    say(`${name} is open${more}; undo goes back to what was here`, 'good');
+    const lacking = dropped.length ? `, but without ${joinedText(dropped)}` : '';
+    say(`${name} is open${lacking}${more}; undo goes back to what was here`, lacking ? 'bad' : 'good');
     return true;
   }
 
+  async #openText2(name, bytes) {
+    const { text, circles, dropped } = asVersion1(listText(bytes));
+    const read = await this.#editor.engine.call('read', { puzzle: toBytes(text) });
+    await this.#editor.replace({ record: [read.trimEnd(), ...circles.map((cell) => `circle ${cell}`), ''].join('\n') });
+    return this.#opened(name, dropped);
+  }
+
+  // Opens rows of letters as what the user says they are.
+  async #openRows(name, bytes) {
+    const rows = letterRows(listText(bytes));
+    const answer = await this.actions.askRows(name, rows);
+    if (answer === 'list') return this.openList(name, bytes);
+    if (answer !== 'grid') return this.#refuse(`${name} is not opened`);
+    await this.#editor.replace({ record: await this.#editor.engine.call('read', { record: recordOfRows(rows) }) });
+    return this.#opened(name);
+  }
+
   async #openIpuz(name, text) {
-    const { record, originals, lost } = recordOfIpuz(text.replace(/^\ufeff/, ''));
+    const { record, originals, lost, dropped } = recordOfIpuz(text.replace(/^\ufeff/, ''));
     await this.#editor.replace({ record: await this.#editor.engine.call('read', { record }), originals });
-    return this.#opened(name, lost ? `; ${lost} ${lost === 1 ? 'clue has' : 'clues have'} no place in its grid` : '');
+    return this.#opened(name, dropped, lost ? `; ${lost} ${lost === 1 ? 'clue has' : 'clues have'} no place in its grid` : '');
   }
 
   // Adds the puzzles of a file to those that the browser keeps.
@@ -108,8 +138,8 @@ export class Files {
     const read = await this.#editor.engine.call('read', { record: text });
     const body = bodyOf(read);
     const pencil = lines.find((line) => line.startsWith(PENCIL))?.slice(PENCIL.length).split(', ').filter(Boolean) ?? [];
-    const originals = parsedPairs(lines.find((line) => line.startsWith(ORIGINALS))?.slice(ORIGINALS.length));
-    await this.#editor.replace({ record: [...words, ...body].join('\n'), pencil, originals });
+    const [originals, written] = [ORIGINALS, WRITTEN].map((note) => parsedPairs(lines.find((line) => line.startsWith(note))?.slice(note.length)));
+    await this.#editor.replace({ record: [...words, ...body].join('\n'), pencil, originals, written });
     return true;
   }
 
@@ -128,7 +158,7 @@ export class Files {
   async save(form) {
     try {
       const bytes = await this.#editor.inOrder(() => this.#editor.engine.call('file', { form }));
-      this.#give(bytes, this.#name(form === 'puz' ? 'puz' : 'txt'), this.#nearNote());
+      this.#givePuzzle(bytes, this.#name(form === 'puz' ? 'puz' : 'txt'), this.#nearNote());
     } catch (fault) {
       if (!fault.status) throw fault;
       this.#explain(fault.status);
@@ -138,7 +168,7 @@ export class Files {
   // Saves a .puz, or if the puzzle cannot be one yet, the session, and says which and why.
   async saveAny() {
     try {
-      this.#give(await this.#editor.inOrder(() => this.#editor.engine.call('file', { form: 'puz' })), this.#name('puz'), this.#nearNote());
+      this.#givePuzzle(await this.#editor.inOrder(() => this.#editor.engine.call('file', { form: 'puz' })), this.#name('puz'), this.#nearNote());
     } catch (fault) {
       if (!fault.status) throw fault;
       this.saveSession(`: the session, since ${this.#whyNoPuz(fault.status)}`);
@@ -173,7 +203,7 @@ export class Files {
       this.actions.toGrid();
     }
     const order = [...board.lights.filter((light) => light.direction === 'across'), ...board.lights.filter((light) => light.direction === 'down')];
-    const lacking = order.find((light) => !board.texts.has(`clue ${light.name}`));
+    const lacking = order.find((light) => !board.hasClue(light));
     if (status === 'Field' && lacking) {
       this.actions.toClue(lacking);
       return refuse(termed(`not saved: a text file needs a clue for each light, and ${lacking.name} has none`), true);
@@ -185,35 +215,54 @@ export class Files {
     const { record, pencil, originals } = this.#editor.state;
     const lines = record.split('\n').filter((line) => line !== SESSION_HEAD);
     const ascii = (text) => text.replace(/[^\x20-\x7e]/g, (character) => `\\u${character.charCodeAt(0).toString(16).padStart(4, '0')}`);
-    const notes = [pencil.length && `${PENCIL}${pencil.join(', ')}`, originals.length && `${ORIGINALS}${ascii(JSON.stringify(originals))}`];
+    // the others are for the words of the file
+    const { board } = this.#editor;
+    const stale = staleClues(this.#editor).map(({ light, word }) => [board.clueField(light), word]);
+    const notes = [
+      pencil.length && `${PENCIL}${pencil.join(', ')}`, originals.length && `${ORIGINALS}${ascii(JSON.stringify(originals))}`,
+      stale.length && `${WRITTEN}${JSON.stringify(stale)}`,
+    ];
     const head = [SESSION_HEAD, ...notes.filter(Boolean)];
-    this.#give(toBytes([...head, ...lines].join('\n')), this.#name('xw'), why);
+    this.#givePuzzle(toBytes([...head, ...lines].join('\n')), this.#name('xw'), why);
   }
 
   #textOf = (field) => this.#editor.textOf(field);
 
   saveIpuz() {
-    this.saveText(ipuzOf(this.#editor.board, this.#textOf), this.#name('ipuz'));
+    this.#givePuzzle(new TextEncoder().encode(ipuzOf(this.#editor.board, this.#textOf)), this.#name('ipuz'));
   }
 
   // Saves the clues as a table: `csv` or `html`.
   saveClues(form) {
     const of = [this.#editor.board, this.#textOf, enumerated];
-    this.saveText(form === 'csv' ? csvOf(...of) : htmlOf(...of), this.#name(form));
+    this.#give(new TextEncoder().encode(form === 'csv' ? csvOf(...of) : htmlOf(...of)), this.#name(form));
   }
 
-  // Saves a text under a name.
-  saveText(text, name) {
-    this.#give(new TextEncoder().encode(text), name);
+  #givePuzzle(bytes, name, why = '') {
+    this.#give(bytes, name, why);
+    this.actions.saved();
   }
 
+  // Gives a file of the puzzle, and warns of clues that were written for other words.
   #give(bytes, name, why = '') {
+    const [first, ...others] = staleClues(this.#editor);
+    const told = first && `the clue of ${titleOf(first.light)} was written for ${first.word}`;
+    const more = others.length ? `, and ${others.length} more ${others.length === 1 ? 'was' : 'were'} for other words` : '';
+    this.#download(bytes, name, told ? `${why}; but ${told}${more}` : why, told ? 'bad' : 'good');
+  }
+
+  // Saves a text of anything else under a name.
+  saveText(text, name) {
+    this.#download(new TextEncoder().encode(text), name);
+  }
+
+  #download(bytes, name, why = '', tone = 'good') {
     const link = document.createElement('a');
     link.href = URL.createObjectURL(new Blob([bytes], { type: 'application/octet-stream' }));
     link.download = name;
     link.click();
     setTimeout(() => URL.revokeObjectURL(link.href), 60000);
-    say(`saved: ${name}${why}`, 'good', true);
+    say(`saved: ${name}${why}`, tone, true);
   }
 
   // Files that are dropped anywhere on the page.

@@ -38,16 +38,16 @@ export class Filler {
   // whether a search has the worker of the session, so that nothing can be edited
   isRunning = false;
 
-  // `fills` keeps what is found. `show` shows how far a fill is, `explain` where a dead end comes from; `proved` takes over what a raising proved,
-  // and returns what is said of the fill.
-  constructor(editor, helpers, fills, { show, explain, proved }) {
+  // `fills` keeps what is found. `show` shows how far a fill is, `explain` where a dead end comes from; `figures` takes over what a raising proved, and
+  // returns what is said of the fill.
+  constructor(editor, helpers, fills, { show, explain, figures }) {
     this.#editor = editor;
     this.#helpers = helpers;
     this.#raiser = new Raiser(editor, helpers, () => fills.add(true));
     this.fills = fills;
     this.show = show;
     this.explain = explain;
-    this.proved = proved;
+    this.figures = figures;
   }
 
   get isRaising() {
@@ -81,6 +81,8 @@ export class Filler {
     if (isFull && !inPencil.length) return refuse('every letter here is locked: choose other lights, or put letters in pencil (=)');
     if (isFull && !isAnother) {
       if (!this.#editor.list.scored) return refuse('every cell is filled already: ask for another fill');
+      // other seeds than the last time
+      this.#seed++;
       await this.#raise(inPencil);
       return this.#rest();
     }
@@ -96,7 +98,7 @@ export class Filler {
       this.isRunning = false;
       this.show(null);
     }
-    if (filled) await this.#raise(filled);
+    if (filled) await this.#raise(filled, isAnother);
     if (filled && isAnother) await this.#offer(filled);
     this.#rest();
   }
@@ -120,7 +122,7 @@ export class Filler {
     const { answer, placements, letters } = await this.#race(this.#names, record);
     if (answer !== 'filled') {
       await editor.restore();
-      await this.#tellNone(answer, placements);
+      await this.#tellNone(answer, placements, editor.board.entered > emptied.length);
       return null;
     }
     for (const cell of filled) pencil.add(cell.coordinates);
@@ -130,19 +132,19 @@ export class Filler {
     return filled;
   }
 
-  // Says why there is no fill.
-  async #tellNone(answer, placements) {
-    const { chosen, list, board } = this.#editor;
+  // Says why there is no fill, around what is entered if something is.
+  async #tellNone(answer, placements, isEntered) {
+    const { chosen, list } = this.#editor;
     const isPart = chosen.size > 0;
     if (answer === 'stopped') return say('stopped; the grid is as it was');
     const words = list.grade ? `no words with ${list.least} or more fit` : 'no words of the list fit';
-    if (answer === 'nofill') refuse(isPart ? 'there is no fill of these lights' : `there is no fill: ${words} ${board.entered ? 'what is entered' : 'this grid'}`);
+    if (answer === 'nofill') refuse(isPart ? 'there is no fill of these lights' : `there is no fill: ${words} ${isEntered ? 'what is entered' : 'this grid'}`);
     else refuse(`no fill was found in ${placements.toLocaleString('en')} placements: try again, add blocks, or take a letter back`);
     return this.#explain(answer, isPart);
   }
 
-  // Raises the letters of cells, if the words have scores.
-  async #raise(filled) {
+  // Raises the letters of cells, if the words have scores. Another fill ends as the best one that is known, if it is none.
+  async #raise(filled, isAnother = false) {
     const editor = this.#editor;
     const { list, board } = editor;
     if (!list.scored) return;
@@ -154,7 +156,10 @@ export class Filler {
     const known = (told ?? []).map(({ grade }) => grade);
     if (!known.length || known.some(Number.isNaN)) return say(`filled; ${NEXT}`, 'good');
     const names = [...editor.chosen];
-    const raising = this.#raiser.run({ base: without(editor.record, filled), names: this.#names, cells, seed: this.#seed, grade: Math.min(...known) });
+    const fixed = new Map(board.cells.filter(({ letter, coordinates }) => letter && !cells.includes(coordinates)).map(({ coordinates, letter }) => [coordinates, letter]));
+    const raising = this.#raiser.run({
+      base: without(editor.record, filled), names: this.#names, cells, seed: this.#seed, grade: Math.min(...known), bound: this.figures.boundOf(names),
+    });
     if (this.#raiser.isRunning) {
       say('filled; its worst word is raised … Esc ends this', 'busy');
       this.show({ isRaising: true });
@@ -163,8 +168,15 @@ export class Filler {
     if (this.isRunning || this.isRaising) return;
     this.show(null);
     if (isChanged) return;
-    const text = await this.proved({ bound, names });
-    say(`${isStopped ? 'stopped' : 'filled'}: ${text}`, 'good');
+    const isBack = isAnother && !isStopped && (await this.#putBack(filled));
+    const text = await this.figures.prove({ bound, names, fixed });
+    say(`${isStopped ? 'stopped' : 'filled'}: ${text}${isBack ? '; it is the fill from before, since no better one was found' : ''}`, 'good');
+  }
+
+  // Puts the best fill that is known into the grid again, if it is better than the one that is there. Returns whether it is.
+  async #putBack(filled) {
+    const better = await this.fills.better(filled);
+    return better !== null && (await this.fills.put(better, this.#editor.record)) === null;
   }
 
   // Finds further fills of the same cells beside the one in the grid, as long as that stays, until there are some to choose from.

@@ -3,7 +3,7 @@ import { figuresOf, figuresText } from './grades.js';
 import { whenIdle } from './idle.js';
 import { sketchOf } from './library.js';
 import { say } from './messages.js';
-import { letterIn } from './record.js';
+import { letterIn, wordsOf } from './record.js';
 
 const MOST_KEPT = 5;
 
@@ -15,6 +15,8 @@ export class Fills {
   /** @type {Map<string, string>[]} */
   #kept = [];
   #shape = '';
+  // the words at the time when each was found
+  #words = new WeakMap();
   // rises with each change, so that late answers are dropped
   #turn = 0;
 
@@ -31,6 +33,7 @@ export class Fills {
     const letters = this.#letters();
     this.#drop();
     if (isBetter) this.#kept.shift();
+    this.#words.set(letters, this.#wordsNow);
     this.#kept = [letters, ...this.#kept.filter((fill) => !isSame(fill, letters))].slice(0, MOST_KEPT);
     this.#soon();
   }
@@ -44,9 +47,34 @@ export class Fills {
   offer(lines) {
     const letters = new Map(lines.map(letterIn));
     this.#drop();
+    this.#words.set(letters, this.#wordsNow);
     if (this.#kept.length < MOST_KEPT && !this.#kept.some((fill) => isSame(fill, letters))) this.#kept.push(letters);
     this.#soon();
   }
+
+  get #wordsNow() {
+    const { record, list } = this.#editor;
+    return [wordsOf(record), list.name, list.words, list.personal, list.least].join();
+  }
+
+  // A fill of the words in use that differs from the grid in some cells alone, and whose worst word there is better, the best of them; or null.
+  async better(cells) {
+    this.#drop();
+    const { board, engine } = this.#editor;
+    const [now, own] = [this.#letters(), new Set(cells.map(({ coordinates }) => coordinates))];
+    const lights = board.lights.filter((light) => light.cells.some((cell) => own.has(board.cells[cell].coordinates)));
+    const worstOf = async (letters) => Math.min(...(await engine.call('grades', { words: lights.map((light) => this.#spelled(light, letters)) })).map((score) => score ?? Infinity));
+    const inUse = this.#kept.filter((fill) => fill.size === now.size && this.#words.get(fill) === this.#wordsNow);
+    const others = inUse.filter((fill) => [...fill].every(([coordinates, letter]) => own.has(coordinates) || now.get(coordinates) === letter));
+    let [best, worst] = [null, await worstOf(now)];
+    for (const fill of others) {
+      const other = await worstOf(fill);
+      if (other > worst) [best, worst] = [fill, other];
+    }
+    return best;
+  }
+
+  #spelled = (light, letters) => light.cells.map((cell) => letters.get(this.#editor.board.cells[cell].coordinates) ?? '.').join('');
 
   #letters() {
     return new Map(this.#editor.board.cells.filter((cell) => cell.letter).map((cell) => [cell.coordinates, cell.letter]));
@@ -82,12 +110,11 @@ export class Fills {
   // What is said of a fill: that it is in the grid, or how many of its words are others; and if the list has scores, how good its words are.
   async #figures(fill) {
     const { board, list, engine } = this.#editor;
-    const spelled = (light, letters) => light.cells.map((cell) => letters.get(board.cells[cell].coordinates) ?? '.').join('');
     const now = this.#letters();
-    const others = board.lights.filter((light) => spelled(light, fill) !== spelled(light, now)).length;
+    const others = board.lights.filter((light) => this.#spelled(light, fill) !== this.#spelled(light, now)).length;
     const told = others ? `${others} other ${others === 1 ? 'word' : 'words'}` : 'in the grid';
     if (!list.scored) return told;
-    const figures = figuresOf(await engine.call('grades', { words: board.lights.map((light) => spelled(light, fill)) }), list.weak);
+    const figures = figuresOf(await engine.call('grades', { words: board.lights.map((light) => this.#spelled(light, fill)) }), list.weak);
     return figures ? `${told}; ${figuresText(figures)}` : told;
   }
 
@@ -104,18 +131,23 @@ export class Fills {
     return card;
   }
 
-  // Puts a fill into the grid, in pencil but for what is in ink.
   async #choose(fill) {
-    const editor = this.#editor;
     if (!this.mayEdit()) return;
+    this.#editor.change({ edited: null });
+    if ((await this.put(fill)) === null) say('this fill is in the grid; undo takes it back', 'good');
+  }
+
+  // Puts a fill into the grid, in pencil but for what is in ink: as a step, or within the one that led to a record. Returns what it is refused for, or null;
+  // `Known` if it is there already.
+  async put(fill, only = null) {
+    const editor = this.#editor;
     const { cells } = editor.board;
     const cleared = cells.filter((cell) => cell.letter && !fill.has(cell.coordinates));
     const entered = cells.filter((cell) => fill.has(cell.coordinates) && fill.get(cell.coordinates) !== cell.letter);
-    if (!cleared.length && !entered.length) return;
+    if (!cleared.length && !entered.length) return 'Known';
     const pencil = new Set([...editor.pencil, ...entered.map((cell) => cell.coordinates)]);
     const lines = [...cleared.map((cell) => `clear ${cell.coordinates}`), ...entered.map((cell) => `set ${cell.coordinates} ${fill.get(cell.coordinates)}`)];
-    editor.change({ edited: null });
-    if (!(await editor.edit(lines, { pencil }))) say('this fill is in the grid; undo takes it back', 'good');
+    return editor.edit(lines, { pencil, only });
   }
 }
 

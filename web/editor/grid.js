@@ -189,13 +189,13 @@ export class GridView {
   // the cell where the cursor is shown, by index
   #marked = 0;
 
-  // Shows where the cursor is.
-  mark() {
+  // Shows where the cursor is. The cells that are painted already have their marks.
+  mark(painted = new Set()) {
     const editor = this.#editor;
     const { board, cursor } = editor;
     const isChosen = editor.chosen.size > 0 || this.#anchor !== null;
     const cells = isChosen || this.wasChosen ? board.cells.keys() : [this.#marked, cursor];
-    for (const index of cells) if (index < this.#cells.length) this.paint(index);
+    for (const index of cells) if (index < this.#cells.length && !painted.has(index)) this.paint(index);
     this.wasChosen = isChosen;
     this.#marked = cursor;
     this.#cover(this.#bands[0], editor.light);
@@ -238,10 +238,13 @@ export class GridView {
     const { letters } = changes;
     // cells without a letter left look other once there is an entry
     const isTurned = Boolean(letters) && this.isBlank !== this.#wasBlank;
-    if (letters) this.#drawUndrawn();
+    // each cell is painted once
+    const painted = new Set([...(letters ? this.#takeUndrawn() : []), ...this.#changedBy(transaction)]);
     if (isTurned || ['board', 'reason', 'unmatched'].some((name) => name in changes)) this.draw();
-    else for (const index of this.#changedBy(transaction)) if (this.#cells[index]) this.paint(index);
-    if (changes.cursor !== undefined || changes.chosen) this.mark();
+    else {
+      for (const index of painted) if (this.#cells[index]) this.paint(index);
+      if (changes.cursor !== undefined || changes.chosen) this.mark(painted);
+    }
     if (letters) mark('letter answered', { detail: { engine: letters.engine } });
   }
 
@@ -261,18 +264,19 @@ export class GridView {
   }
 
   #drawLate() {
-    if (this.#drawUndrawn()) this.#editor.tell();
+    const undrawn = this.#takeUndrawn();
+    for (const index of undrawn) this.paint(index);
+    if (undrawn.length) this.#editor.tell();
   }
 
-  // Draws what is entered and not shown yet; returns whether there was something.
-  #drawUndrawn() {
+  // The cells whose letters are entered and not shown yet, which are to be painted now.
+  #takeUndrawn() {
     clearTimeout(this.#drawing);
     this.#drawing = null;
-    if (!this.#undrawn.size) return false;
-    for (const index of this.#undrawn) this.paint(index);
+    const undrawn = [...this.#undrawn];
     this.#undrawn.clear();
-    mark('letter drawn');
-    return true;
+    if (undrawn.length) mark('letter drawn');
+    return undrawn;
   }
 
   focus() {
@@ -375,11 +379,13 @@ export class GridView {
     return next >= 0 && next < board.cells.length && board.rowOf(next) === board.rowOf(index) ? next : -1;
   }
 
-  // The cell beside the cursor in its light; at the end of the light the cursor's own.
+  // The place beside the cursor in its light; at the end of the light the cursor's own.
   #beyond(step) {
-    const { cursor, direction, light, board } = this.#editor;
-    const next = this.#beside(cursor, direction, step);
-    return next >= 0 && (light ? light.cells.includes(next) : !board.cells[next].block) ? next : cursor;
+    const editor = this.#editor;
+    const { cursor, direction, light, board } = editor;
+    const next = step ? this.#beside(cursor, direction, step) : -1;
+    const isOn = next >= 0 && (light ? light.cells.includes(next) : !board.cells[next].block);
+    return isOn ? editor.placed(next) : { cursor, direction };
   }
 
   // Enters a letter, which is on the board at once, and goes to the engine before anything is drawn. If it is refused, the session puts the
@@ -391,16 +397,16 @@ export class GridView {
     if (!this.actions.mayEdit()) return;
     if (cell.letter && this.#ended === this.#place) return refuse('the light ends here: Tab goes on, Backspace takes the letter back');
     const index = editor.cursor;
-    const sent = this.#send([`set ${cell.coordinates} ${letter}`], { isWhole: false });
+    const to = this.#beyond(1);
+    const sent = this.#send([`set ${cell.coordinates} ${letter}`], { isWhole: false, to });
     if (typedAt) mark('letter typed', { startTime: typedAt });
-    const next = this.#beyond(1);
-    editor.enter(index, letter, next);
-    this.#ended = next === index ? this.#place : '';
+    editor.enter(index, letter, to);
+    this.#ended = to.cursor === index ? this.#place : '';
     this.#drawSoon(index);
     sent.then((refused) => {
       if (!refused) return;
       this.#ended = '';
-      if (editor.cursor === next) editor.moveTo(index);
+      if (editor.cursor === to.cursor) editor.moveTo(index);
     });
   }
 
@@ -418,8 +424,9 @@ export class GridView {
       return;
     }
     if (!this.actions.mayEdit()) return;
-    this.#send([`clear ${cell.coordinates}`], { isWhole: false });
-    editor.enter(index, '', step ? this.#beyond(step) : index);
+    const to = this.#beyond(step);
+    this.#send([`clear ${cell.coordinates}`], { isWhole: false, to });
+    editor.enter(index, '', to);
     this.#drawSoon(index);
   }
 

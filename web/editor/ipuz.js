@@ -1,4 +1,5 @@
 // Crosswords as .ipuz, version 2 (http://ipuz.org): grids with blocks, bars and circles, letters, texts and clues.
+import { countText, rebusText } from './dropped.js';
 import { hasEnumeration } from './enumeration.js';
 import { escapeText, nearestText, textLines } from './record.js';
 
@@ -33,8 +34,8 @@ function shownIn(cell) {
   return { cell: shown, style: { ...(cell.circle && { shapebg: 'circle' }), ...(barred && { barred }) } };
 }
 
-// The record that a file spells, its texts that have characters which the record cannot have, and how many clues have no place in the grid. Throws an
-// IpuzFault.
+// The record that a file spells, its texts that have characters which the record cannot have, how many clues have no place in the grid, and what else is
+// dropped. Throws an IpuzFault.
 export function recordOfIpuz(text) {
   const file = parsedIpuz(text);
   const { width, height } = file.dimensions ?? {};
@@ -45,7 +46,8 @@ export function recordOfIpuz(text) {
   }
   const grid = new IpuzGrid(file);
   const texts = new IpuzTexts(file, grid);
-  return { record: [`size ${width} ${height}`, ...grid.lines, ...texts.lines, ''].join('\n'), originals: texts.originals, lost: texts.lost };
+  const dropped = [...grid.dropped, ...(file.saved ? ['the letters of a solver'] : []), ...texts.otherLists.map((name) => `the clues of ${name}`)];
+  return { record: [`size ${width} ${height}`, ...grid.lines, ...texts.lines, ''].join('\n'), originals: texts.originals, lost: texts.lost, dropped };
 }
 
 function parsedIpuz(text) {
@@ -64,6 +66,8 @@ class IpuzGrid {
   lines = [];
   // the coordinates of the cells that have numbers
   numbered = new Map();
+  // what it does not keep
+  dropped = [];
   #blocks = new Set();
   #bars = new Set();
 
@@ -71,6 +75,8 @@ class IpuzGrid {
     this.size = { width, height };
     const circles = [];
     const letters = [];
+    const rebus = [];
+    let [colours, shapes] = [0, 0];
     this.#each((row, column) => {
       const shown = puzzle[row - 1][column - 1];
       const cell = shown?.cell === undefined ? shown : shown.cell;
@@ -84,10 +90,17 @@ class IpuzGrid {
       // a style may be the name of one
       const style = styles?.[shown?.style] ?? shown?.style;
       if (style?.shapebg === 'circle') circles.push(`circle ${coordinates}`);
+      else if (style?.shapebg) shapes++;
+      if (COLOURS.some((name) => style?.[name])) colours++;
       this.#addBars(row, column, String(style?.barred ?? ''));
-      const letter = letterOf(given?.value ?? given ?? '', coordinates, block);
+      const entry = entryOf(given?.value ?? given ?? '', coordinates, block);
+      const letter = entry.slice(0, 1);
       if (letter) letters.push(`set ${coordinates} ${letter}`);
+      if (entry.length > 1) rebus.push({ row, column, entry, letter });
     });
+    this.dropped = [
+      ...rebusText(rebus), ...countText(colours, 'the colour of a cell', 'colours of cells'), ...countText(shapes, 'a shape that is no circle', 'shapes that are no circles'),
+    ];
     const bars = [...this.#bars].filter((bar) => this.#isEdge(bar)).map((bar) => `bar ${bar}`);
     this.lines = ['sym none', ...[...this.#blocks].map((cell) => `block ${cell}`), ...bars, `sym ${this.#isHalf(bars) ? 'half' : 'none'}`, ...circles, ...letters];
   }
@@ -123,10 +136,14 @@ class IpuzGrid {
   }
 }
 
-function letterOf(given, coordinates, block) {
-  const letter = String(given).toUpperCase();
-  if (letter === '' || letter === String(block)) return '';
-  if (/^[A-Z]$/.test(letter)) return letter;
+// What a style may have of colours.
+const COLOURS = ['color', 'colortext', 'colorborder', 'colorbar', 'highlight', 'imagebg'];
+
+// The letters of a cell, of which the page keeps the first.
+function entryOf(given, coordinates, block) {
+  const entry = String(given).toUpperCase();
+  if (entry === '' || entry === String(block)) return '';
+  if (/^[A-Z]+$/.test(entry)) return entry;
   const [row, column] = coordinates.split(' ');
   throw new IpuzFault(`row ${row}, column ${column} has “${String(given).slice(0, 10)}” for a letter`);
 }
@@ -134,14 +151,18 @@ function letterOf(given, coordinates, block) {
 class IpuzTexts {
   lines = [];
   originals = [];
-  // how many clues have no place in the grid
+  // how many clues have no place in the grid, and the lists of clues that are neither across nor down
   lost = 0;
+  otherLists = [];
 
   constructor(file, grid) {
     for (const field of FIELDS) if (file[field]) this.#add(field, plainOf(file[field]));
     for (const [name, clues] of Object.entries(file.clues ?? {})) {
       const direction = name.split(':')[0].toLowerCase();
-      if (direction !== 'across' && direction !== 'down') continue;
+      if (direction !== 'across' && direction !== 'down') {
+        this.otherLists.push(name);
+        continue;
+      }
       for (const clue of clues) this.#addClue(clue, direction, grid);
     }
   }

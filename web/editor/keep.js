@@ -1,38 +1,60 @@
-// What the browser keeps between visits. In IndexedDB: the puzzles with their versions, and the word list. In the local store: a draft of each
-// puzzle that is open, since a page that goes can write there before it goes.
+// What the browser keeps between visits. In IndexedDB: the puzzles with their versions, the word list, and the bank of clues. In the local store: a
+// draft of each puzzle that is open, since a page that goes can write there before it goes.
 
-const DATABASE = 'xw-editor';
+/** @typedef {{ name: string, version: number, stores: Record<string, string>, make: (opened: IDBDatabase, oldVersion: number) => void }} Database */
+
+/** @type {Database} */
+const DATABASE = {
+  name: 'xw-editor',
+  version: 2,
+  stores: { list: 'kept', puzzles: 'puzzles', versions: 'versions' },
+  make(opened, oldVersion) {
+    if (oldVersion < 1) opened.createObjectStore(this.stores.list);
+    opened.createObjectStore(this.stores.puzzles, { keyPath: 'puzzle' });
+    opened.createObjectStore(this.stores.versions, { keyPath: ['puzzle', 'at'] });
+  },
+};
+// apart from it, so that older pages can still open that one
+/** @type {Database} */
+const BANK = {
+  name: 'xw-editor-clues',
+  version: 1,
+  stores: { clues: 'clues' },
+  make(opened) {
+    opened.createObjectStore(this.stores.clues, { keyPath: ['word', 'clue', 'puzzle'] }).createIndex('puzzle', 'puzzle');
+  },
+};
 const DRAFT = 'xw-editor/';
 const LAST = 'xw-editor-last';
 // where older pages kept one puzzle, and those that it replaced
 const FORMER = ['xw-editor', 'xw-editor-earlier'];
 // the puzzle of a tab, so that a page that is loaded again has the same
 const HERE = 'xw-editor-here';
-const STORES = { list: 'kept', puzzles: 'puzzles', versions: 'versions' };
 // the most versions that are kept of a puzzle
 const MOST_VERSIONS = 60;
 
-function database() {
+// Opens a database, which is made if it is not there; `made` is told of that.
+function open(database, made = () => {}) {
   return new Promise((resolve, reject) => {
-    const request = indexedDB.open(DATABASE, 2);
+    const request = indexedDB.open(database.name, database.version);
     request.onupgradeneeded = ({ oldVersion }) => {
-      if (oldVersion < 1) request.result.createObjectStore(STORES.list);
-      request.result.createObjectStore(STORES.puzzles, { keyPath: 'puzzle' });
-      request.result.createObjectStore(STORES.versions, { keyPath: ['puzzle', 'at'] });
+      database.make(request.result, oldVersion);
+      made();
     };
     request.onsuccess = () => resolve(request.result);
     request.onerror = () => reject(request.error);
   });
 }
 
-// Does a transaction over all stores, and returns what its last request gives when all of it is kept. The database is closed after it, so that
-// no page holds it.
-async function within(mode, action) {
-  const opened = await database();
+// Does a transaction over all stores of a database, and returns what its last request gives when all of it is kept. The database is closed after it, so
+// that no page holds it.
+async function within(mode, action, database = DATABASE) {
+  const opened = await open(database);
+  const { stores } = database;
   try {
     return await new Promise((resolve, reject) => {
-      const transaction = opened.transaction(Object.values(STORES), mode);
-      const request = action(Object.fromEntries(Object.entries(STORES).map(([name, store]) => [name, transaction.objectStore(store)])));
+      const transaction = opened.transaction(Object.values(stores), mode);
+      const request = action(Object.fromEntries(Object.entries(stores).map(([name, store]) => [name, transaction.objectStore(store)])));
       transaction.oncomplete = () => resolve(request?.result);
       transaction.onabort = () => reject(transaction.error ?? new Error('the browser ended the transaction'));
     });
@@ -169,6 +191,31 @@ export function destroyPuzzles(names) {
     }
   });
 }
+
+// The bank of clues: { word, clue, puzzle, at }.
+
+// Makes the bank if there is none; returns whether there was none.
+export async function makeBank() {
+  let isMade = false;
+  const opened = await open(BANK, () => {
+    isMade = true;
+  });
+  opened.close();
+  return isMade;
+}
+
+export const keepClues = (entries) => within('readwrite', ({ clues }) => entries.map((entry) => clues.put(entry)).at(-1), BANK);
+
+// The clues that a word had.
+export const keptClues = (word) => within('readonly', ({ clues }) => clues.getAll(IDBKeyRange.bound([word], [word, []])), BANK);
+
+// Takes the clues of puzzles out of the bank.
+export const dropClues = (puzzles) => within('readwrite', ({ clues }) => {
+  for (const puzzle of puzzles) {
+    const found = clues.index('puzzle').getAllKeys(puzzle);
+    found.onsuccess = () => found.result.forEach((key) => clues.delete(key));
+  }
+}, BANK);
 
 // The word lists.
 

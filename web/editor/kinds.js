@@ -2,9 +2,12 @@
 import { toText } from '../xw.js';
 import { isIpuz } from './ipuz.js';
 import { isPuzzlesFile } from './puzzles-file.js';
+import { isVersion2, letterRows } from './text-grids.js';
 import { isWordList, listText } from './word-list.js';
 
 const MAGIC = 'ACROSS&DOWN';
+// where a .puz has it
+const MAGIC_AT = 2;
 // how many bytes tell whether a file is a word list
 const SAMPLE = 1 << 18;
 // the first line of a session that the program or this page saved
@@ -30,16 +33,22 @@ function isSession(name, head) {
 
 const isSixteenBits = (bytes) => (bytes[0] === 0xff && bytes[1] === 0xfe) || (bytes[0] === 0xfe && bytes[1] === 0xff);
 
-// What a file is: `puzzle` (.puz or text), `ipuz`, `session`, `puzzles`, `list`, `empty`, or `other`.
+// Whether a puzzle is a .puz, and not a text.
+export const isPuz = (bytes) => toText(bytes.subarray(MAGIC_AT, MAGIC_AT + MAGIC.length)) === MAGIC;
+
+// What a file is: `puzzle` (.puz or text), `text2` (text of version 2), `ipuz`, `session`, `puzzles`, `list`, `rows` (a grid of letters, or a list of words
+// of one length), `empty`, or `other`.
 export function kindOf(name, bytes) {
   if (!bytes.length) return 'empty';
   const head = toText(bytes.subarray(0, 4096)).replace(/^\u00ef\u00bb\u00bf/, '');
-  if (head.slice(2, 2 + MAGIC.length) === MAGIC || /\.puz$/i.test(name)) return 'puzzle';
+  if (isPuz(bytes) || /\.puz$/i.test(name)) return 'puzzle';
   if (/^\s*<across puzzle>/i.test(head)) return 'puzzle';
+  if (isVersion2(head)) return 'text2';
   if (isPuzzlesFile(head)) return 'puzzles';
   if (isIpuz(head) || /\.ipuz$/i.test(name)) return 'ipuz';
   if (isSession(name, head)) return 'session';
   // a text of bytes has no NUL, and pictures and archives have one soon
   if (head.includes('\0') && !isSixteenBits(bytes)) return 'other';
+  if (bytes.length < SAMPLE && letterRows(listText(bytes))) return 'rows';
   return isWordList(listText(bytes.subarray(0, SAMPLE))) ? 'list' : 'other';
 }

@@ -22,7 +22,7 @@ export class ListsInUse {
   #view;
 
   // `actions`: `mayEdit`, `stop` ends a fill, `soon` looks for dead ends, `shown` is told when other lists are shown, `toGrid`, `save` saves a text,
-  // `unforeseen` takes what fails.
+  // `unforeseen` takes what fails, `kept` is told what takes a text back that Esc keeps.
   constructor(editor, actions) {
     this.#editor = editor;
     this.actions = actions;
@@ -38,7 +38,7 @@ export class ListsInUse {
       },
       {
         change: (changed) => this.change(changed).catch(actions.unforeseen), undo: () => this.#undo().catch(actions.unforeseen),
-        export: (text) => actions.save(text, 'my-words.txt'),
+        export: (text) => actions.save(text, 'my-words.txt'), kept: actions.kept,
       },
     );
   }

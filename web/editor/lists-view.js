@@ -5,7 +5,8 @@ import { joinPersonal, listText, readPersonal } from './word-list.js';
 export class ListsView {
   #elements;
 
-  // `actions`: `change` takes the lists over that a function makes of them, `undo` takes the last change back, `export` saves the personal list.
+  // `actions`: `change` takes the lists over that a function makes of them, and promises whether they are in use; `undo` takes the last change back;
+  // `export` saves the personal list; `kept` is told what takes a text back that Esc keeps.
   constructor(elements, actions) {
     this.#elements = elements;
     this.actions = actions;
@@ -16,9 +17,7 @@ export class ListsView {
     elements.import.addEventListener('click', () => elements.file.click());
     elements.file.addEventListener('change', () => this.#import(elements.file.files[0]));
     elements.export.addEventListener('click', () => actions.export(this.lists.personal));
-    elements.dialog.addEventListener('close', () => {
-      if (elements.dialog.returnValue === 'save' && elements.text.value !== this.lists.personal) actions.change((lists) => lists.withPersonal(elements.text.value));
-    });
+    elements.dialog.addEventListener('close', () => this.#close(elements.dialog.returnValue));
     elements.text.addEventListener('input', () => this.#count(elements.text.value));
   }
 
@@ -35,6 +34,14 @@ export class ListsView {
     this.#elements.text.value = this.lists.personal;
     this.#count(this.lists.personal);
     openDialog(this.#elements.dialog);
+  }
+
+  // Esc keeps the words too.
+  async #close(answer) {
+    const { value } = this.#elements.text;
+    if (answer === 'cancel' || value === this.lists.personal) return;
+    const isInUse = await this.actions.change((lists) => lists.withPersonal(value));
+    if (isInUse && !answer) this.actions.kept(this.actions.undo);
   }
 
   // Puts the lines of a file behind those of the personal list, and tells which.

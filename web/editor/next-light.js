@@ -2,6 +2,7 @@
 import { suggest } from './answers.js';
 import { refuse, say } from './messages.js';
 import { titleOf } from './words.js';
+import { staleClues } from './written.js';
 
 export class NextLight {
   /** @type {import('./editor.js').Editor} */
@@ -33,7 +34,9 @@ export class NextLight {
   #showLeft() {
     const editor = this.#editor;
     const left = this.#faults.first;
-    const lacking = editor.board.lights.filter((light) => !editor.board.texts.has(`clue ${light.name}`)).length;
+    const lacking = editor.board.lights.filter((one) => !editor.board.hasClue(one)).length;
+    const [stale] = staleClues(editor);
+    if (!left && stale) return refuse(`every light is entered, but the clue of ${titleOf(stale.light)} was written for ${stale.word}`);
     if (!left) return say(lacking ? `every light is entered; ${lacking === 1 ? 'one has' : `${lacking} have`} no clue yet` : 'done: every light is entered, listed and has a clue', 'good');
     const light = editor.board.byName.get(left.light);
     editor.moveTo(light.cells[0], light.direction);

@@ -92,12 +92,12 @@ export class Raiser {
     race.end();
   }
 
-  // Raises the fill in the grid: `base` is the record without the letters of its cells, `names` are those of its lights, as a line has them, and
-  // `grade` is that of its worst word. Returns the grade that it has then, a grade at which there is no fill, and how it ended.
-  async run({ base, names, cells, seed, grade }) {
+  // Raises the fill in the grid: `base` is the record without the letters of its cells, `names` are those of its lights, as a line has them, `grade` is that
+  // of its worst word, and `bound` one at which no fill is known to be. Returns the grade that it has then, such a bound, and how it ended.
+  async run({ base, names, cells, seed, grade, bound }) {
     const editor = this.#editor;
     const race = {
-      base, names, cells, seed, grade, bound: MOST + 1, record: editor.record, pencil: String([...editor.pencil]), isOver: false, isStopped: false, isChanged: false,
+      base, names, cells, seed, grade, bound, record: editor.record, pencil: String([...editor.pencil]), isOver: false, isStopped: false, isChanged: false,
       isEntering: false, entered: Promise.resolve(), end: () => {},
     };
     const ended = new Promise((resolve) => {
@@ -107,7 +107,7 @@ export class Raiser {
       };
     });
     this.#race = race;
-    if (grade >= MOST) race.end();
+    if (grade >= MOST || bound <= grade + 1) race.end();
     else this.#join(race, 0, 1);
     const joining = setTimeout(() => this.#join(race, 1, this.#helpers.most), ALONE);
     await ended;

@@ -10,7 +10,7 @@ import { endWarning, warn } from './messages.js';
 import { PATTERNS, recordOf, rowsOf } from './patterns.js';
 import { puzzlesFile, puzzlesIn } from './puzzles-file.js';
 import { lettersOf, parseRecord } from './record.js';
-import { newPuzzleName } from './state.js';
+import { isSameSet, newPuzzleName } from './state.js';
 
 // A version is kept before so many letters go at once, and after so many steps.
 const LETTERS_LOST = 3;
@@ -26,12 +26,11 @@ export function isUntouched(record) {
   return blocks.size + bars.size === 0 || grids.some(isSameGrid);
 }
 
-const isSameSet = (some, others) => some.size === others.size && [...some].every((one) => others.has(one));
-
 export class Shelf extends EventTarget {
   /** @type {import('./editor.js').Editor} */
   #editor;
   #claim;
+  #bank;
   // whether there is a change that is not written, and whether another tab has the puzzle
   #isDue = false;
   #isElsewhere = false;
@@ -44,14 +43,20 @@ export class Shelf extends EventTarget {
   #isStoring = false;
   #isStoreDue = false;
   #draftFault = null;
+  // whether the puzzle is not kept, and whether the store failed the last time; the record that a file has
+  #isUnkept = false;
+  #isStoreFailing = false;
+  #inFile = null;
   #begun = new Set();
   // whether the browser was asked to keep its store
   #isAsked = false;
 
-  constructor(editor, claim, saveSession) {
+  // `bank` has the clues of the puzzles.
+  constructor(editor, claim, bank, saveSession) {
     super();
     this.#editor = editor;
     this.#claim = claim;
+    this.#bank = bank;
     this.saveSession = saveSession;
     editor.on(['step'], ({ changes }) => this.#step(changes.step));
     editor.on(['left'], ({ changes }) => this.#leave(changes.left));
@@ -61,6 +66,8 @@ export class Shelf extends EventTarget {
     onOtherDraft((puzzle) => !navigator.locks && puzzle === editor.puzzle && claim.yield());
     // a page that is out of sight may end without a word, and is seldom idle
     document.addEventListener('visibilitychange', () => document.hidden && this.#keepAll());
+    // the browser asks whether to leave
+    addEventListener('beforeunload', (event) => this.#isAtRisk && event.preventDefault());
     addEventListener('pagehide', () => {
       this.#keepAll();
       claim.leave();
@@ -71,6 +78,7 @@ export class Shelf extends EventTarget {
   // The session to begin with, or null: that of this tab, or else the one that was changed last.
   async first() {
     await this.#adopt().catch(() => {});
+    this.#bank.begin().catch(() => {});
     const puzzle = puzzleOfTab();
     const session = puzzle ? await this.latest(puzzle) : formerSessions()[0];
     if (!session || session.deleted) return null;
@@ -195,6 +203,7 @@ export class Shelf extends EventTarget {
   }
 
   #stored() {
+    this.#isStoreFailing = false;
     endWarning('room');
     if (this.#claim.isHeld) this.#tell(null);
     // some browsers ask the user, so there is something to keep first
@@ -205,6 +214,7 @@ export class Shelf extends EventTarget {
 
   // Without the store a draft still keeps what is here, but nothing that was here before.
   #notStored(fault) {
+    this.#isStoreFailing = true;
     const why = whyNotKept(fault);
     const saving = { label: 'Save to a file', title: 'Save the session (.xw)', action: this.saveSession };
     const lost = this.#aside.length ? ' The puzzle that was here before is kept by Undo alone.' : '';
@@ -218,7 +228,19 @@ export class Shelf extends EventTarget {
 
   // Tells whether the puzzle that is here is kept: `detail` is why it is not, or null.
   #tell(why) {
+    this.#isUnkept = Boolean(why);
     this.dispatchEvent(new CustomEvent('kept', { detail: why }));
+  }
+
+  // A file has the puzzle as it is.
+  saved() {
+    this.#inFile = this.#editor.record;
+  }
+
+  // Whether something is lost if the page goes.
+  get #isAtRisk() {
+    if (this.#isStoreFailing && this.#aside.length) return true;
+    return this.#isUnkept && this.#claim.isHeld && this.#editor.record !== this.#inFile && this.#isBegun(this.#editor.state);
   }
 
   // Keeps a session that another puzzle replaces, and asks for the claim to that one.
@@ -286,6 +308,7 @@ export class Shelf extends EventTarget {
     const added = puzzles.filter(({ puzzle }) => !known.has(puzzle));
     const others = puzzles.filter(({ puzzle }) => known.has(puzzle));
     await storePuzzles(added, [...versions, ...others]);
+    await this.#bank.add(added).catch(() => {});
     return { added: added.length, others: others.length };
   }
 
@@ -294,7 +317,8 @@ export class Shelf extends EventTarget {
     return storePuzzles([{ ...entry, deleted: isDeleted ? Date.now() : null }]);
   }
 
-  destroy(names) {
-    return destroyPuzzles(names);
+  async destroy(names) {
+    await destroyPuzzles(names);
+    await this.#bank.drop(names).catch(() => {});
   }
 }

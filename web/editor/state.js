@@ -3,8 +3,16 @@ import { Board } from './board.js';
 
 /** @typedef {import('./answers.js').Direction} Direction */
 
-// A step of the history, as the browser keeps it too.
-/** @typedef {{ puzzle: string, record: string, pencil: string[], originals: [string, string][], cursor: number, direction: Direction }} Step */
+// The cursor in the light of a direction.
+/** @typedef {{ cursor: number, direction: Direction }} Place */
+
+// A step of the history, as the browser keeps it too, with the places where the cursor was after it and before it.
+/**
+ * @typedef {{
+ *   puzzle: string, record: string, pencil: string[], originals: [string, string][], written: [string, string][], cursor: number, direction: Direction,
+ *   from?: Place,
+ * }} Step
+ */
 
 // The word lists in use as one. `byGrade` has the number of words of each grade; `least` is the least score, and `grade` its grade; words
 // below the score `weak` are marked.
@@ -32,6 +40,9 @@ class Parts {
   // what was typed into fields, as commands spell them, where it has characters that the engine cannot keep; the engine has near ones
   /** @type {ReadonlyMap<string, string>} */
   originals = new Map();
+  // the words that clues were written for
+  /** @type {import('./written.js').Written} */
+  written = new Map();
   // names of the lights to fill; all if there are none
   /** @type {ReadonlySet<string>} */
   chosen = new Set();
@@ -138,6 +149,10 @@ export class EditorState {
     return this.#parts.originals;
   }
 
+  get written() {
+    return this.#parts.written;
+  }
+
   get chosen() {
     return this.#parts.chosen;
   }
@@ -174,6 +189,8 @@ export class EditorState {
     return this.#parts.puzzle;
   }
 }
+
+export const isSameSet = (some, others) => some.size === others.size && [...some].every((one) => others.has(one));
 
 // A set without some of its members; the same one if all stay.
 /**

@@ -14,10 +14,8 @@ export class WarningsView {
     this.#editor = editor;
     this.#faults = faults;
     this.#elements = elements;
-    // an edit is shown before its warnings are looked for
-    const soon = onceIdle(() => this.#show());
-    editor.on(['step', 'board'], soon);
-    faults.addEventListener('told', soon);
+    // an edit is shown before its warnings are looked for, and its faults are told after each
+    faults.addEventListener('told', onceIdle(() => this.#show()));
     elements.button.addEventListener('click', open);
   }
 

@@ -66,6 +66,12 @@ export class Browser {
     for (const domain of ['Page', 'Runtime', 'Log', 'DOM', 'Inspector']) await this.send(`${domain}.enable`);
     this.faults = [];
     this.on('Runtime.exceptionThrown', ({ exceptionDetails }) => this.faults.push(exceptionDetails.exception?.description ?? exceptionDetails.text));
+    // the browser asks the user, who agrees
+    this.asked = [];
+    this.on('Page.javascriptDialogOpening', ({ type }) => {
+      this.asked.push(type);
+      this.send('Page.handleJavaScriptDialog', { accept: true });
+    });
     this.on('Log.entryAdded', ({ entry }) => entry.level === 'error' && this.faults.push(entry.text));
   }
 
@@ -265,6 +271,12 @@ export class Browser {
   async scheme(value) {
     await this.send('Emulation.setEmulatedMedia', { features: [{ name: 'prefers-color-scheme', value }] });
     await this.until(`matchMedia('(prefers-color-scheme: ${value})').matches`);
+  }
+
+  // Colours that the system forces, or with `none` the page's own.
+  async forceColors(value) {
+    await this.send('Emulation.setEmulatedMedia', { features: [{ name: 'forced-colors', value }] });
+    await this.until(`matchMedia('(forced-colors: ${value})').matches`);
   }
 
   async picture() {

@@ -35,6 +35,12 @@ export async function openFile(path) {
   await browser.choose('#picker', path);
 }
 
+// Opens a file whose words have one length, as a list.
+export async function openWords(path) {
+  await openFile(path);
+  await browser.click('#rows-dialog [value=list]');
+}
+
 // Opens a session that has these lines.
 export async function openRecord(record) {
   writeFileSync(join(room, 'record.xw'), record);

@@ -63,7 +63,7 @@ class Connection {
 
 export class FirefoxBrowser {
   // What the cases may need that this browser does not tell or do. Its window never has the focus, so fields tell no change when they are left.
-  lacks = new Set(['touch', 'scheme', 'pdf', 'folders', 'blur']);
+  lacks = new Set(['touch', 'scheme', 'pdf', 'folders', 'blur', 'asking']);
   faults = [];
   // what takes the next file that a page saves
   #takeDownload = null;

@@ -124,9 +124,12 @@ export async function forget() {
   await browser.value(`new Promise((resolve, reject) => {
     localStorage.clear();
     sessionStorage.clear();
-    const request = indexedDB.deleteDatabase('xw-editor');
-    request.onsuccess = () => resolve(true);
-    request.onerror = reject;
+    const deleting = (name) => new Promise((resolve, reject) => {
+      const request = indexedDB.deleteDatabase(name);
+      request.onsuccess = () => resolve(true);
+      request.onerror = reject;
+    });
+    Promise.all(['xw-editor', 'xw-editor-clues'].map(deleting)).then(resolve, reject);
   })`);
 }
 

@@ -6,7 +6,136 @@ import { begin, menu, openFile, openRecord, print, saved } from '../doing.mjs';
 import { isDrafted } from '../holding.mjs';
 import { PAGE, browser, expect, module, page, picture, ready, reload, room, runAlone } from '../page.mjs';
 
+// A row of four cells with a word.
+const rowOf = (word) => `size 4 1\n${[...word].map((letter, at) => `set 1 ${at + 1} ${letter}\n`).join('')}`;
+const clueIs = (text) => browser.until(`document.querySelector('#clue-list input').value === '${text}'`);
+const staleIs = (text) => browser.until(`document.querySelector('.clue .written').textContent === '${text}' && Boolean(document.querySelector('.clue.stale')) === ${Boolean(text)}`);
+const WRITTEN = 'Written for BAAS: Keep Drop';
+
+async function enterWord(word) {
+  await browser.click('#cell-1-1');
+  await browser.type(word);
+  await browser.until(`document.querySelector('.clue .word').textContent === '${word.toUpperCase()}'`);
+}
+
 export const CASES = {
+  async 'a clue belongs to its word'() {
+    await openRecord(rowOf('BAAS'));
+    await browser.press('F3');
+    await browser.insert('Sheep sounds');
+    await browser.press('Enter');
+    await isDrafted(/"BAAS"/);
+    await staleIs('');
+    await enterWord('agar');
+    await staleIs(WRITTEN);
+    await browser.until("document.getElementById('clue-summary').textContent === 'every light has a clue; 1 is for another word'");
+    await picture('stale-clue');
+    // a length at its end says nothing of the other word
+    await browser.click('#clue-lengths');
+    await clueIs('Sheep sounds (4)');
+    await staleIs(WRITTEN);
+    await browser.press('F4');
+    await browser.until("[...document.querySelectorAll('#checks button')].some(({ textContent }) => textContent === 'the clue of 1 Across was written for BAAS')");
+    // each file warns, and has the clue
+    const puz = await saved('crossword.puz', () => browser.press('Control+s'));
+    await page.statusIs(/^saved: crossword.puz; but the clue of 1 Across was written for BAAS$/, 'bad');
+    expect(Xw.open(module, { puzzle: puz }).line('texts').lines.join() === 'clue 1 across Sheep sounds (4)', 'the clue is not in the .puz');
+    const session = (await saved('crossword.xw', () => menu('save-session'))).toString();
+    expect(session.includes('\n# written [["clue 1 1 across","BAAS"]]\n'), `the session is ${session}`);
+    await page.statusIs(/but the clue of 1 Across was written for BAAS/);
+    // it is known when the page is loaded again, and in the session
+    await isDrafted(/AGAR|set 1 4 R/);
+    await reload();
+    await browser.press('F3');
+    await staleIs(WRITTEN);
+    await begin(6);
+    await openFile(join(room, 'crossword.xw'));
+    await page.statusIs(/is open/);
+    await browser.press('F3');
+    await staleIs(WRITTEN);
+    // it is kept for the word that is there, which undo takes back
+    await browser.click('.clue [data-keep]');
+    await staleIs('');
+    await browser.click('#cell-1-1');
+    await browser.press('Control+z');
+    await staleIs(WRITTEN);
+    // it is no longer stale when its word is back
+    await enterWord('baas');
+    await staleIs('');
+    await enterWord('agar');
+    await staleIs(WRITTEN);
+    await browser.click('.clue [data-drop]');
+    await clueIs('');
+    await staleIs('');
+    const other = (await saved('crossword.xw', () => menu('save-session'))).toString();
+    expect(!other.includes('# written'), `the session is ${other}`);
+  },
+
+  async 'a block that hides a clue'() {
+    await openRecord('size 5 1\nblock 1 3\ntext clue 1 1 across First\ntext clue 1 4 across Second\n');
+    await browser.press('F3');
+    await browser.until("[...document.querySelectorAll('#clue-list input')].map(({ value }) => value).join() === 'First,Second'");
+    await browser.click('#cell-1-3');
+    await browser.press('.');
+    await page.statusIs(/^the clue of 2 Across is hidden, since its (light|entry) is gone: undo brings it back$/i, 'bad');
+    await browser.until("document.querySelectorAll('#clue-list input').length === 1");
+    await browser.press('Control+z');
+    await browser.until("[...document.querySelectorAll('#clue-list input')].map(({ value }) => value).join() === 'First,Second'");
+  },
+
+  async 'Esc in a clue'() {
+    await openRecord(rowOf('BAAS'));
+    await browser.press('F3');
+    await browser.insert('Sheep sounds');
+    await browser.press('Escape');
+    await page.statusIs(/kept; Esc again takes it back/);
+    await isDrafted(/Sheep sounds/);
+    await clueIs('Sheep sounds');
+    await browser.press('Escape');
+    await clueIs('');
+    await page.statusIs(/taken back/);
+    await browser.press('Control+y');
+    await clueIs('Sheep sounds');
+    // a key between makes Esc another one
+    await browser.press('F3');
+    await browser.insert('Farm noises');
+    await browser.press('Escape');
+    await page.statusIs(/kept; Esc again takes it back/);
+    await browser.press('ArrowRight');
+    await browser.press('Escape');
+    await clueIs('Farm noises');
+    await browser.press('Control+z');
+    await clueIs('Sheep sounds');
+    // and so do the texts of the puzzle
+    await browser.press('F4');
+    await browser.insert('Flock');
+    await browser.press('Escape');
+    await isDrafted(/text title Flock/);
+    await browser.press('Escape');
+    await browser.until("document.getElementById('title').value === ''");
+  },
+
+  async 'old clues for a word'() {
+    await openRecord(rowOf('ODDS'));
+    await browser.press('F3');
+    await browser.insert('Chances');
+    await browser.press('Enter');
+    await isDrafted(/Chances/);
+    // in another puzzle
+    await openRecord(rowOf('OATS'));
+    await browser.press('F3');
+    await enterWord('odds');
+    await browser.until("document.querySelector('.offers')?.textContent === 'Clues for ODDS before: Chances' && !document.querySelector('.offers').hidden");
+    await picture('old-clues');
+    await browser.click('.offers button');
+    await clueIs('Chances');
+    await browser.until("document.querySelector('.offers').hidden");
+    await staleIs('');
+    await enterWord('oats');
+    await staleIs('Written for ODDS: Keep Drop');
+    await browser.until("document.querySelector('.offers').hidden");
+  },
+
   async 'lengths at the end of clues'() {
     await begin(6);
     await browser.press('Control+f');
@@ -145,6 +274,7 @@ export const CASES = {
     await browser.press('Control+z');
     await browser.until("document.getElementById('rules').hidden && document.getElementById('rules-count').hidden");
     // a word twice
+    await browser.click('#cell-1-1');
     await browser.type('tone');
     await browser.click('#cell-2-1');
     if (await page.has('2-1', 'down')) await browser.press('Enter');

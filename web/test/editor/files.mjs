@@ -27,6 +27,76 @@ export const CASES = {
     expect((await page.row(1)) === 'ABCD', 'a file that is refused has changed the grid');
   },
 
+  async 'text of version 2, and rows of letters'() {
+    const text = [
+      '<ACROSS PUZZLE V2>', '<TITLE>', '\tTwo', '<AUTHOR>', '\tA. Setter', '<COPYRIGHT>', '', '<SIZE>', '\t3x3', '<GRID>', '\tC1T', '\ta.o', '\tTEE', '<REBUS>', '\tMARK;',
+      '\t1:HEART:H', '<ACROSS>', '\tFirst', '\tLast', '<DOWN>', '\tOne', '\tThree', '<NOTEPAD>', '\tA note', '',
+    ].join('\n');
+    writeFileSync(join(room, 'two.txt'), text);
+    await openFile(join(room, 'two.txt'));
+    await page.statusIs(/^two.txt is open, but without the rebus in row 1, column 2 \(HEART is H now\); undo/, 'bad');
+    expect((await page.rows()).join() === 'CHT,A#O,TEE', `the grid is ${await page.rows()}`);
+    expect((await page.has('2-1', 'circled')) && (await page.has('2-3', 'circled')) && !(await page.has('1-1', 'circled')), 'the marks are not circles');
+    await browser.press('F3');
+    await browser.until("[...document.querySelectorAll('#clue-list input')].map(({ value }) => value).join() === 'First,Last,One,Three'");
+    await browser.press('F4');
+    await browser.until("document.getElementById('title').value === 'Two' && document.getElementById('notes').value === 'A note'");
+    await page.factsAre(/built-in list/);
+    // rows of one length are a grid or a list
+    writeFileSync(join(room, 'rows.txt'), 'CAT\nA.O\nTEE\n');
+    const asked = async (answer) => {
+      await openFile(join(room, 'rows.txt'));
+      await browser.until("document.getElementById('rows-dialog').open && /^rows.txt has 3 lines of 3 letters/.test(document.getElementById('rows-told').textContent)");
+      await picture('rows');
+      await browser.click(`#rows-dialog [value=${answer}]`);
+    };
+    await begin(6);
+    await asked('cancel');
+    await page.statusIs(/^rows.txt is not opened$/, 'bad');
+    await page.factsAre(/^5 × 5/);
+    await asked('grid');
+    await page.statusIs(/^rows.txt is open; undo/);
+    expect((await page.rows()).join() === 'CAT,A#O,TEE', `the grid is ${await page.rows()}`);
+    await page.factsAre(/built-in list/);
+    await asked('list');
+    await page.factsAre(/rows.txt, 3 words/);
+    await menu('built-in');
+    await page.factsAre(/built-in list/);
+  },
+
+  async 'what is dropped of a file'() {
+    // the sections of rebus, marks, the timer and another one, as solving programs write them
+    const section = (name, data) => {
+      const sum = [...data].reduce((so, byte) => (((so >> 1) | ((so & 1) << 15)) + byte) & 0xffff, 0);
+      return Buffer.concat([Buffer.from(name), Buffer.from([data.length & 255, data.length >> 8, sum & 255, sum >> 8]), data, Buffer.from([0])]);
+    };
+    const xw = Xw.open(module, { record: 'size 3 1\nset 1 1 A\nset 1 2 C\nset 1 3 E\ntext clue 1 1 across Organs\ntext notes Two lines' });
+    const plain = Buffer.from(xw.puz());
+    const write = (name, ...sections) => writeFileSync(join(room, name), Buffer.concat([plain, ...sections]));
+    write('heart.puz', section('GRBS', Buffer.from([0, 1, 0])), section('RTBL', Buffer.from(' 0:HEART;')));
+    write('timed.puz', section('LTIM', Buffer.from('12,1')), section('GEXT', Buffer.from([0x80, 0x40, 0x10])), section('XYZZ', Buffer.from('?')));
+    write('rebus.puz', section('GRBS', Buffer.from([2, 1, 0])), section('RTBL', Buffer.from(' 0:HEART; 1:AB;')));
+    const opening = async (name, pattern, tone) => {
+      await openFile(join(room, name));
+      await page.statusIs(pattern, tone);
+    };
+    for (let time = 0; time < 2; time++) await opening('heart.puz', /^heart.puz is open, but without the rebus in row 1, column 2 \(HEART is C now\); undo/, 'bad');
+    await opening('timed.puz', /^timed.puz is open, but without 2 marks of cells, the timer and the section XYZZ; undo/, 'bad');
+    expect(await page.has('1-1', 'circled'), 'the circle is lost');
+    await opening('rebus.puz', /^rebus.puz is open, but without 2 rebus cells \(in row 1, column 1 AB is A now\); undo/, 'bad');
+    writeFileSync(join(room, 'plain.puz'), plain);
+    await opening('plain.puz', /^plain.puz is open; undo/, 'good');
+    const ipuz = {
+      version: 'http://ipuz.org/v2', kind: ['http://ipuz.org/crossword#1'], dimensions: { width: 3, height: 1 }, saved: [['A', 0, 0]],
+      puzzle: [[{ cell: 1, style: { color: 'ff0000' } }, { cell: 0, style: { shapebg: 'square' } }, 0]], solution: [['HEART', 'C', 'E']],
+      clues: { Across: [[1, 'Organ']], Zones: [[1, 'All']] },
+    };
+    writeFileSync(join(room, 'coloured.ipuz'), JSON.stringify(ipuz));
+    const parts = 'the rebus in row 1, column 1 (HEART is H now), the colour of a cell, a shape that is no circle, the letters of a solver and the clues of Zones';
+    await opening('coloured.ipuz', new RegExp(`^coloured.ipuz is open, but without ${parts.replace(/[()]/g, '\\$&')}; undo`), 'bad');
+    expect((await page.rows()).join() === 'HCE', `the grid is ${await page.rows()}`);
+  },
+
   async 'files that are refused by name'() {
     await begin(6);
     await browser.type('co');
@@ -37,7 +107,7 @@ export const CASES = {
       'none.puz': '', 'none.txt': '', 'none.xw': '', 'blank.txt': '\n\n \n', 'notes.xw': '# xw session 1\n\n# no more\n', 'prose.txt': prose,
       'some.puz': 'cat\ncot\n', 'numbers.csv': '1,2\n3,4\n', 'folder.txt': null,
       'sudoku.ipuz': JSON.stringify({ version: 'http://ipuz.org/v2', kind: ['http://ipuz.org/sudoku#1'], dimensions: { width: 2, height: 1 }, puzzle: [[1, 2]] }),
-      'rebus.ipuz': JSON.stringify({ version: 'http://ipuz.org/v2', kind: ['http://ipuz.org/crossword#1'], dimensions: { width: 2, height: 1 }, puzzle: [[1, 2]], solution: [['AB', 'C']] }),
+      'rebus.ipuz': JSON.stringify({ version: 'http://ipuz.org/v2', kind: ['http://ipuz.org/crossword#1'], dimensions: { width: 2, height: 1 }, puzzle: [[1, 2]], solution: [['\u2665', 'C']] }),
       'paper.pdf': '%PDF-1.4\n1 0 obj\n<< /Type /Catalog /Pages 2 0 R >>\nendobj\n2 0 obj\n<< /Type /Pages /Kids [] /Count 0 >>\nendobj\ntrailer\n<< /Root 1 0 R >>\nstartxref\n9\n%%EOF\n',
       'picture.png': Buffer.from('89504e470d0a1a0a0000000d49484452000000010000000108060000001f15c489', 'hex'),
     };

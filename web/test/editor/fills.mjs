@@ -1,7 +1,7 @@
 // Cases of fills: one that is stopped, others, those of more workers, and none.
 import { writeFileSync } from 'node:fs';
 import { join } from 'node:path';
-import { another, begin, menu, openFile, openRecord, slideLeast } from '../doing.mjs';
+import { another, begin, menu, openFile, openRecord, openWords, slideLeast } from '../doing.mjs';
 import { holdFill, raceOthers } from '../holding.mjs';
 import { browser, expect, page, picture, reload, room, runAlone } from '../page.mjs';
 
@@ -48,7 +48,7 @@ export const CASES = {
     expect((await page.rows()).join() === rows.join(), 'the fill is lost');
     // no fill: the first worker to know ends the search
     writeFileSync(join(room, 'few.txt'), 'abc\nadg\nbeh\ncfi\ndef\nghi\nxyz\n');
-    await openFile(join(room, 'few.txt'));
+    await openWords(join(room, 'few.txt'));
     await page.factsAre(/few.txt, 7 words/);
     await openRecord('size 3 5\nblock 4 1\nblock 4 2\nblock 4 3\nset 5 1 A\nset 5 2 B\nset 5 3 C\n');
     await raceOthers('nofill', 3);
@@ -112,7 +112,7 @@ export const CASES = {
 
   async 'an entry without which there is a fill'() {
     writeFileSync(join(room, 'few.txt'), 'abc\nadg\nbeh\ncfi\ndef\nghi\nxyz\n');
-    await openFile(join(room, 'few.txt'));
+    await openWords(join(room, 'few.txt'));
     await page.factsAre(/few.txt, 7 words/);
     // ABC, DEF, GHI read down ADG, BEH, CFI. With two words of its own a light of three cells below has no fill, though each light has a word
     await openRecord('size 3 5\nblock 4 1\nblock 4 2\nblock 4 3\nset 5 1 A\nset 5 2 B\nset 5 3 C\n');
@@ -148,7 +148,7 @@ export const CASES = {
   async 'no fill, and the light that dies first'() {
     // ABC, DEF, GHI read down ADG, BEH, CFI; the light below has no word of its own
     writeFileSync(join(room, 'six.txt'), 'abc\nadg\nbeh\ncfi\ndef\nghi\n');
-    await openFile(join(room, 'six.txt'));
+    await openWords(join(room, 'six.txt'));
     await page.factsAre(/six.txt, 6 words/);
     await openRecord('size 3 5\nblock 4 1\nblock 4 2\nblock 4 3\n');
     await browser.press('Control+f');

@@ -1,8 +1,8 @@
 // Cases of the grid: letters, blocks, bars and circles, the cursor and the keys.
 import { writeFileSync } from 'node:fs';
 import { join } from 'node:path';
-import { begin, menu, openFile } from '../doing.mjs';
-import { changeEdit, workOfLetter } from '../holding.mjs';
+import { begin, menu, openFile, openWords } from '../doing.mjs';
+import { changeEdit, isDrafted, workOfLetter } from '../holding.mjs';
 import { browser, expect, page, picture, reload, room, runAlone } from '../page.mjs';
 
 export const CASES = {
@@ -110,7 +110,7 @@ export const CASES = {
     await browser.click('#tab-words');
     // names and texts are as they are
     writeFileSync(join(room, 'light verse.txt'), 'cat\ncot\n');
-    await openFile(join(room, 'light verse.txt'));
+    await openWords(join(room, 'light verse.txt'));
     await page.statusIs(/^light verse.txt: 2 words/);
     await menu('built-in');
     await page.factsAre(/built-in list/);
@@ -244,6 +244,57 @@ export const CASES = {
     expect((await page.status()).startsWith('empty.puz is empty'), `the page says: ${await page.status()}`);
   },
 
+  async 'undo goes to where its step was'() {
+    await begin(6);
+    // 30 letters a second and more: each is entered before the last one is answered
+    const typeAtOnce = (keys) => browser.value(`(() => {
+      for (const key of '${keys}') document.getElementById('grid').dispatchEvent(new KeyboardEvent('keydown', { key, bubbles: true, cancelable: true }));
+    })()`);
+    await page.cursorAt('1-2');
+    await typeAtOnce('cot');
+    await page.factsAre(/· 3 of/);
+    await browser.click('#cell-3-1');
+    await typeAtOnce('ar');
+    await page.factsAre(/· 5 of/);
+    await browser.click('#cell-5-4');
+    for (const cell of ['3-2', '3-1', '1-4', '1-3', '1-2']) {
+      await browser.press('Control+z');
+      await page.cursorAt(cell);
+    }
+    for (const cell of ['1-3', '1-4', '1-4', '3-2', '3-3']) {
+      await browser.press('Control+y');
+      await page.cursorAt(cell);
+    }
+    await page.factsAre(/· 5 of/);
+    // a change that is out of sight is shown, and said
+    await browser.press('F3');
+    await browser.until("document.activeElement.dataset.light");
+    const light = await browser.value('document.activeElement.dataset.light');
+    await browser.insert('Of a pirate');
+    await browser.press('Enter');
+    await isDrafted(/Of a pirate/);
+    await browser.click('#tab-words');
+    await browser.click('#cell-1-2');
+    await browser.press('Control+z');
+    await page.statusIs(/^undone: the clue of \d+ Across$/i);
+    await browser.until("!document.getElementById('clues').hidden");
+    await page.cursorAt('3-1');
+    expect(await browser.value(`document.querySelector('.clue.here input').dataset.light === '${light}' && document.querySelector('.clue.here input').value === ''`), 'the clue is not in sight');
+    await browser.click('#cell-1-2');
+    await browser.press('Control+y');
+    await page.statusIs(/^done again: the clue of \d+ Across$/i);
+    await browser.until("document.querySelector('.clue.here input').value === 'Of a pirate'");
+    await browser.press('F4');
+    await browser.insert('Ships');
+    await browser.press('Escape');
+    await isDrafted(/text title Ships/);
+    await browser.click('#tab-words');
+    await browser.press('Control+z');
+    await page.statusIs(/^undone: the title$/i);
+    await browser.until("!document.getElementById('puzzle').hidden && document.getElementById('title').value === ''");
+    await browser.click('#tab-words');
+  },
+
   async 'a letter that the engine refuses'() {
     await begin(1);
     await browser.type('lard');
@@ -263,7 +314,7 @@ export const CASES = {
     await browser.until("document.querySelector('#cell-4-2 .letter').textContent === 'Z' && !document.getElementById('cell-4-2').classList.contains('pencil')");
     await browser.press('Control+z');
     await browser.until("document.querySelector('#cell-4-2 .letter').textContent !== 'Z'");
-    await browser.click('#cell-4-2');
+    await page.cursorAt('4-2');
     await browser.until('window.shown() === window.before');
   },
 };

@@ -5,6 +5,11 @@ import { begin, menu, openFile, saved } from '../doing.mjs';
 import { isDrafted, isStored, stored } from '../holding.mjs';
 import { PAGE, browser, expect, forget, fresh, page, picture, pictures, ready, reload, room, runAlone } from '../page.mjs';
 
+const DENIED = `
+  const deny = () => { throw new DOMException('denied', 'SecurityError'); };
+  for (const name of ['localStorage', 'sessionStorage', 'indexedDB']) Object.defineProperty(window, name, { get: deny });
+  if (window.LockManager) LockManager.prototype.request = LockManager.prototype.query = async () => deny();`;
+
 export const CASES = {
   async 'a reload in the middle'() {
     await begin(1);
@@ -239,12 +244,39 @@ export const CASES = {
     await isDrafted(/set 1 3 E/);
   },
 
+  async 'leaving a puzzle that is not kept'() {
+    const leave = async () => {
+      browser.asked.length = 0;
+      await browser.go(PAGE.href);
+      await browser.until('window.isRunning');
+      return browser.asked.join();
+    };
+    await browser.type('to');
+    await isStored('set 1 2 O');
+    expect((await leave()) === '', 'a puzzle that is kept is asked for');
+    const unload = await browser.preload(DENIED);
+    try {
+      await browser.go(PAGE.href);
+      await browser.until('window.isRunning');
+      // nothing was done yet
+      await browser.press('ArrowRight');
+      expect((await leave()) === '', 'a new puzzle is asked for');
+      await browser.type('to');
+      await browser.until("/^Not kept/.test(document.getElementById('warnings').textContent)");
+      expect((await leave()) === 'beforeunload', 'the page goes with the puzzle');
+      // what a file has is not lost
+      await browser.type('to');
+      await browser.until("/^Not kept/.test(document.getElementById('warnings').textContent)");
+      await saved('crossword.xw', () => browser.press('Control+s'));
+      expect((await leave()) === '', 'a puzzle that is in a file is asked for');
+    } finally {
+      await unload();
+      await reload();
+    }
+  },
+
   async 'a browser that denies its store'() {
-    const denied = `
-      const deny = () => { throw new DOMException('denied', 'SecurityError'); };
-      for (const name of ['localStorage', 'sessionStorage', 'indexedDB']) Object.defineProperty(window, name, { get: deny });
-      if (window.LockManager) LockManager.prototype.request = LockManager.prototype.query = async () => deny();`;
-    const unload = await browser.preload(denied);
+    const unload = await browser.preload(DENIED);
     try {
       await browser.go(PAGE.href);
       await browser.until("window.isRunning");
@@ -317,6 +349,6 @@ export const CASES = {
 };
 
 // What cases need that not every browser can do.
-export const NEEDS = { 'a reload in the middle': ['blur'] };
+export const NEEDS = { 'a reload in the middle': ['blur'], 'leaving a puzzle that is not kept': ['asking'] };
 
 await runAlone(import.meta.url, { CASES, NEEDS });

@@ -2,7 +2,7 @@
 import { writeFileSync } from 'node:fs';
 import { join } from 'node:path';
 import { largeList } from '../time.mjs';
-import { begin, menu, openFile, openRecord, saved, slideLeast } from '../doing.mjs';
+import { begin, menu, openFile, openRecord, openWords, saved, slideLeast } from '../doing.mjs';
 import { raiseInTime, raiseToTheEnd, workOfLetter } from '../holding.mjs';
 import { browser, expect, forget, page, picture, reload, room, runAlone } from '../page.mjs';
 
@@ -49,7 +49,7 @@ export const CASES = {
   async 'lines of a list that are left out'() {
     const open = async (name, bytes, told) => {
       writeFileSync(join(room, name), bytes);
-      await openFile(join(room, name));
+      await (name === 'marked.txt' ? openWords : openFile)(join(room, name));
       const said = await page.statusIs(new RegExp(`^${name}: .*words`));
       expect(said === `${name}: ${told}`, `${name}: the page says: ${said}`);
       expect((await browser.value("document.getElementById('list-name').textContent")) === `${name}: ${told.replace(', the best scores first', '')}`, 'the tab says otherwise');
@@ -83,7 +83,7 @@ export const CASES = {
     await reload();
     for (const [name, text] of [['one.txt', 'cat\ncot\n'], ['two.txt', 'cut;50\near;90\ncat;70\n']]) {
       writeFileSync(join(room, name), text);
-      await openFile(join(room, name));
+      await (name === 'one.txt' ? openWords : openFile)(join(room, name));
       await page.factsAre(new RegExp(name));
     }
     await browser.click('#tab-puzzle');
@@ -146,17 +146,43 @@ export const CASES = {
     await browser.value("document.getElementById('personal-text').value = ''");
     await browser.click('#personal-dialog [value=save]');
     await browser.until("document.getElementById('personal-summary').textContent === 'none yet'");
-    // Esc keeps nothing, also after words were saved
+    await menu('built-in');
+    await page.factsAre(/built-in list, 63,\d+ words/);
+  },
+
+  async 'Esc while words are typed'() {
+    const summaryIs = (text) => browser.until(`document.getElementById('personal-summary').textContent === '${text}'`);
+    const isClosed = () => browser.until("!document.getElementById('personal-dialog').open");
+    await browser.click('#tab-puzzle');
     await browser.click('#personal-edit');
     await browser.insert('emu');
     await browser.press('Escape');
-    await browser.until("!document.getElementById('personal-dialog').open");
-    // changes are made in order, so words that were saved would be there before this list
-    await browser.click('#lists [data-name="two.txt"]');
-    await page.factsAre(/2 lists, 63,\d+ words/);
-    expect((await browser.value("document.getElementById('personal-summary').textContent")) === 'none yet', 'words that were not saved are kept');
-    await menu('built-in');
-    await page.factsAre(/built-in list, 63,\d+ words/);
+    await isClosed();
+    await summaryIs('1 added, 0 hidden');
+    await page.statusIs(/^What you typed is kept; Esc again takes it back$/i);
+    await browser.press('Escape');
+    await summaryIs('none yet');
+    // after anything else it stays, and undo has it
+    await browser.click('#personal-edit');
+    await browser.insert('emu');
+    await browser.press('Escape');
+    await page.statusIs(/kept; Esc again/);
+    await browser.click('#cell-1-1');
+    await browser.press('Escape');
+    await browser.click('#lists-undo');
+    await summaryIs('none yet');
+    // Cancel throws away
+    await browser.click('#personal-edit');
+    await browser.insert('emu');
+    await browser.click('#personal-dialog [value=cancel]');
+    await isClosed();
+    // changes are made in order, so words that were saved would be there before this one
+    await browser.click('#personal-edit');
+    await browser.insert('owl');
+    await browser.click('#personal-dialog [value=save]');
+    await summaryIs('1 added, 0 hidden');
+    await browser.click('#lists-undo');
+    await summaryIs('none yet');
   },
 };
 

@@ -48,13 +48,73 @@ export const CASES = {
     await browser.until("document.getElementById('figures').hidden && !document.querySelector('.weak-across, .weak-down')");
     await browser.press('Control+y');
     await page.factsAre(/filled/);
-    // what is proved holds for the letters in ink that were there
+    // what is proved holds when letters are locked
     await browser.until("/no fill is better/.test(document.getElementById('figures-text').textContent)");
     await browser.press('=');
+    await page.statusIs(/locked/);
+    const isBest = () => browser.until("document.getElementById('figures-text').textContent === 'worst 65, mean 80, 1 under 70; no fill is better'");
+    await isBest();
+    await browser.press('Control+f');
+    await page.statusIs(/^filled: worst 65, mean 80, 1 under 70; no fill is better$/);
+    // but not with other words
+    await browser.click('#tab-puzzle');
+    await browser.value("document.getElementById('word').focus()");
+    await browser.type('zz');
+    await browser.press('Enter');
     await browser.until("document.getElementById('figures-text').textContent === 'worst 65, mean 80, 1 under 70'");
+    await browser.click('#tab-words');
     await menu('built-in');
     await page.factsAre(/built-in list/);
     await browser.until("document.getElementById('figures').hidden && document.getElementById('least-row').hidden");
+  },
+
+  async 'another fill that is worse'() {
+    writeFileSync(join(room, 'scored.txt'), 'cat;10\ncot;90\ncut;50\near;60\noar;20\ntea;40\ntoe;70\nare;30\ntar;80\nate;55\n');
+    await openFile(join(room, 'scored.txt'));
+    await page.factsAre(/scored.txt, 10 words/);
+    await beginBlank(3, 1);
+    await browser.press('Control+f');
+    await page.statusIs(/^filled: worst 90, mean 90; no fill is better$/);
+    // another fill finds TAR, and raisings find nothing and end when they are told to
+    await browser.value(`(() => {
+      window.inTime = window.setTimeout;
+      window.setTimeout = (action, time, ...more) => (time === 2000 ? ((window.endRaising = action), 0) : window.inTime(action, time, ...more));
+      const post = Worker.prototype.postMessage;
+      window.seeds = [];
+      Worker.prototype.postMessage = function (message, transfer) {
+        if (message.call === 'best') return window.seeds.push(message.sent.limits.split(' ')[1]);
+        if (!message.sent.lines?.[0]?.startsWith('autofill')) return post.call(this, message, transfer);
+        const id = message.id + ' placed';
+        const answers = [{ lines: ['filled'], refusal: null }];
+        this.addEventListener('message', ({ data }) => data.id === id && this.dispatchEvent(new MessageEvent('message', { data: { id: message.id, value: { ...data.value, answers } } })));
+        post.call(this, { ...message, id, sent: { ...message.sent, lines: ['place 1 across TAR'] } }, transfer);
+      };
+    })()`);
+    const raising = async (key) => {
+      await browser.value('window.endRaising = null, window.seeds.length = 0');
+      await browser.press(key);
+      await browser.until('window.endRaising && window.seeds.length > 0');
+      const row = await page.row(1);
+      await browser.value('window.endRaising()');
+      const told = await page.statusIs(/^filled: worst/);
+      return { row, told, seeds: await browser.value('window.seeds.join()') };
+    };
+    const made = await raising('Control+g');
+    expect(made.row === 'TAR', `the other fill is ${made.row}`);
+    expect(/^filled: worst 90, .*it is the fill from before, since no better one was found$/i.test(made.told), made.told);
+    await page.factsAre(/filled/);
+    expect((await page.row(1)) === 'COT', `the row is ${await page.row(1)}`);
+    await browser.until("document.querySelectorAll('#fills-list .fill').length > 1");
+    // the other one can be chosen, and is raised with other seeds each time
+    await browser.click('#fills-list .fill[aria-pressed=false]');
+    await browser.until("[...document.querySelectorAll('.cell .letter')].map(({ textContent }) => textContent).join('') !== 'COT'");
+    const [one, two] = [await raising('Control+f'), await raising('Control+f')];
+    expect(one.row !== 'COT' && two.row === one.row, `the fills are ${one.row}, ${two.row}`);
+    expect(one.seeds !== two.seeds, `both have the seeds ${one.seeds}`);
+    await browser.value('window.setTimeout = window.inTime, 0');
+    await reload();
+    await menu('built-in');
+    await page.factsAre(/built-in list/);
   },
 
   async 'a raising that leaps ahead'() {

@@ -1,7 +1,9 @@
 // Cases of the page as a whole: browsers, screens, messages and failures.
+import { writeFileSync } from 'node:fs';
+import { join } from 'node:path';
 import { begin } from '../doing.mjs';
 import { changeEdit } from '../holding.mjs';
-import { PAGE, browser, expect, page, picture, reload, runAlone } from '../page.mjs';
+import { PAGE, browser, expect, page, picture, pictures, reload, runAlone } from '../page.mjs';
 
 export const CASES = {
   async 'a browser that cannot run the page'() {
@@ -90,6 +92,57 @@ export const CASES = {
       await picture('touch-21');
     } finally {
       await browser.view(1400, 900);
+    }
+  },
+
+  async 'tools that stay where they are'() {
+    await begin(1);
+    try {
+      for (const [width, height] of [[1400, 900], [700, 450], [390, 844], [320, 640]]) {
+        await browser.view(width, height);
+        const places = (isRunning) => browser.value(`(document.getElementById('stop').hidden = ${!isRunning},
+          ['file', 'undo', 'fill'].map((id) => document.getElementById(id).getBoundingClientRect()).map(({ x, y, width }) => [x, y, width].map(Math.round)).join(' '))`);
+        const [one, other] = [await places(false), await places(true)];
+        const isShown = await browser.value("(({ x, right, width }) => width > 0 && x >= 0 && right <= innerWidth)(document.getElementById('stop').getBoundingClientRect())");
+        await places(false);
+        expect(one === other, `${width}: the tools move from ${one} to ${other}`);
+        expect(isShown, `${width}: the button is out of sight`);
+        expect(await browser.value("document.querySelector('.tools').offsetHeight < 80"), `${width}: the tools have a second row`);
+        expect(await browser.value('document.documentElement.scrollWidth <= innerWidth'), `${width}: the page is ${await browser.value('document.documentElement.scrollWidth')} wide`);
+        await picture(`tools-${width}`);
+      }
+    } finally {
+      await browser.view(1400, 900);
+    }
+  },
+
+  async 'colours that the system forces'() {
+    await begin(1);
+    await browser.type('to');
+    await browser.until("document.querySelector('.block') && document.querySelector('#cell-1-1 .letter').textContent === 'T'");
+    await browser.value("document.querySelector('[data-tool=block]').click()");
+    await browser.forceColors('active');
+    try {
+      const lookOf = (selector) => browser.value(`(({ backgroundColor, boxShadow, color }) => ({ backgroundColor, boxShadow, color }))(getComputedStyle(document.querySelector(${JSON.stringify(selector)})))`);
+      const [block, cell, cursor] = [await lookOf('.cell.block'), await lookOf('.cell:not(.block, .cursor)'), await lookOf('.cell.cursor')];
+      expect(block.backgroundColor !== cell.backgroundColor, `a block looks like a cell: ${cell.backgroundColor}`);
+      expect(cursor.boxShadow !== 'none' && !cursor.boxShadow.includes(cell.backgroundColor), `the cursor is not seen: ${cursor.boxShadow}`);
+      for (const [chosen, other] of [['.tool[aria-pressed=true]', '.tool[aria-pressed=false]'], ['.tabs [aria-selected=true]', '.tabs [aria-selected=false]']]) {
+        const [one, two] = [await lookOf(chosen), await lookOf(other)];
+        expect(one.backgroundColor !== two.backgroundColor && one.color !== one.backgroundColor, `${chosen} looks like ${other}: ${one.backgroundColor}`);
+      }
+      // a word of the list that is pointed at, and a dead cell
+      await browser.press('Escape');
+      await browser.click('#tab-words');
+      await browser.press('/');
+      await browser.until("document.querySelector('#candidates[aria-busy=false] li')");
+      await browser.press('ArrowDown');
+      const [one, two] = [await lookOf('#candidates li[aria-selected=true]'), await lookOf('#candidates li:not([aria-selected=true])')];
+      expect(one.backgroundColor !== two.backgroundColor, 'the word that is pointed at is not seen');
+      if (pictures) writeFileSync(join(pictures, 'forced-colours.png'), await browser.picture());
+    } finally {
+      await browser.forceColors('none');
+      await browser.scheme('light');
     }
   },
 
@@ -212,6 +265,6 @@ export const CASES = {
 };
 
 // What cases need that not every browser can do.
-export const NEEDS = { 'a screen that is touched': ['touch'], 'sizes of type, of targets and of contrasts': ['touch', 'scheme'] };
+export const NEEDS = { 'colours that the system forces': ['scheme'], 'a screen that is touched': ['touch'], 'sizes of type, of targets and of contrasts': ['touch', 'scheme'] };
 
 await runAlone(import.meta.url, { CASES, NEEDS });

@@ -3,7 +3,7 @@ import { writeFileSync } from 'node:fs';
 import { join } from 'node:path';
 import { Xw } from '../../dist/xw.js';
 import { PATTERNS, recordOf, rowsOf } from '../../editor/patterns.js';
-import { begin, beginBlank, menu, openFile } from '../doing.mjs';
+import { begin, beginBlank, menu, openFile, openWords } from '../doing.mjs';
 import { isDrafted } from '../holding.mjs';
 import { LIST, PAGE, browser, expect, module, page, picture, ready, room, runAlone } from '../page.mjs';
 
@@ -131,7 +131,7 @@ export const CASES = {
   async 'other words that are dead ends'() {
     const list = ['baa', 'bcd', 'aab', 'acd', 'dcb', 'dac', 'cda'];
     writeFileSync(join(room, 'seven.txt'), list.join('\n'));
-    await openFile(join(room, 'seven.txt'));
+    await openWords(join(room, 'seven.txt'));
     await page.factsAre(/seven.txt, 7 words/);
     await beginBlank(3, 3);
     await browser.type('acd');

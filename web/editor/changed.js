@@ -1,0 +1,35 @@
+// What a step of the history changes outside of the grid, so that it can be said and shown.
+import { bodyOf, wordsOf } from './record.js';
+
+/** @typedef {import('./state.js').Step} Step */
+
+// The lines of a step, with those of the words that clues were written for.
+const linesOf = ({ record, written }) => [...wordsOf(record), ...bodyOf(record), ...written.map((pair) => `written ${pair.join(' ')}`)];
+
+// The lines that one of two steps has alone.
+function linesBetween(one, other) {
+  const [here, there] = [one, other].map((step) => new Set(linesOf(step)));
+  return [...[...here].filter((line) => !there.has(line)), ...[...there].filter((line) => !here.has(line))];
+}
+
+// The lines of a kind, the tab that shows it, what a line is about, and what several are.
+const KINDS = [
+  { pattern: /^(?:text|more|written) clue (\d+ \d+) (\w+)/, tab: 'clues', nameOf: (titled, ...place) => `the clue of ${titled(...place)}`, several: 'clues' },
+  { pattern: /^(?:text|more) (\w+)/, tab: 'puzzle', nameOf: (_, field) => `the ${field}`, several: 'texts' },
+  { pattern: /^(?:add|strike) (\w+)/, tab: 'puzzle', nameOf: (_, word) => `${word} in the words of this puzzle`, several: 'words of this puzzle' },
+  { pattern: /^sym /, tab: '', nameOf: () => 'the symmetry', several: '' },
+];
+
+// What lies between two steps, and the tab that shows it; null if some of it is in the grid. `titled` names the light of a clue.
+/**
+ * @param {Step} one
+ * @param {Step} other
+ * @param {(coordinates: string, direction: string) => string} titled
+ */
+export function changeBeside(one, other, titled) {
+  const lines = linesBetween(one, other);
+  const kind = KINDS.find(({ pattern }) => lines.length && lines.every((line) => pattern.test(line)));
+  if (!kind || one.puzzle !== other.puzzle) return null;
+  const names = new Set(lines.map((line) => kind.nameOf(titled, ...kind.pattern.exec(line).slice(1))));
+  return { tab: kind.tab, text: names.size === 1 ? [...names][0] : `${names.size} ${kind.several}` };
+}

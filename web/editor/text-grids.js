@@ -1,0 +1,69 @@
+// Grids in text files that the engine does not read: the text format of Across Lite in version 2, and rows of letters.
+import { rebusText } from './dropped.js';
+import { recordOf } from './patterns.js';
+import { nearestText } from './record.js';
+
+const MOST_SIDE = 255;
+
+// Text of Across Lite, version 2.
+
+const TAGS = ['TITLE', 'AUTHOR', 'COPYRIGHT', 'SIZE', 'GRID', 'REBUS', 'ACROSS', 'DOWN', 'NOTEPAD'];
+const TAG = new RegExp(`^<(${TAGS.join('|')})>$`, 'i');
+
+export const isVersion2 = (head) => /^\s*<across puzzle v2>/i.test(head);
+
+// The lines of each part.
+function partsOf(text) {
+  /** @type {Record<string, string[]>} */
+  const parts = Object.fromEntries(TAGS.map((tag) => [tag, []]));
+  let part = [];
+  for (const line of text.split(/\r\n?|\n/).map((one) => one.trim()).filter(Boolean)) {
+    const [, tag] = (part === parts.NOTEPAD ? null : TAG.exec(line)) ?? [];
+    if (tag) part = parts[tag.toUpperCase()];
+    else part.push(line);
+  }
+  return parts;
+}
+
+// The text as one of version 1, which the engine reads, the coordinates of its circles, which that version cannot have, and what of it is dropped.
+export function asVersion1(text) {
+  const parts = partsOf(text);
+  const told = parts.REBUS.flatMap((line) => line.split(';')).map((one) => one.trim());
+  // a mark of a cell stands for an entry, and for one letter where there is no room for more
+  const entries = new Map(told.map((one) => one.split(':')).filter(({ length }) => length === 3).map(([mark, entry, short]) => [mark, { entry: entry.toUpperCase(), short }]));
+  const areMarked = told.some((one) => /^mark$/i.test(one));
+  const [circles, rebus] = [[], []];
+  const rows = parts.GRID.map((line, row) => [...line].map((mark, column) => {
+    const found = entries.get(mark);
+    if (areMarked && !found && /[a-z]/.test(mark)) circles.push(`${row + 1} ${column + 1}`);
+    if (!found) return mark;
+    const letter = (/^[A-Z]$/i.test(found.short) ? found.short : found.entry.slice(0, 1)).toUpperCase();
+    if (found.entry.length > 1) rebus.push({ row: row + 1, column: column + 1, entry: found.entry, letter });
+    return letter;
+  }).join(''));
+  const lines = TAGS.filter((tag) => tag !== 'REBUS').flatMap((tag) => [`<${tag}>`, ...(tag === 'GRID' ? rows : parts[tag])]);
+  const { near, count } = nearestText(['<ACROSS PUZZLE>', ...lines.slice(0, parts.NOTEPAD.length ? undefined : -1)].join('\n'));
+  return { text: near, circles, dropped: [...rebusText(rebus), ...(count ? ['characters that a text file cannot have'] : [])] };
+}
+
+// Rows of letters.
+
+// A letter, a block or an empty cell.
+const ROW = /^[A-Za-z.#_?-]+$/;
+const isSide = (count) => count >= 2 && count <= MOST_SIDE;
+
+// The rows of a text whose lines are all of one length, with `#` for a block; or null.
+export function letterRows(text) {
+  const rows = text.split(/\r\n?|\n/).map((line) => line.trim()).filter(Boolean);
+  if (!isSide(rows.length) || !isSide(rows[0].length) || rows.some((row) => row.length !== rows[0].length || !ROW.test(row))) return null;
+  // a dot is a block where nothing else is one
+  return rows.some((row) => row.includes('#')) ? rows.map((row) => row.replaceAll('.', '-')) : rows.map((row) => row.replaceAll('.', '#'));
+}
+
+// The record of a grid in rows.
+export function recordOfRows(rows) {
+  const blocks = rows.map((row) => row.replace(/[^#]/g, '.'));
+  const isHalf = [...blocks].reverse().every((row, at) => [...row].reverse().join('') === blocks[at]);
+  const letters = rows.flatMap((row, at) => [...row].flatMap((mark, column) => (/[a-z]/i.test(mark) ? [`set ${at + 1} ${column + 1} ${mark.toUpperCase()}`] : [])));
+  return [recordOf(blocks, isHalf ? 'half' : 'none'), ...letters, ''].join('\n').replace(/\n+/g, '\n');
+}

@@ -1,0 +1,46 @@
+// The words that clues were written for. A clue belongs to the word that stood in its light when it was written, or that came there first. It is stale
+// once another word stands there.
+
+/** @typedef {import('./board.js').Board} Board */
+/** @typedef {import('./board.js').Light} Light */
+/** @typedef {ReadonlyMap<string, string>} Written the words, by the names that records have for clues */
+
+// The words of the clues as they are: a clue without one has that of its light, and one that is gone has none. The same map if nothing changes.
+/**
+ * @param {Board} board
+ * @param {Written} written
+ * @returns {Written}
+ */
+export function adopted(board, written) {
+  if (!written.size && !board.texts.size) return written;
+  const now = new Map(written);
+  for (const light of board.lights) {
+    const field = board.clueField(light);
+    if (!board.hasClue(light)) now.delete(field);
+    else if (!now.has(field) && board.isEntered(light)) now.set(field, board.spell(light));
+  }
+  return isSameMap(now, written) ? written : now;
+}
+
+const isSameMap = (one, other) => one.size === other.size && [...one].every(([key, value]) => other.get(key) === value);
+
+// The words without those of some clues; the same map if these have none.
+/** @returns {Written} */
+export const withoutWords = (written, fields) => (fields.some((field) => written.has(field)) ? new Map([...written].filter(([field]) => !fields.includes(field))) : written);
+
+// The word that the clue of a light was written for, if the letters of the light are not those of that word; or ''.
+/**
+ * @param {Board} board
+ * @param {Light} light
+ * @param {Written} written
+ */
+export function staleWord(board, light, written) {
+  const word = written.get(board.clueField(light)) ?? '';
+  if (!word || !board.hasClue(light)) return '';
+  const isOther = (cell, at) => board.cells[cell].letter && board.cells[cell].letter !== word[at];
+  return word.length !== light.cells.length || light.cells.some(isOther) ? word : '';
+}
+
+// The lights whose clues are stale, each with the word that its clue was written for.
+/** @param {{ board: Board, written: Written }} editor */
+export const staleClues = ({ board, written }) => (written.size ? board.lights.map((light) => ({ light, word: staleWord(board, light, written) })).filter(({ word }) => word) : []);
