@@ -9,7 +9,7 @@ use Rattle.xw_feas.specs.Position.{state_of as position_state}
 use Rattle.xw_feas.specs.Shape.{SameCounts}
 use Rattle.xw_feas.specs.State.{Action, after}
 use Rattle.xw_feas.specs.declared.position.Position.{Position}
-use Rattle.xw_net.specs.Change.{Fields, IsChange, before_of, cells_of, entries_written, word_changed, brings_back}
+use Rattle.xw_net.specs.Change.{Fields, IsChange, before_of, cells_of, word_of, entries_written, word_changed, brings_back}
 use Rattle.xw_net.specs.declared.change.Change.{Change}
 use Rattle.xw_net.specs.Layout.{Layout, layout_of}
 use Rattle.xw_net.specs.Net.{sets_of, IsSettledOn, StoodFor, known_counts}
@@ -59,7 +59,7 @@ module _ (old : Live) (now : Position) (action : Action) (made : after (state_of
   can_follow counts change written same = record {
     inside = edit_in_grid (state_of old) (position_state now) action (cells_of change) old.position.formed.grid made written;
     cells = cells_kept;
-    stood = subst (λ (lights : List Light). StoodFor lights (known_counts now.bank.words) old.net) (sym same) (stood_same (state_of old) old.net now.lights lights_are old.kept.settled now.bank.words counts);
+    stood = subst (λ (lights : List Light). StoodFor lights (word_of change) (known_counts now.bank.words) old.net) (sym same) (stood_same (state_of old) old.net now.lights lights_are old.kept.settled now.bank.words (word_of change) counts);
     room =
         room_without (before_of now.lights change) now.lights (known_counts now.bank.words) old.net old.net.spare old.kept.none_waits (sym same)
         (room_for_same now.lights old.position.bank.words now.bank.words old.net counts (room_of_lights (state_of old) old.net now.lights lights_are old.kept.settled));

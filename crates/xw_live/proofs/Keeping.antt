@@ -30,9 +30,11 @@ use Rattle.xw_feas.proofs.QueryLemmas.{count_is}
 use Rattle.xw_net.specs.declared.net.Net.{Net}
 use Rattle.xw_live.specs.Engine.{IsKept, net_answers}
 use Rattle.xw_net.specs.Layout.{layout_of}
+use Rattle.xw_net.specs.Begin.{is_long}
+use Rattle.xw_net.proofs.BaseRows.BaseBits.{eqb_other_way}
 use Rattle.xw_net.specs.Net.{flags_of, flags_at, sets_of, IsSettledFor, HasRoomIn, IsAlike, StandsFor, StoodFor, known_counts}
 use Rattle.xw_net.specs.Room.{HasRoom}
-use Rattle.xw_net.specs.Fit.{HasRoomBetween}
+use Rattle.xw_net.specs.Fit.{lacking, HasRoomBetween}
 use Rattle.xw_net.specs.declared.room.Spare.{Spare}
 use Rattle.xw_net.proofs.Nets.SettledNets.{filled_room}
 
@@ -85,7 +87,7 @@ pub room_waiting : (before after : List Light) (counts : ℕ → ℕ) (net : Net
 room_waiting before after counts net (Some spare) waits room spare_room = (room, spare_room)
 room_waiting before after counts net None waits room spare_room = absurd (false≢true waits)
 
-one_if : (b : Bool) (n : ℕ) → (n ≤ n + (if b then 1 else 0)) × (n + (if b then 1 else 0) ≤ n + 1)
+one_if : (b : Bool) (n : ℕ) → (n ≤ n + (if b then 1 else 0)) × (n + (if b then 1 else 0) ≤ n + (if b then 1 else 0))
 one_if true n = (omega arith, omega arith)
 one_if false n = (omega arith, omega arith)
 
@@ -103,27 +105,29 @@ room_for_grown lights old new grown net more room = subst (λ known. HasRoom lig
 
 -- ---- what a net was settled for
 
-near_same : (old new : Dictionary) → SameCounts old new → (len : ℕ) → (known_counts old len ≤ known_counts new len) × (known_counts new len ≤ known_counts old len + 1)
-near_same old new same len =
+near_same : (old new : Dictionary) (word : Option (ℕ × ℕ)) → SameCounts old new → (len : ℕ) → (known_counts old len ≤ known_counts new len) × (known_counts new len ≤ known_counts old len + lacking word len)
+near_same old new word same len =
     let is : known_counts new len ≡ known_counts old len = same len in
     (omega (arith, is), omega (arith, is))
 
-near_grown : (old new : Dictionary) (grown : ℕ) → GrowsAt old new grown → (len : ℕ) → (known_counts old len ≤ known_counts new len) × (known_counts new len ≤ known_counts old len + 1)
-near_grown old new grown more len =
+near_grown : (old new : Dictionary) (grown index : ℕ) → GrowsAt old new grown → (len : ℕ) → (known_counts old len ≤ known_counts new len) × (known_counts new len ≤ known_counts old len + lacking (Some (grown, index)) len)
+near_grown old new grown index more len =
     let is : known_counts new len ≡ known_counts old len + (if grows (Some grown) len then 1 else 0) = more len in
-    subst (λ n. (known_counts old len ≤ n) × (n ≤ known_counts old len + 1)) (sym is) (one_if (grows (Some grown) len) (known_counts old len))
+    let same : grows (Some grown) len ≡ is_long (Some (grown, index)) len = eqb_other_way len grown in
+    subst (λ n. (known_counts old len ≤ n) × (n ≤ known_counts old len + lacking (Some (grown, index)) len)) (sym is)
+    (subst (λ b. (known_counts old len ≤ known_counts old len + (if grows (Some grown) len then 1 else 0)) × (known_counts old len + (if grows (Some grown) len then 1 else 0) ≤ known_counts old len + (if b then 1 else 0))) same (one_if (grows (Some grown) len) (known_counts old len)))
 
 module _ (state : State) (net : Net) (lights : List Light) (are : lights ≡ lights_of state.grid) (known : ∥ IsSettledFor state net ∥₁) where
   abbrev pub stands_for : StandsFor lights net
   stands_for = record { state = state; are_lights = sym are; settled = known }
 
   -- the number of known words stays
-  pub stood_same : (new : Dictionary) → SameCounts state.words new → StoodFor lights (known_counts new) net
-  stood_same new same = record { stands = stands_for; near = near_same state.words new same }
+  pub stood_same : (new : Dictionary) (word : Option (ℕ × ℕ)) → SameCounts state.words new → StoodFor lights word (known_counts new) net
+  stood_same new word same = record { stands = stands_for; near = near_same state.words new word same }
 
   -- there is one more known word of a length
-  pub stood_grown : (new : Dictionary) (grown : ℕ) → GrowsAt state.words new grown → StoodFor lights (known_counts new) net
-  stood_grown new grown more = record { stands = stands_for; near = near_grown state.words new grown more }
+  pub stood_grown : (new : Dictionary) (grown index : ℕ) → GrowsAt state.words new grown → StoodFor lights (Some (grown, index)) (known_counts new) net
+  stood_grown new grown index more = record { stands = stands_for; near = near_grown state.words new grown index more }
 
 -- ---- cells
 

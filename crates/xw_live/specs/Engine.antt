@@ -12,7 +12,7 @@ use Rattle.xw_feas.specs.State.{State}
 use Rattle.xw_feas.specs.WellFormed.{IsWellFormed}
 use Rattle.xw_net.specs.declared.change.Change.{Change}
 use Rattle.xw_net.specs.declared.net.Net.{Net}
-use Rattle.xw_net.specs.Change.{before_of, cells_of}
+use Rattle.xw_net.specs.Change.{before_of, cells_of, word_of}
 use Rattle.xw_net.specs.Fit.{HasRoomBetween}
 use Rattle.xw_net.specs.Net.{flags_of, sets_of, known_counts, IsSettledFor, StoodFor}
 use Rattle.xw_net.specs.Update.{AreInside}
@@ -44,5 +44,5 @@ IsKept-prop state net x y = λ i. record {
 pub record CanFollow (grid : Grid) (lights : List Light) (words : Dictionary) (change : Change) (net : Net) : Type 0 where
   pub inside : AreInside grid (cells_of change)
   pub cells : length (sets_of net) ≡ length grid.squares
-  pub stood : StoodFor (before_of lights change) (known_counts words) net
+  pub stood : StoodFor (before_of lights change) (word_of change) (known_counts words) net
   pub room : HasRoomBetween (before_of lights change) lights (known_counts words) net net.spare

@@ -5,3 +5,4 @@ pub mod BaseLetters
 pub mod ClearRows
 pub mod BaseRowsAlike
 pub mod NarrowedRows
+pub mod FilledRows

@@ -13,3 +13,4 @@ pub mod Touching
 pub mod OpenedRows
 pub mod OpenedSupports
 pub mod OpenedNet
+pub mod FilledCell

@@ -1,12 +1,14 @@
 -- The start of an update: which lights are queued, and which are seeds of the chain.
-use Rattle.std.specs.Prelude.{◌≡◌, ℕ, ◌+◌, ◌<◌, Bool, true, false, List, length, slice_index, slice_index_or, Option, Some, None, is_some, is_none, Contains, ◌&&◌, ◌||◌, ◌==◌, nat_le}
+use Rattle.std.specs.Prelude.{◌≡◌, ℕ, ◌+◌, ◌<◌, Bool, true, false, List, [], ◌∷◌, length, if◌then◌else◌, slice_index, slice_index_or, Option, Some, None, is_some, is_none, Contains, ◌&&◌, ◌||◌, ◌==◌, nat_le}
 use Rattle.xw_bits.specs.Bits.{RowOfBits}
 use Rattle.xw_letters.specs.Letter.{is_capital}
 use Rattle.xw_words.specs.Dictionary.{Entry, Dictionary}
 use Rattle.xw_feas.specs.Flags.{set_has}
 use Rattle.xw_feas.specs.Board.{Board, entry, light_at, is_wholly_entered}
 use Rattle.xw_feas.specs.Feasible.{may_stand}
-use Rattle.xw_net.specs.Base.{base_bits, IsBaseBut}
+use Rattle.xw_net.specs.declared.change.Change.{Change}
+use Rattle.xw_net.specs.declared.change.Change.TheVariants.{Letters, Shape, Word, Words}
+use Rattle.xw_net.specs.Base.{base_bits, IsBaseBut, WasBase}
 use Rattle.xw_feas.specs.Known.{spellings, actives}
 use Rattle.xw_feas.specs.Choices.{is_base_at}
 use Rattle.xw_net.specs.Revival.{StandsOn}
@@ -21,6 +23,19 @@ use Rattle.xw_net.specs.Worklist.{ListOfLights, is_marked, Grows, MarksOnly}
 -- whether an empty cell got a letter
 abbrev pub is_fill : Board → ℕ → Option ℕ → Bool
 is_fill board cell old = is_none old && is_some (entry board cell)
+
+-- the index of the cell that an edit filled, if it wrote no other cell
+abbrev pub only_filled : Grid → Board → List (Cell × Option ℕ) → Option ℕ
+only_filled grid board [] = None
+only_filled grid board (listed ∷ []) = if is_fill board (index_of grid listed.0) listed.1 then Some (index_of grid listed.0) else None
+only_filled grid board (listed ∷ other ∷ rest) = None
+
+-- the index of the cell that an edit of letters filled, if it wrote no other cell
+abbrev pub filled_of : Grid → Board → Change → Option ℕ
+filled_of grid board (Letters cells) = only_filled grid board cells.now
+filled_of grid board (Shape before cells) = None
+filled_of grid board (Word len index) = None
+filled_of grid board (Words turned back) = None
 
 -- whether the changed word has this length
 abbrev pub is_long : Option (ℕ × ℕ) → ℕ → Bool
@@ -168,6 +183,11 @@ pub record IsPrepared (board : Board) (entries : ℕ → List Entry) (word : Opt
   pub stood_not : (light : ℕ) → light < length board.lights → in_queue light ≡ false → may_have word (length (light_at board light)) (bits_in rows light) ≡ false
   pub seeds : (light : ℕ) → light < length board.lights → in_queue light ≡ true → is_seed board word (light_at board light) (base_bits board (light_at board light) (entries (length (light_at board light)))) ≡ true → in_chain light ≡ true
 
--- the rows are prepared if each base row was right except perhaps for the changed word
-abbrev pub Prepares : Board → (ℕ → List Entry) → Option (ℕ × ℕ) → List RowOfBits → List RowOfBits → List RowOfBits → List RowOfBits → ListOfLights → ListOfLights → Type 0
-Prepares board entries word rows rows' base base' queue chain = AreBaseBut board entries word base → IsPrepared board entries word rows rows' base base' (is_marked queue.marks) (is_marked chain.marks)
+-- if the edit only filled a cell, each base row is right for the board before it
+abbrev pub WereBase : Board → (ℕ → List Entry) → Option ℕ → List RowOfBits → Type 0
+WereBase board entries filled base = (light : ℕ) → light < length board.lights → WasBase board entries filled light (bits_in base light)
+
+-- the rows are prepared if each base row was right except perhaps for the changed word, or for the letter of the filled cell
+abbrev pub Prepares : Board → (ℕ → List Entry) → Option (ℕ × ℕ) → Option ℕ → List RowOfBits → List RowOfBits → List RowOfBits → List RowOfBits → ListOfLights → ListOfLights → Type 0
+Prepares board entries word filled rows rows' base base' queue chain =
+    AreBaseBut board entries word base → WereBase board entries filled base → IsPrepared board entries word rows rows' base base' (is_marked queue.marks) (is_marked chain.marks)

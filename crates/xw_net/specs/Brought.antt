@@ -6,7 +6,7 @@ use Rattle.xw_words.specs.Dictionary.{Dictionary, Entry, row}
 use Rattle.xw_feas.specs.Board.{Board, light_at}
 use Rattle.xw_feas.specs.Feasible.{may_stand}
 use Rattle.xw_feas.specs.Choices.{choice_at, is_base_at}
-use Rattle.xw_net.specs.Base.{base_bits, base_row, IsRowBut}
+use Rattle.xw_net.specs.Base.{base_bits, base_row, IsRowBut, WasBase}
 use Rattle.xw_net.specs.Region.{chunks_of}
 use Rattle.xw_net.specs.Due.{sum_to}
 use Rattle.xw_net.specs.Revival.{StandsOn, was, IsKept}
@@ -32,10 +32,11 @@ abbrev pub CostsAtMost : Board → (ℕ → List Entry) → (ℕ → Bool) → �
 CostsAtMost board entries is_read ticks ticks' =
     (member : ℕ → Bool) → ((light : ℕ) → light < length board.lights → is_read light ≡ true → member light ≡ true) → ticks' ≤ ticks + base_cost board entries member
 
--- the base rows that were read are right if, before, they were right except perhaps for the changed word
-abbrev pub AreRead : Board → (ℕ → List Entry) → Option (ℕ × ℕ) → (ℕ → Bool) → List RowOfBits → List RowOfBits → Type 0
-AreRead board entries word is_read base base' =
-    (light : ℕ) → light < length board.lights → is_read light ≡ true → IsRowBut board entries word light (bits_in base light) → bits_in base' light ≡ base_row board entries light
+-- the base rows that were read are right if, before, they were right except perhaps for the changed word, or for the letter
+-- of the filled cell
+abbrev pub AreRead : Board → (ℕ → List Entry) → Option (ℕ × ℕ) → Option ℕ → (ℕ → Bool) → List RowOfBits → List RowOfBits → Type 0
+AreRead board entries word filled is_read base base' =
+    (light : ℕ) → light < length board.lights → is_read light ≡ true → IsRowBut board entries word light (bits_in base light) → WasBase board entries filled light (bits_in base light) → bits_in base' light ≡ base_row board entries light
 
 -- the marks after words and letters came back along a chain of lights
 pub record IsBrought (board : Board) (dictionary : Dictionary) (old new : Marks) (chain : ℕ → Bool) : Type 0 where

@@ -5,6 +5,7 @@ use Rattle.xw_grid.specs.declared.lights.Light.{Light}
 use Rattle.xw_net.specs.Room.{size_at, row_at, HasRoom, HasSpare}
 use Rattle.xw_net.specs.Renumber.{same_before, AreLights}
 use Rattle.xw_net.specs.Nets.{word_stands}
+use Rattle.xw_net.specs.Begin.{is_long}
 use Rattle.xw_net.specs.Worklist.{is_marked}
 use Rattle.xw_net.specs.declared.net.Net.{Net}
 use Rattle.xw_net.specs.declared.room.Spare.{Spare}
@@ -13,14 +14,18 @@ use Rattle.xw_net.specs.declared.room.Spare.{Spare}
 abbrev pub fitted : ℕ → List Bool → List Bool
 fitted known bits = if nat_lt (length bits) known then bits ++ false ∷ [] else bits
 
--- at most one bit is missing
-abbrev pub IsNear : ℕ → List Bool → Type 0
-IsNear known bits = (length bits ≤ known) × (known ≤ length bits + 1)
+-- how many bits a row may lack: one if the changed word has the row's length, else none
+abbrev pub lacking : Option (ℕ × ℕ) → ℕ → ℕ
+lacking word len = if is_long word len then 1 else 0
+
+-- at most `most` bits are missing
+abbrev pub IsNear : ℕ → ℕ → List Bool → Type 0
+IsNear known most bits = (length bits ≤ known) × (known ≤ length bits + most)
 
 module _ (lights : List Light) (counts : ℕ → ℕ) where
-  -- each light's row lacks at most one bit
-  abbrev pub AreNear : List RowOfBits → Type 0
-  AreNear rows = (light : ℕ) → light < length lights → IsNear (counts (size_at lights light)) (row_at rows light).bits
+  -- each light's row lacks at most the bit of the changed word
+  abbrev pub AreNear : Option (ℕ × ℕ) → List RowOfBits → Type 0
+  AreNear word rows = (light : ℕ) → light < length lights → IsNear (counts (size_at lights light)) (lacking word (size_at lights light)) (row_at rows light).bits
 
   -- each light's row got the bit that it lacked
   abbrev pub AreFitted : List RowOfBits → List RowOfBits → Type 0
@@ -57,19 +62,19 @@ pub record IsTurned (before after : List Light) (old new : Net) : Type 0 where
   pub rest : new ≡ record old { rows = new.rows; base = new.base; entered = new.entered; queue = new.queue; chain = new.chain; spare = None }
 
 -- the net stands for the lights before an edit, with room for those after it and for the words; at
--- most one bit is missing in each row
-pub record CanFollow (before after : List Light) (counts : ℕ → ℕ) (net : Net) : Type 0 where
+-- most the bit of the changed word is missing in each row
+pub record CanFollow (before after : List Light) (counts : ℕ → ℕ) (word : Option (ℕ × ℕ)) (net : Net) : Type 0 where
   pub lights : AreLights after
   pub rest : IsAtRest before (vec_len net.letters) net
   pub room : HasRoomBetween before after counts net net.spare
-  pub rows : AreNear before counts net.rows.items
-  pub base : AreNear before counts net.base.items
+  pub rows : AreNear before counts word net.rows.items
+  pub base : AreNear before counts word net.base.items
 
--- the net has switched to the lights after an edit, with room for the words; at most one bit is
--- missing in each row
-pub record Follows (before after : List Light) (counts : ℕ → ℕ) (old new : Net) : Type 0 where
+-- the net has switched to the lights after an edit, with room for the words; at most the bit of the
+-- changed word is missing in each row
+pub record Follows (before after : List Light) (counts : ℕ → ℕ) (word : Option (ℕ × ℕ)) (old new : Net) : Type 0 where
   pub rest : IsAtRest after (vec_len old.letters) new
-  pub rows : AreNear after counts new.rows.items
-  pub base : AreNear after counts new.base.items
+  pub rows : AreNear after counts word new.rows.items
+  pub base : AreNear after counts word new.base.items
   pub room : HasRoom after counts new
   pub turned : IsTurned before after old new

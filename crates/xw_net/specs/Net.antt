@@ -14,6 +14,7 @@ use Rattle.xw_feas.specs.Standing.{HasRows}
 use Rattle.xw_feas.specs.State.{State, Action}
 use Rattle.xw_net.specs.Region.{IsRegion}
 use Rattle.xw_net.specs.Nets.{bits_for, queued_in}
+use Rattle.xw_net.specs.Fit.{lacking}
 use Rattle.xw_net.specs.Room.{HasRoom, HasSpare}
 use Rattle.xw_net.specs.Filled.{IsUnstripped, IsFilled}
 use Rattle.xw_net.specs.declared.net.Net.{Net}
@@ -74,11 +75,11 @@ pub record StandsFor (lights : List Light) (net : Net) : Type 0 where
   pub are_lights : lights_of state.grid ≡ lights
   pub settled : ∥ IsSettledFor state net ∥₁
 
--- the net is settled for some grid with these lights and some dictionary, and since then at most one
--- word of each length has become known
-pub record StoodFor (lights : List Light) (counts : ℕ → ℕ) (net : Net) : Type 0 where
+-- the net is settled for some grid with these lights and some dictionary, and since then no word has
+-- become known, except perhaps the changed one
+pub record StoodFor (lights : List Light) (word : Option (ℕ × ℕ)) (counts : ℕ → ℕ) (net : Net) : Type 0 where
   pub stands : StandsFor lights net
-  pub near : (len : ℕ) → (known_counts stands.state.words len ≤ counts len) × (counts len ≤ known_counts stands.state.words len + 1)
+  pub near : (len : ℕ) → (known_counts stands.state.words len ≤ counts len) × (counts len ≤ known_counts stands.state.words len + lacking word len)
 
 -- the first set flag from an index on
 abbrev pub first_from : List Bool → ℕ → Option ℕ

@@ -1,5 +1,5 @@
 -- The first part of an update: from a settled net before an edit to the start of the revival.
-use Rattle.std.specs.Prelude.{◌≡◌, ℕ, ◌<◌, Bool, true, false, List, [], length, slice_index_or, Some, IsTrue}
+use Rattle.std.specs.Prelude.{◌≡◌, ℕ, ◌<◌, Bool, true, false, List, [], length, slice_index_or, Option, Some, IsTrue}
 use Rattle.xw_bits.specs.Bits.{RowOfBits}
 use Rattle.xw_words.specs.Dictionary.{Entry}
 use Rattle.xw_grid.specs.declared.lights.Light.{Light}
@@ -71,7 +71,7 @@ pub record Touches (grid : Grid) (board : Board) (lights : List Light) (change :
   pub within : MarksOnly (MayGain grid board lights change letters queue) chain chain'
 
 -- what the start of an update has written, by the description of the edit
-pub record IsOpening (grid : Grid) (board : Board) (lights : List Light) (entries : ℕ → List Entry) (change : Fields) (old new : Arrays) : Type 0 where
+pub record IsOpening (grid : Grid) (board : Board) (lights : List Light) (entries : ℕ → List Entry) (change : Fields) (filled : Option ℕ) (old new : Arrays) : Type 0 where
   pub size : length new.queue.marks ≡ length board.lights
   -- exactly the marked lights are in the queue and in the chain
   pub queue : Grows old.queue new.queue
@@ -87,7 +87,7 @@ pub record IsOpening (grid : Grid) (board : Board) (lights : List Light) (entrie
   pub edited : AreEdited grid board change.cells (set_has new.letters) (is_marked new.queue.marks) (is_marked new.chain.marks)
   pub spread : IsSpread board (set_has old.letters) (set_has new.letters) (is_marked new.chain.marks) (is_waiting new.chain.lights) no_positions
   pub freed : (cell : ℕ) → IsFreed grid change.before lights (length change.before) cell → HasAll board (set_has new.letters) cell
-  pub prepared : Prepares board entries change.word old.rows new.rows old.base new.base new.queue new.chain
+  pub prepared : Prepares board entries change.word filled old.rows new.rows old.base new.base new.queue new.chain
   -- no other light was queued or marked
   pub queued_within : MarksOnly (IsTouched grid board lights change) old.queue new.queue
   pub within : MarksOnly (MayGain grid board lights change old.letters old.queue) old.chain new.chain

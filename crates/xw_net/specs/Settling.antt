@@ -35,7 +35,7 @@ pub record CanSettle (grid : Grid) (lights : List Light) (entries : ℕ → List
   pub inside : AreInside grid (cells_of change)
   pub long : AreLong (board_of grid) entries
   pub cells : vec_len net.letters ≡ length grid.squares
-  pub stood : StoodFor (before_of lights change) (counts_of entries) net
+  pub stood : StoodFor (before_of lights change) (word_of change) (counts_of entries) net
 
 -- A change that tells of an edit describes it. The condition `IsGrid` holds of every `Grid`.
 abbrev pub ToldIsChange : Type 0

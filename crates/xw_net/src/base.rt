@@ -5,7 +5,7 @@ ghost use Rattle.xw_bits.specs.Bits.{has_bit};
 ghost use Rattle.xw_words.specs.Columns.{is_active};
 ghost use Rattle.xw_words.specs.Dictionary.{entry_at};
 ghost use Rattle.xw_feas.specs.Board.{light_at, entry, is_wholly_entered};
-ghost use Rattle.xw_net.specs.Base.{KeepsAgreeing, IsLongAt, is_agreeing, is_base_word, has_entry, AreOfLength, row_cost, base_row, IsRowOf, IsRowBut, IsRightBut};
+ghost use Rattle.xw_net.specs.Base.{KeepsAgreeing, KeepsEntry, IsLongAt, is_agreeing, is_base_word, has_entry, AreOfLength, row_cost, base_row, IsRowOf, IsRowBut, IsRightBut, WasRow, WasBase};
 ghost use Rattle.xw_net.specs.Region.{chunks_of};
 ghost use Rattle.xw_net.specs.Spread.{bits_in};
 ghost use Rattle.xw_net.specs.Filled.{AreLong};
@@ -175,6 +175,59 @@ fn read_chunk<R: Rows>(
     row.set_chunk(index / 64, words);
 }
 
+/// Keeps the words that have the letter of a cell, at each position of the light with this cell.
+fn keep_entry<R: Rows>(
+    rows: &mut R,
+    board: &Board<'_>,
+    cells: &Cells,
+    cell: usize,
+    row: &mut BitRow,
+)
+    requires row { length row.old.bits ≡ length (R.entries rows.old (length cells.now)) }
+    ensures entries { R.entries rows.new ≡ R.entries rows.old }
+    ensures risen { R.ticks rows.old ≤ R.ticks rows.new }
+    ensures len { length row.new.bits ≡ length row.old.bits }
+    ensures bits { KeepsEntry board.now cells.now (R.entries rows.old) cell (length cells.now) row.old.bits row.new.bits }
+    ensures room { row.new.room ≡ row.old.room }
+    ensures cost { R.ticks rows.new ≤ R.ticks rows.old + length cells.now * chunks_of (length row.old.bits) }
+{
+    for position in 0..cells.len() {
+        if cells.at(position) != cell {
+            continue;
+        }
+        keep_agreeing(rows, board, cells, position, row);
+    }
+}
+
+/// Updates the base row of a light after an empty cell got a letter: it keeps the words that have
+/// this letter there.
+fn read_filled<R: Rows>(
+    rows: &mut R,
+    board: &Board<'_>,
+    cell: usize,
+    light: usize,
+    row: &mut BitRow,
+)
+    requires light { light < length board.now.lights }
+    requires long { IsLongAt board.now (R.entries rows.old) light }
+    requires bits { IsRowOf board.now (R.entries rows.old) light row.old.bits }
+    ensures entries { R.entries rows.new ≡ R.entries rows.old }
+    ensures risen { R.ticks rows.old ≤ R.ticks rows.new }
+    ensures len { length row.new.bits ≡ length row.old.bits }
+    ensures bits { WasRow board.now (R.entries rows.old) cell light row.old.bits → row.new.bits ≡ base_row board.now (R.entries rows.old) light }
+    ensures room { row.new.room ≡ row.old.room }
+    ensures cost { R.ticks rows.new ≤ R.ticks rows.old + row_cost board.now light (length row.old.bits) }
+{
+    let cells = board.light(light);
+    if has_all_entries(board, &cells) {
+        row.clear();
+        row.keep_count();
+    } else {
+        keep_entry(rows, board, &cells, cell, row);
+        row.keep_count();
+    }
+}
+
 /// The index of the changed word, if that word has length `len`.
 pub(crate) fn index_if_long(word: Option<(usize, usize)>, len: usize) -> Option<usize>
     ensures found { IfSome result (λ index. word ≡ Some (len, index)) }
@@ -211,6 +264,31 @@ fn read_changed<R: Rows>(
     }
 }
 
+/// Updates a base row. If the edit only filled an empty cell, it reads one column.
+fn read_row<R: Rows>(
+    rows: &mut R,
+    board: &Board<'_>,
+    word: Option<(usize, usize)>,
+    filled: Option<usize>,
+    light: usize,
+    row: &mut BitRow,
+)
+    requires light { light < length board.now.lights }
+    requires long { IsLongAt board.now (R.entries rows.old) light }
+    requires bits { IsRowOf board.now (R.entries rows.old) light row.old.bits }
+    ensures entries { R.entries rows.new ≡ R.entries rows.old }
+    ensures risen { R.ticks rows.old ≤ R.ticks rows.new }
+    ensures len { length row.new.bits ≡ length row.old.bits }
+    ensures bits { IsRowBut board.now (R.entries rows.old) word light row.old.bits → WasBase board.now (R.entries rows.old) filled light row.old.bits → row.new.bits ≡ base_row board.now (R.entries rows.old) light }
+    ensures room { row.new.room ≡ row.old.room }
+    ensures cost { R.ticks rows.new ≤ R.ticks rows.old + row_cost board.now light (length row.old.bits) }
+{
+    match filled {
+        Some(cell) => read_filled(rows, board, cell, light, row),
+        None => read_changed(rows, board, word, light, row),
+    }
+}
+
 /// Whether the changed word has the light's length. Without a changed word it does not look up the
 /// length.
 fn is_long(board: &Board<'_>, word: Option<(usize, usize)>, light: usize) -> bool
@@ -237,6 +315,7 @@ pub fn read_marked<R: Rows>(
     rows: &mut R,
     board: &Board<'_>,
     word: Option<(usize, usize)>,
+    filled: Option<usize>,
     list: &Worklist,
     base: &mut [BitRow],
 )
@@ -246,7 +325,7 @@ pub fn read_marked<R: Rows>(
     ensures entries { R.entries rows.new ≡ R.entries rows.old }
     ensures risen { R.ticks rows.old ≤ R.ticks rows.new }
     ensures base { HasBase board.now (R.entries rows.old) base.new }
-    ensures on { AreRead board.now (R.entries rows.old) word (is_read_of board.now word (is_marked list.now.marks)) base.old base.new }
+    ensures on { AreRead board.now (R.entries rows.old) word filled (is_read_of board.now word (is_marked list.now.marks)) base.old base.new }
     ensures off { (light : ℕ) → is_read_of board.now word (is_marked list.now.marks) light ≡ false → bits_in base.new light ≡ bits_in base.old light }
     ensures row_room { KeepRoom base.old base.new }
     ensures cost { CostsAtMost board.now (R.entries rows.old) (is_read_of board.now word (is_marked list.now.marks)) (R.ticks rows.old) (R.ticks rows.new) }
@@ -255,6 +334,6 @@ pub fn read_marked<R: Rows>(
         if !is_read(board, word, list, light) {
             continue;
         }
-        read_changed(rows, board, word, light, &mut base[light]);
+        read_row(rows, board, word, filled, light, &mut base[light]);
     }
 }

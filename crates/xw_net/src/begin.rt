@@ -69,7 +69,7 @@ fn edit_cell(
 }
 
 /// The index of a cell inside the grid.
-fn index_in(grid: &Grid, cell: Cell) -> usize
+pub(crate) fn index_in(grid: &Grid, cell: Cell) -> usize
     requires { is_inside grid.now cell ≡ true }
     ensures index { result ≡ index_of grid.now cell }
     ensures within { result < length grid.now.squares }
@@ -200,6 +200,7 @@ pub(crate) fn prepare<R: Rows>(
     rows: &mut R,
     board: &Board<'_>,
     word: Option<(usize, usize)>,
+    filled: Option<usize>,
     queue: &mut Worklist,
     base: &mut [BitRow],
     words: &mut [BitRow],
@@ -220,10 +221,10 @@ pub(crate) fn prepare<R: Rows>(
     ensures queued_within { MarksOnly (HasLength board.now word) queue.old queue.new }
     ensures chain { Grows chain.old chain.new }
     ensures within { MarksOnly (λ light. is_marked queue.new.marks light ≡ true) chain.old chain.new }
-    ensures prepared { Prepares board.now (R.entries rows.old) word words.old words.new base.old base.new queue.new chain.new }
+    ensures prepared { Prepares board.now (R.entries rows.old) word filled words.old words.new base.old base.new queue.new chain.new }
     ensures cost { CostsAtMost board.now (R.entries rows.old) (is_read board.now word (is_marked queue.new.marks)) (R.ticks rows.old) (R.ticks rows.new) }
 {
-    read_marked(rows, board, word, queue, base);
+    read_marked(rows, board, word, filled, queue, base);
     queue_changed(board, word, base, words, queue);
     touch_lights(board, word, base, queue, words, chain);
 }

@@ -58,7 +58,7 @@ impl Net {
     {
         fill_letters(board, &mut self.letters);
         mark_all(board, &mut self.chain);
-        read_marked(rows, board, None, &self.chain, &mut self.base);
+        read_marked(rows, board, None, None, &self.chain, &mut self.base);
         self.bring_back(board);
         self.unmark();
     }

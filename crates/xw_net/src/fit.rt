@@ -38,15 +38,15 @@ pub(crate) fn fit_rows<R: Rows>(words: &R, lights: &Lights, rows: &mut [BitRow])
 
 impl Net {
     ghost use Rattle.std.specs.Prelude.{◌≡◌, None, vec_len};
-    ghost use Rattle.xw_net.specs.Change.{before_of};
+    ghost use Rattle.xw_net.specs.Change.{before_of, word_of};
     ghost use Rattle.xw_net.specs.Update.{MovesTo};
     ghost use Rattle.xw_net.specs.Room.{counts_of, IsWhole, HasRoom};
     ghost use Rattle.xw_net.specs.Fit.{IsAtRest, CanFollow, Follows};
 
     /// Switches to the spare arrays for the lights after a change of shape, if there are any.
     fn turn_to<R: Rows>(&mut self, words: &R, before: &Lights, lights: &Lights)
-        requires { CanFollow before.now lights.now (counts_of (R.entries words.now)) self.old }
-        ensures { Follows before.now lights.now (counts_of (R.entries words.now)) self.old self.new }
+        requires { CanFollow before.now lights.now (counts_of (R.entries words.now)) None self.old }
+        ensures { Follows before.now lights.now (counts_of (R.entries words.now)) None self.old self.new }
     {
         if let Some(spare) = self.spare.take() {
             self.renumber(words, spare, before, lights);
@@ -55,8 +55,8 @@ impl Net {
     /// Follows the lights after an edit. Only a change of shape can have changed them; any other one
     /// drops spare arrays.
     fn follow<R: Rows>(&mut self, words: &R, change: &Change<'_>, lights: &Lights)
-        requires { CanFollow (before_of lights.now change.now) lights.now (counts_of (R.entries words.now)) self.old }
-        ensures { Follows (before_of lights.now change.now) lights.now (counts_of (R.entries words.now)) self.old self.new }
+        requires { CanFollow (before_of lights.now change.now) lights.now (counts_of (R.entries words.now)) (word_of change.now) self.old }
+        ensures { Follows (before_of lights.now change.now) lights.now (counts_of (R.entries words.now)) (word_of change.now) self.old self.new }
     {
         match *change {
             Change::Letters(_) => self.spare = None,
@@ -65,9 +65,9 @@ impl Net {
             Change::Words { .. } => self.spare = None,
         }
     }
-    /// Adapts the net to the lights and the known words after an edit.
+    /// Adapts the net to the lights and the known words after an edit. Only an added word needs a bit in the rows.
     pub(crate) fn move_to<R: Rows>(&mut self, words: &R, change: &Change<'_>, lights: &Lights)
-        requires { CanFollow (before_of lights.now change.now) lights.now (counts_of (R.entries words.now)) self.old }
+        requires { CanFollow (before_of lights.now change.now) lights.now (counts_of (R.entries words.now)) (word_of change.now) self.old }
         ensures rest { IsAtRest lights.now (vec_len self.old.letters) self.new }
         ensures whole { IsWhole lights.now (counts_of (R.entries words.now)) self.new }
         ensures room { HasRoom lights.now (counts_of (R.entries words.now)) self.new }
@@ -75,6 +75,9 @@ impl Net {
         ensures moved { MovesTo (before_of lights.now change.now) lights.now (R.entries words.now) self.old self.new }
     {
         self.follow(words, change, lights);
+        if change.word().is_none() {
+            return;
+        }
         fit_rows(words, lights, &mut self.rows);
         fit_rows(words, lights, &mut self.base);
     }

@@ -3,7 +3,7 @@ use crate::begin::prepare;
 use crate::change::Change;
 use crate::forget::forget_lights;
 use crate::net::Net;
-use crate::touch::touch;
+use crate::touch::{filled_in, touch};
 use xw_feas::board::Board;
 use xw_grid::grid::Grid;
 use xw_grid::lights::Lights;
@@ -14,8 +14,8 @@ impl Net {
     ghost use Rattle.std.specs.Prelude.{◌≡◌, ℕ, ◌<◌, ◌≤◌, true, false, None, IfSome, IfNone, [], length, replicate, slice_index_or, vec_len};
     ghost use Rattle.xw_grid.specs.Light.{lights_of};
     ghost use Rattle.xw_feas.specs.Board.{board_of};
-    ghost use Rattle.xw_net.specs.Begin.{is_read};
     ghost use Rattle.xw_net.specs.Brought.{CostsAtMost};
+    ghost use Rattle.xw_net.specs.Begin.{is_read, filled_of};
     ghost use Rattle.xw_net.specs.Change.{before_of, cells_of, word_of, fields_of};
     ghost use Rattle.xw_net.specs.Filled.{AreLong};
     ghost use Rattle.xw_net.specs.Fit.{HasRoomBetween};
@@ -48,7 +48,7 @@ impl Net {
         ensures sized { IsSized board.now (R.entries rows.old) self.new }
         ensures room { KeepsRoom self.old self.new }
         ensures rest { self.new ≡ record self.old { rows = self.new.rows; base = self.new.base; letters = self.new.letters; queue = self.new.queue; chain = self.new.chain } }
-        ensures opening { IsOpening grid.now board.now lights.now (R.entries rows.old) (fields_of lights.now change.now) (arrays_of self.old) (arrays_of self.new) }
+        ensures opening { IsOpening grid.now board.now lights.now (R.entries rows.old) (fields_of lights.now change.now) (filled_of grid.now board.now change.now) (arrays_of self.old) (arrays_of self.new) }
         ensures cost { CostsAtMost board.now (R.entries rows.old) (is_read board.now (word_of change.now) (is_marked self.new.queue.marks)) (R.ticks rows.old) (R.ticks rows.new) }
     {
         touch(
@@ -64,6 +64,7 @@ impl Net {
             rows,
             board,
             change.word(),
+            filled_in(grid, board, change),
             &mut self.queue,
             &mut self.base,
             &mut self.rows,
@@ -134,7 +135,7 @@ impl Net {
         requires inside { AreInside grid.now (cells_of change.now) }
         requires long { AreLong (board_of grid.now) (R.entries rows.old) }
         requires cells { vec_len self.old.letters ≡ length grid.now.squares }
-        requires stood { StoodFor (before_of lights.now change.now) (counts_of (R.entries rows.old)) self.old }
+        requires stood { StoodFor (before_of lights.now change.now) (word_of change.now) (counts_of (R.entries rows.old)) self.old }
         requires room { HasRoomBetween (before_of lights.now change.now) lights.now (counts_of (R.entries rows.old)) self.old self.old.spare }
         ensures entries { R.entries rows.new ≡ R.entries rows.old }
         ensures risen { R.ticks rows.old ≤ R.ticks rows.new }
@@ -185,7 +186,7 @@ impl Net {
         requires inside { AreInside grid.now (cells_of change.now) }
         requires long { AreLong (board_of grid.now) (R.entries rows.old) }
         requires cells { vec_len self.old.letters ≡ length grid.now.squares }
-        requires stood { StoodFor (before_of lights.now change.now) (counts_of (R.entries rows.old)) self.old }
+        requires stood { StoodFor (before_of lights.now change.now) (word_of change.now) (counts_of (R.entries rows.old)) self.old }
         requires room { HasRoomBetween (before_of lights.now change.now) lights.now (counts_of (R.entries rows.old)) self.old self.old.spare }
         ensures entries { R.entries rows.new ≡ R.entries rows.old }
         ensures risen { R.ticks rows.old ≤ R.ticks rows.new }
@@ -255,7 +256,7 @@ impl Net {
         requires inside { AreInside grid.now (cells_of change.now) }
         requires long { AreLong (board_of grid.now) (R.entries rows.old) }
         requires cells { vec_len self.old.letters ≡ length grid.now.squares }
-        requires stood { StoodFor (before_of lights.now change.now) (counts_of (R.entries rows.old)) self.old }
+        requires stood { StoodFor (before_of lights.now change.now) (word_of change.now) (counts_of (R.entries rows.old)) self.old }
         requires room { HasRoomBetween (before_of lights.now change.now) lights.now (counts_of (R.entries rows.old)) self.old self.old.spare }
         ensures entries { R.entries rows.new ≡ R.entries rows.old }
         ensures risen { R.ticks rows.old ≤ R.ticks rows.new }

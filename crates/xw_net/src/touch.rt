@@ -1,19 +1,22 @@
 //! The first step of an update, by the kind of the change: letters, the queue and the chain.
 ghost use Rattle.std.specs.Prelude.{◌≡◌, ℕ, ◌<◌, ◌≤◌, true, false, length, slice_index_or};
+ghost use Rattle.xw_net.specs.Begin.{only_filled as only_filled_of, filled_of};
 ghost use Rattle.xw_net.specs.Change.{cells_of, fields_of};
 ghost use Rattle.xw_net.specs.Marks.{AreByCell};
 ghost use Rattle.xw_net.specs.Opened.{HasTurnedWords, Touches};
 ghost use Rattle.xw_net.specs.Update.{AreInside};
 ghost use Rattle.xw_net.specs.Worklist.{Adds, HasLights, HasSeeds};
 
-use crate::begin::edit_cells;
+use crate::begin::{edit_cells, index_in};
 use crate::change::Change;
 use crate::gone::raise_gone;
 use crate::seeds::mark_new;
 use crate::worklist::Worklist;
 use xw_feas::board::Board;
+use xw_grid::cell::Cell;
 use xw_grid::grid::Grid;
 use xw_grid::lights::Lights;
+use xw_letters::letter::Letter;
 use xw_letters::letter_set::LetterSet;
 
 /// The flag of a length; false if there is none.
@@ -56,6 +59,34 @@ fn touch_turned(
     mark_turned(board, turned, queue);
     if back {
         mark_turned(board, turned, chain);
+    }
+}
+
+/// The index of the cell that an edit filled, if it wrote no other cell.
+fn only_filled(grid: &Grid, board: &Board<'_>, cells: &[(Cell, Option<Letter>)]) -> Option<usize>
+    requires { AreInside grid.now cells.now }
+    ensures { result ≡ only_filled_of grid.now board.now cells.now }
+{
+    if cells.len() != 1 {
+        return None;
+    }
+    let (cell, old) = cells[0];
+    let cell = index_in(grid, cell);
+    if old.is_none() && board.entry(cell).is_some() {
+        Some(cell)
+    } else {
+        None
+    }
+}
+
+/// The index of the cell that an edit of letters filled, if it wrote no other cell.
+pub(crate) fn filled_in(grid: &Grid, board: &Board<'_>, change: &Change<'_>) -> Option<usize>
+    requires { AreInside grid.now (cells_of change.now) }
+    ensures { result ≡ filled_of grid.now board.now change.now }
+{
+    match *change {
+        Change::Letters(cells) => only_filled(grid, board, cells),
+        _ => None,
     }
 }
 

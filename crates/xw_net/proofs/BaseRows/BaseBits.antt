@@ -38,14 +38,14 @@ letter_at [] i letter lt = absurd (omega arith)
 letter_at (x ∷ xs) zero letter lt = refl
 letter_at (x ∷ xs) (suc i) letter lt = letter_at xs i letter (omega arith)
 
-eqb_other_way : (a b : ℕ) → eqb a b ≡ eqb b a
+pub eqb_other_way : (a b : ℕ) → eqb a b ≡ eqb b a
 eqb_other_way a b = elim (cases_eq a b) [
   | inl e ↦ eq-eqb a b e ∙ sym (eq-eqb b a (sym e))
   | inr n ↦ ne_eqb a b n ∙ sym (ne_eqb b a (λ e. n (sym e)))
 ]
 
 -- an entry allows the letter of a word that is long enough
-has_entry_is : (found : Option ℕ) (entries : List Entry) (position index : ℕ) → position < length (entry_at entries index).word
+pub has_entry_is : (found : Option ℕ) (entries : List Entry) (position index : ℕ) → position < length (entry_at entries index).word
     → has_entry found entries position index ≡ allows found (get_or (entry_at entries index).word position 0)
 has_entry_is None entries position index lt = refl
 has_entry_is (Some letter) entries position index lt =

@@ -49,19 +49,19 @@ unmap f (x ∷ xs) (suc k) y below at =
     let rest = unmap f xs k y (omega arith) at in
     (rest.0, (suc rest.1.0, omega (arith, rest.1.1), rest.1.2), rest.2)
 
-entries_of : (grid : Grid) (cells : List Cell) (k : ℕ) (listed : Cell × Option ℕ) → k < length (map (with_entry_of grid) cells) → get_or (map (with_entry_of grid) cells) k listed ≡ listed → listed.1 ≡ entry_in grid listed.0
+pub entries_of : (grid : Grid) (cells : List Cell) (k : ℕ) (listed : Cell × Option ℕ) → k < length (map (with_entry_of grid) cells) → get_or (map (with_entry_of grid) cells) k listed ≡ listed → listed.1 ≡ entry_in grid listed.0
 entries_of grid [] k listed below at = absurd (omega arith)
 entries_of grid (cell ∷ cells) zero listed below at = subst (λ x. x.1 ≡ entry_in grid x.0) at refl
 entries_of grid (cell ∷ cells) (suc k) listed below at = entries_of grid cells k listed (omega arith) at
 
-entry_of_board : (grid : Grid) (cell : Cell) → is_inside grid cell ≡ true → entry_in grid cell ≡ entry (board_of grid) (index_of grid cell)
+pub entry_of_board : (grid : Grid) (cell : Cell) → is_inside grid cell ≡ true → entry_in grid cell ≡ entry (board_of grid) (index_of grid cell)
 entry_of_board grid cell inside = ap (λ b. letter_in (cond b (slice_get grid.squares (index_of grid cell)) None)) inside ∙ sym (entry-square grid (index_of grid cell))
 
 -- lists with the same elements
 some_entry : (a b : Entry) → Some a ≡ Some b → a ≡ b
 some_entry a b h = ap (λ o. unwrap_or o a) h
 
-same_elements : (xs ys : List Entry) → ((k : ℕ) → slice_get xs k ≡ slice_get ys k) → xs ≡ ys
+pub same_elements : (xs ys : List Entry) → ((k : ℕ) → slice_get xs k ≡ slice_get ys k) → xs ≡ ys
 same_elements [] [] h = refl
 same_elements [] (y ∷ ys) h = let never : None ≡ Some y = h 0 in cc
 same_elements (x ∷ xs) [] h = let never : Some x ≡ None = h 0 in cc

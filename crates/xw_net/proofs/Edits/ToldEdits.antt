@@ -3,7 +3,7 @@ use Rattle.std.proofs.Common.{◌≡◌, ℕ, ◌+◌, ◌*◌, ◌<◌, ◌≤�
 use Rattle.std.specs.Prelude.{Option, Result, Ok, Err, All, position, is_some, vec_len}
 use Rattle.std.specs.Coded.{Coded-set, coded_ℕ, le_prop}
 use Rattle.std.proofs.Math.Logic.{∥∥₁_elim}
-use Rattle.std.proofs.lemmas.Bool.{cases_lt, cases_Bool, and_parts, leb-true, false≢true}
+use Rattle.std.proofs.lemmas.Bool.{cases_lt, cases_Bool, and_parts, both_ways, eq-eqb, leb-true, false≢true}
 use Rattle.std.proofs.lemmas.List.{get_or_past, length-map}
 use Rattle.std.proofs.lemmas.Option.{slice_get-get_or, slice_get_past}
 use mathlib.Core.HLevel.{Π_prop}
@@ -24,8 +24,9 @@ use Rattle.xw_feas.proofs.WellFormedLemmas.{state_formed}
 use Rattle.xw_net.specs.declared.change.Change.{Change}
 use Rattle.xw_net.specs.declared.net.Net.{Net}
 use Rattle.xw_net.specs.declared.room.Spare.{Spare}
+use Rattle.xw_net.specs.Begin.{is_long}
 use Rattle.xw_net.specs.Change.{Fields, IsChange, IsIndexOf, before_of, word_of, fields_of}
-use Rattle.xw_net.specs.Fit.{HasRoomBetween}
+use Rattle.xw_net.specs.Fit.{lacking, HasRoomBetween}
 use Rattle.xw_net.specs.Net.{HasRoomIn, IsSettledFor, known_counts}
 use Rattle.xw_net.specs.Room.{HasRoom, HasSpare, counts_of}
 use Rattle.xw_net.specs.Settling.{IsToldOf, ToldIsChange, ToldCanSettle, RoomIsKept, RoomIsReserved}
@@ -100,6 +101,10 @@ told_is_change before now action change told is =
 
 -- ---- the number of known words
 
+index_long : (word : Option (ℕ × ℕ)) (len index : ℕ) → IsIndexOf word len index → is_long word len ≡ true
+index_long None len index here = absurd here
+index_long (Some word) len index here = eq-eqb word.0 len here.0
+
 module _ (before now : State) (action : Action) (change : Fields) (is : IsChange before now action change) where
   -- a word that is new is the changed one
   more_words : (len index : ℕ) → index < length (row now.words len) → length (row before.words len) ≤ index → ¬ IsIndexOf change.word len index → ⊥
@@ -129,6 +134,13 @@ module _ (before now : State) (action : Action) (change : Fields) (is : IsChange
   both len first second None apart here there = here
   both len first second (Some changed) apart here there = apart (sym here.1 ∙ there.1)
 
+  -- a word that is new has the length of the changed one
+  none_short : (len : ℕ) → is_long change.word len ≡ false → known_counts now.words len ≤ known_counts before.words len
+  none_short len short = elim (cases_lt (known_counts before.words len) (known_counts now.words len)) [
+    | inr few ↦ few
+    | inl many ↦ absurd (more_words len (length (row before.words len)) many (omega arith) (λ here. both_ways (is_long change.word len) short (index_long change.word len (length (row before.words len)) here)))
+  ]
+
   -- at most one word is new
   one_more : (len : ℕ) → known_counts now.words len ≤ known_counts before.words len + 1
   one_more len = elim (cases_lt (known_counts before.words len + 1) (known_counts now.words len)) [
@@ -136,6 +148,13 @@ module _ (before now : State) (action : Action) (change : Fields) (is : IsChange
     | inl many ↦
         let last = length (row before.words len) in
         absurd (more_words len last (omega (arith, many)) (omega arith) (λ here. more_words len (last + 1) many (omega arith) (λ there. both len last (last + 1) change.word (λ e. omega (arith, e)) here there)))
+  ]
+
+  -- at most the changed word is new
+  pub changed_more : (len : ℕ) → known_counts now.words len ≤ known_counts before.words len + lacking change.word len
+  changed_more len = elim (cases_Bool (is_long change.word len)) [
+    | inl long ↦ subst (λ b. known_counts now.words len ≤ known_counts before.words len + cond b 1 0) (sym long) (one_more len)
+    | inr short ↦ subst (λ b. known_counts now.words len ≤ known_counts before.words len + cond b 1 0) (sym short) (omega (arith, none_short len short))
   ]
 
   -- without a changed word their numbers stay
@@ -205,7 +224,7 @@ told_can_settle before now action lights entries change net of =
         stands = record { state = before; are_lights = sym of.told.lights; settled = of.settled };
         near = λ len. (
           omega (arith, as_many before now action (fields_of lights change) change_is len, counts_read before now action lights entries change net of len),
-          omega (arith, one_more before now action (fields_of lights change) change_is len, counts_read before now action lights entries change net of len),
+          omega (arith, changed_more before now action (fields_of lights change) change_is len, counts_read before now action lights entries change net of len),
         );
       };
     }

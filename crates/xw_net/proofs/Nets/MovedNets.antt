@@ -5,20 +5,21 @@ use Rattle.std.proofs.lemmas.Bool.{cases_lt, ltb-true}
 use Rattle.std.proofs.lemmas.Option.{unwrap_or-slice_get}
 use Rattle.xw_bits.specs.Bits.{RowOfBits}
 use Rattle.xw_words.specs.Dictionary.{row}
+use Rattle.xw_grid.specs.declared.lights.Light.{Light}
 use Rattle.xw_grid.specs.Light.{lights_of}
 use Rattle.xw_feas.specs.Board.{board_of, light_at}
 use Rattle.xw_feas.specs.State.{State}
 use Rattle.xw_feas.proofs.BoardLemmas.{length-lights}
 use Rattle.xw_feas.proofs.FormedLemmas.{length-light_at}
 use Rattle.xw_net.specs.declared.net.Net.{Net}
-use Rattle.xw_net.specs.Room.{size_at, row_at, no_row, counts_of}
+use Rattle.xw_net.specs.Room.{size_at, row_at, no_row, counts_of, HaveBits}
 use Rattle.xw_net.specs.Renumber.{same_before}
 use Rattle.xw_net.specs.Revival.{same_light}
 use Rattle.xw_net.specs.Marks.{known}
 use Rattle.xw_net.specs.Nets.{bits_at, word_stands}
 use Rattle.xw_net.specs.Filled.{IsFilled}
 use Rattle.xw_net.specs.Spread.{bits_in}
-use Rattle.xw_net.specs.Fit.{fitted, AreFitted, IsAtRest, IsTurned}
+use Rattle.xw_net.specs.Fit.{fitted, AreNear, AreFitted, IsAtRest, IsTurned}
 use Rattle.xw_net.specs.Opened.{IsMoved}
 use Rattle.xw_net.proofs.Nets.RenumberedLights.{other_there}
 
@@ -33,6 +34,13 @@ fitted_full known bits full = split (ltb (length bits) known) refl where
   split : (b : Bool) → ltb (length bits) known ≡ b → cond b (bits ++ false ∷ []) bits ≡ bits
   split false is = refl
   split true is = let below = ltb-true (length bits) known is in absurd (omega (arith, below, full))
+
+-- a row that lacks no bit is whole, and needs no further bit
+pub near_whole : (lights : List Light) (counts : ℕ → ℕ) (rows : List RowOfBits) → AreNear lights counts None rows → HaveBits lights counts rows
+near_whole lights counts rows near light lt = let is = near light lt in omega (arith, is.0, is.1)
+
+pub near_fitted : (lights : List Light) (counts : ℕ → ℕ) (rows : List RowOfBits) → AreNear lights counts None rows → AreFitted lights counts rows rows
+near_fitted lights counts rows near light lt = sym (fitted_full (counts (size_at lights light)) (row_at rows light).bits (near_whole lights counts rows near light lt))
 
 get_or_past_one : (bits : List Bool) (index : ℕ) → get_or (bits ++ false ∷ []) index false ≡ get_or bits index false
 get_or_past_one [] zero = refl

@@ -14,7 +14,7 @@ use Rattle.xw_grid.proofs.LookupLemmas.{alike}
 use Rattle.xw_net.specs.Room.{size_at, row_at, HasRoom}
 use Rattle.xw_net.specs.Renumber.{AreLights, same_before, bits_from, flag_from, AreRowsMoved, AreFlagsMoved, IsRenumbered}
 use Rattle.xw_net.specs.Nets.{bits_at, word_stands}
-use Rattle.xw_net.specs.Fit.{IsNear, AreNear, IsAtRest, HasRoomBetween, IsTurned, Follows}
+use Rattle.xw_net.specs.Fit.{lacking, IsNear, AreNear, IsAtRest, HasRoomBetween, IsTurned, Follows}
 use Rattle.xw_net.specs.declared.net.Net.{Net}
 use Rattle.xw_net.specs.declared.room.Spare.{Spare}
 use Rattle.xw_net.proofs.Nets.RenumberedLights.{found_before, other_there, same_size}
@@ -43,17 +43,17 @@ module _ (before after : List Light) (are : AreLights after) (counts : ℕ → �
     pub turned_row : (light other : ℕ) → light < length after → same_before before after light ≡ Some other → (row_at new light).bits ≡ (row_at old other).bits
     turned_row light other lt at = moved.bits light lt ∙ ap (bits_from old (counts (size_at after light))) at
 
-    pub turned_near : AreNear before counts old → AreNear after counts new
-    turned_near near light lt = split (same_before before after light) refl where
-      split : (o : Option ℕ) → same_before before after light ≡ o → IsNear (counts (size_at after light)) (row_at new light).bits
+    pub turned_near : (word : Option (ℕ × ℕ)) → AreNear before counts word old → AreNear after counts word new
+    turned_near word near light lt = split (same_before before after light) refl where
+      split : (o : Option ℕ) → same_before before after light ≡ o → IsNear (counts (size_at after light)) (lacking word (size_at after light)) (row_at new light).bits
       split None at =
           let many : length (row_at new light).bits ≡ counts (size_at after light) = ap length (moved.bits light lt ∙ ap (bits_from old (counts (size_at after light))) at) ∙ length-replicate (counts (size_at after light)) false in
           (omega (arith, many), omega (arith, many))
       split (Some other) at =
           let had = near other (other_there before after light other at) in
           let many = ap length (turned_row light other lt at) in
-          let sizes = ap counts (same_size before after are light other at) in
-          (omega (arith, had.0, many, sizes), omega (arith, had.1, many, sizes))
+          let size = same_size before after are light other at in
+          (omega (arith, had.0, many, ap counts size), omega (arith, had.1, many, ap counts size, ap (lacking word) size))
 
   pub turned_flag : (old new : List Bool) → AreFlagsMoved before after old new → (light other : ℕ) → light < length after → same_before before after light ≡ Some other → get_or new light false ≡ get_or old other false
   turned_flag old new moved light other lt at = moved.flags light lt ∙ ap (flag_from old) at
@@ -84,9 +84,9 @@ room_kept : (before after : List Light) (counts : ℕ → ℕ) (net : Net) (spar
 room_kept before after counts net None same room = room.1
 room_kept before after counts net (Some spare) same room = subst (λ ls. HasRoom ls counts net) (sym same) room.0
 
-pub follows_kept : (before after : List Light) (counts : ℕ → ℕ) (net : Net) → after ≡ before → AreLights after → IsAtRest before (vec_len net.letters) net → AreNear before counts net.rows.items → AreNear before counts net.base.items
-    → HasRoomBetween before after counts net net.spare → Follows before after counts net (record net { spare = None })
-follows_kept before after counts net same are rest rows base room =
+pub follows_kept : (before after : List Light) (counts : ℕ → ℕ) (word : Option (ℕ × ℕ)) (net : Net) → after ≡ before → AreLights after → IsAtRest before (vec_len net.letters) net → AreNear before counts word net.rows.items → AreNear before counts word net.base.items
+    → HasRoomBetween before after counts net net.spare → Follows before after counts word net (record net { spare = None })
+follows_kept before after counts word net same are rest rows base room =
     let had = subst (λ ls. IsAtRest ls (vec_len net.letters) net) (sym same) rest in
     let has = room_kept before after counts net net.spare same room in
     record {
@@ -106,8 +106,8 @@ follows_kept before after counts net same are rest rows base room =
         marked_long = had.marked_long;
         is_marked = had.is_marked;
       };
-      rows = subst (λ ls. AreNear ls counts net.rows.items) (sym same) rows;
-      base = subst (λ ls. AreNear ls counts net.base.items) (sym same) base;
+      rows = subst (λ ls. AreNear ls counts word net.rows.items) (sym same) rows;
+      base = subst (λ ls. AreNear ls counts word net.base.items) (sym same) base;
       room = record { rows = has.rows; base = has.base };
       turned = turned_none before after net None are same refl;
     }

@@ -39,45 +39,47 @@ use Rattle.xw_net.proofs.Revivals.CarriedIsReady.{carried_ready}
 use Rattle.xw_net.proofs.Revivals.StartIsRevival.{started_begun, started_carried}
 use Rattle.xw_net.proofs.Edits.ChangedLights.{changed_started, new_within, edited_within, long_within, turned_within}
 use Rattle.xw_net.proofs.Edits.FilledCells.{filled_was_open}
+use Rattle.xw_net.proofs.Revivals.FilledCell.{FillsOne}
 use Rattle.xw_net.proofs.Revivals.OpenedSupports.{opened_held, opened_pending, opened_hits}
 use Rattle.xw_net.proofs.Revivals.OpenedRows.{listed_inside, opened_prepared, new_queued, new_seeds, turned_seeds, opened_base, opened_lights, opened_words_on, opened_words_off, opened_words_calm, opened_has_not, opened_freed}
 
-module _ (before now : State) (action : Action) (change : Fields) (is : IsChange before now action change) (settled net opened : Net)
+module _ {cell : Option ℕ} (before now : State) (action : Action) (change : Fields) (is : IsChange before now action change) (settled net opened : Net)
     (filled : IsFilled (board_of before.grid) before.words settled) (holding : IsHolding (board_of before.grid) before.words (marks_of settled)) (moved : IsMoved before now settled net)
-    (opening : IsOpening now.grid (board_of now.grid) (lights_of now.grid) (row now.words) change (arrays_of net) (arrays_of opened))
+    (opening : IsOpening now.grid (board_of now.grid) (lights_of now.grid) (row now.words) change cell (arrays_of net) (arrays_of opened))
     (forgets : Forgets (board_of now.grid) (λ light. lost_from change.word (same_before change.before (lights_of now.grid) light) (length (light_at (board_of now.grid) light)) (length (row now.words (length (light_at (board_of now.grid) light)))))
     net.held.items opened.held.items net.pending.items opened.pending.items)
     (entered_kept : opened.entered.items ≡ net.entered.items) (restart_kept : opened.restart.items ≡ net.restart.items)
-    (inside : (listed : Cell × Option ℕ) → Contains change.cells listed → is_inside now.grid listed.0 ≡ true) where
+    (inside : (listed : Cell × Option ℕ) → Contains change.cells listed → is_inside now.grid listed.0 ≡ true)
+    (one : (filled : ℕ) → cell ≡ Some filled → FillsOne now.grid change filled) where
   matching : IsMatching (board_of before.grid) (board_of now.grid) (same_light before.grid now.grid)
   matching = same_is_matching before.grid now.grid is.width
 
   inside_before : (listed : Cell × Option ℕ) → Contains change.cells listed → is_inside before.grid listed.0 ≡ true
-  inside_before = listed_inside before now action change is settled net opened filled moved opening entered_kept inside
+  inside_before = listed_inside before now action change is settled net opened filled moved opening entered_kept inside one
 
   prepared : IsPrepared (board_of now.grid) (row now.words) change.word net.rows.items opened.rows.items net.base.items opened.base.items (is_marked opened.queue.marks) (is_marked opened.chain.marks)
-  prepared = opened_prepared before now action change is settled net opened filled moved opening entered_kept inside
+  prepared = opened_prepared before now action change is settled net opened filled moved opening entered_kept inside one
 
   has_not : (light : ℕ) → light < length (board_of now.grid).lights → is_marked opened.chain.marks light ≡ false
       → may_have change.word (length (light_at (board_of now.grid) light)) (base_bits (board_of now.grid) (light_at (board_of now.grid) light) (row now.words (length (light_at (board_of now.grid) light)))) ≡ false
-  has_not = opened_has_not before now action change is settled net opened filled moved opening entered_kept inside
+  has_not = opened_has_not before now action change is settled net opened filled moved opening entered_kept inside one
 
   started : IsStarted (board_of before.grid) (board_of now.grid) before.words now.words (same_light before.grid now.grid) (marks_of settled) (marks_of opened) (is_marked opened.chain.marks)
   unfolding letter_stands restart_in queued_in is_marked
   started =
       changed_started before now action change is (marks_of settled) (marks_of opened) (is_marked opened.chain.marks) (is_waiting opened.chain.lights) filled.exact inside_before
       opening.edited
-      (new_queued before now action change is settled net opened filled moved opening entered_kept inside)
-      (new_seeds before now action change is settled net opened filled moved opening entered_kept inside)
+      (new_queued before now action change is settled net opened filled moved opening entered_kept inside one)
+      (new_seeds before now action change is settled net opened filled moved opening entered_kept inside one)
       prepared.calm prepared.seeds
-      (turned_seeds before now action change is settled net opened filled moved opening entered_kept inside)
+      (turned_seeds before now action change is settled net opened filled moved opening entered_kept inside one)
       (subst (λ ls. Rattle.xw_net.specs.Spread.IsSpread (board_of now.grid) (set_has ls) (set_has opened.letters.items) (is_marked opened.chain.marks) (is_waiting opened.chain.lights) Rattle.xw_net.specs.Spread.no_positions) moved.letters opening.spread)
       (λ listed has fill. filled_was_open before now action change is listed has (inside_before listed has) (inside listed has) fill)
-      (opened_lights before now action change is settled net opened filled moved opening entered_kept inside)
-      (opened_words_on before now action change is settled net opened filled moved opening entered_kept inside)
-      (opened_words_off before now action change is settled net opened filled moved opening entered_kept inside)
-      (opened_words_calm before now action change is settled net opened filled moved opening entered_kept inside)
-      (opened_freed before now action change is settled net opened filled moved opening entered_kept inside)
+      (opened_lights before now action change is settled net opened filled moved opening entered_kept inside one)
+      (opened_words_on before now action change is settled net opened filled moved opening entered_kept inside one)
+      (opened_words_off before now action change is settled net opened filled moved opening entered_kept inside one)
+      (opened_words_calm before now action change is settled net opened filled moved opening entered_kept inside one)
+      (opened_freed before now action change is settled net opened filled moved opening entered_kept inside one)
       (opened_held before now action change is settled net opened filled.settled holding moved opening forgets has_not)
       (λ slot letter. ap (λ rs. set_has rs slot letter) (restart_kept ∙ moved.restart))
       (opened_pending before now action change is settled net opened filled.settled holding moved opening forgets has_not)
@@ -148,7 +150,7 @@ module _ (before now : State) (action : Action) (change : Fields) (is : IsChange
 
   pub opens : IsOpened before now action settled opened
   opens = record {
-    is_base = opened_base before now action change is settled net opened filled moved opening entered_kept inside;
+    is_base = opened_base before now action change is settled net opened filled moved opening entered_kept inside one;
     begun = begun;
     ready = carried_ready (board_of before.grid) (board_of now.grid) before.words now.words (same_light before.grid now.grid) (marks_of settled) (marks_of opened) (is_marked opened.chain.marks)
         is.formed_now.board is.formed_now.dictionary matching filled.settled begun

@@ -37,6 +37,7 @@ use Rattle.xw_feas.proofs.BoardLemmas.{length-lights}
 use Rattle.xw_net.proofs.Lists.ListsOfLights.{marked_below}
 use Rattle.xw_net.proofs.Edits.KeptByEdits.{with_words-Ok}
 use Rattle.xw_net.proofs.Revivals.StartIsRevival.{empty_not_whole}
+use Rattle.xw_net.proofs.Revivals.FilledCell.{FillsOne, filled_row}
 use Rattle.xw_net.proofs.Edits.ListedCells.{inside_sized}
 use Rattle.xw_net.proofs.BaseRows.NarrowedRows.{common_bits, narrowed_common}
 use Rattle.xw_net.proofs.Edits.ChangedLights.{base_bits_same, changed_base, changed_entry_calm, changed_entry_kept, changed_words_same, changed_has_not, changed_spelled, row_narrowed}
@@ -65,11 +66,12 @@ same_flag (x ∷ xs) [] last k long same = absurd (omega (arith, long))
 same_flag (x ∷ xs) (y ∷ ys) last zero long same = same
 same_flag (x ∷ xs) (y ∷ ys) last (suc k) long same = same_flag xs ys last k (omega (arith, long)) same
 
-module _ (before now : State) (action : Action) (change : Fields) (is : IsChange before now action change) (settled net opened : Net)
+module _ {cell : Option ℕ} (before now : State) (action : Action) (change : Fields) (is : IsChange before now action change) (settled net opened : Net)
     (filled : IsFilled (board_of before.grid) before.words settled) (moved : IsMoved before now settled net)
-    (opening : IsOpening now.grid (board_of now.grid) (lights_of now.grid) (row now.words) change (arrays_of net) (arrays_of opened))
+    (opening : IsOpening now.grid (board_of now.grid) (lights_of now.grid) (row now.words) change cell (arrays_of net) (arrays_of opened))
     (entered_kept : opened.entered.items ≡ net.entered.items)
-    (inside : (listed : Cell × Option ℕ) → Contains change.cells listed → is_inside now.grid listed.0 ≡ true) where
+    (inside : (listed : Cell × Option ℕ) → Contains change.cells listed → is_inside now.grid listed.0 ≡ true)
+    (one : (filled : ℕ) → cell ≡ Some filled → FillsOne now.grid change filled) where
   abbrev seed : ℕ → Bool
   seed = is_marked opened.chain.marks
 
@@ -121,7 +123,7 @@ module _ (before now : State) (action : Action) (change : Fields) (is : IsChange
       ∙ ap (is_base_word (board_of now.grid) (light_at (board_of now.grid) light)) (same_entry (row before.words (length (light_at (board_of now.grid) light))) (row now.words (length (light_at (board_of now.grid) light))) k (sym kept))
 
   pub opened_prepared : IsPrepared (board_of now.grid) (row now.words) change.word net.rows.items opened.rows.items net.base.items opened.base.items (is_marked opened.queue.marks) (is_marked opened.chain.marks)
-  opened_prepared = opening.prepared base_but
+  opened_prepared = opening.prepared base_but (λ light in_board at some. filled_row before now action change is settled net filled moved listed_inside at (one at some) light in_board)
 
   short_known : (light other : ℕ) → light < length (board_of now.grid).lights → same_light before.grid now.grid light ≡ Some other → is_long change.word (length (light_at (board_of now.grid) light)) ≡ false → known (board_of now.grid) now.words light ≡ known (board_of before.grid) before.words other
   short_known light other in_board at short =

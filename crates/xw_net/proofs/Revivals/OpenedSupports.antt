@@ -41,9 +41,9 @@ new_loses None size many = refl
 new_loses (Some word) size many = refl
 
 -- the held words of a net, moved to another position with the same slot
-module _ (before now : State) (action : Action) (change : Fields) (is : IsChange before now action change) (settled net opened : Net)
+module _ {cell : Option ℕ} (before now : State) (action : Action) (change : Fields) (is : IsChange before now action change) (settled net opened : Net)
     (is_settled : IsSettledNet (board_of before.grid) before.words (marks_of settled)) (holding : IsHolding (board_of before.grid) before.words (marks_of settled)) (moved : IsMoved before now settled net)
-    (opening : IsOpening now.grid (board_of now.grid) (lights_of now.grid) (row now.words) change (arrays_of net) (arrays_of opened))
+    (opening : IsOpening now.grid (board_of now.grid) (lights_of now.grid) (row now.words) change cell (arrays_of net) (arrays_of opened))
     (forgets : Forgets (board_of now.grid) (λ light. lost_from change.word (same_before change.before (lights_of now.grid) light) (length (light_at (board_of now.grid) light)) (length (row now.words (length (light_at (board_of now.grid) light)))))
     net.held.items opened.held.items net.pending.items opened.pending.items)
     (has_not : (light : ℕ) → light < length (board_of now.grid).lights → is_marked opened.chain.marks light ≡ false

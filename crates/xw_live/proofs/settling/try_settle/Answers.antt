@@ -5,7 +5,7 @@ use Rattle.std.proofs.Math.Logic.{∥∥₁_elim}
 use mathlib.Core.Logic.{∥∥₁_prop}
 use Rattle.xw_words.specs.Dictionary.{Dictionary, row}
 use Rattle.xw_feas.specs.State.{State}
-use Rattle.xw_net.specs.Change.{before_of}
+use Rattle.xw_net.specs.Change.{before_of, word_of}
 use Rattle.xw_net.specs.Net.{StoodFor, known_counts, sets_of}
 use Rattle.xw_net.specs.Fit.{HasRoomBetween}
 use Rattle.xw_live.proofs.Keeping.{kept_from}
@@ -16,7 +16,7 @@ unfolding sets_of
 try_settle-dead-requires-clause-cells c = omega (arith, c.requires.cells)
 
 pub try_settle-dead-requires-clause-stood : goal.try_settle-dead-requires-clause-stood
-try_settle-dead-requires-clause-stood c = subst (λ (words : Dictionary). StoodFor (before_of c.args.position.now.lights c.args.change.now) (known_counts words) c.args.net.now) (sym c.new-reads.ensures.words) c.requires.stood
+try_settle-dead-requires-clause-stood c = subst (λ (words : Dictionary). StoodFor (before_of c.args.position.now.lights c.args.change.now) (word_of c.args.change.now) (known_counts words) c.args.net.now) (sym c.new-reads.ensures.words) c.requires.stood
 
 pub try_settle-dead-requires-clause-room : goal.try_settle-dead-requires-clause-room
 try_settle-dead-requires-clause-room c = subst (λ (words : Dictionary). HasRoomBetween (before_of c.args.position.now.lights c.args.change.now) c.args.position.now.lights (known_counts words) c.args.net.now c.args.net.now.spare) (sym c.new-reads.ensures.words) c.requires.room

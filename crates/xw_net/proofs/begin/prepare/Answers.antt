@@ -63,13 +63,13 @@ returns-clause-within g c =
     (λ light is. is.1) c.touch_lights.ensures.chain.only
 
 pub returns-clause-prepared : goal.returns-clause-prepared
-returns-clause-prepared g c but =
+returns-clause-prepared g c but were =
     let within : (light : ℕ) → is_marked c.queue_changed.new.queue.marks light ≡ true → is_read c.args.board.now c.args.word (is_marked c.args.queue.now.marks) light ≡ true =
     c.queue_changed.ensures.only (is_read c.args.board.now c.args.word (is_marked c.args.queue.now.marks)) (λ light on. or_left (is_marked c.args.queue.now.marks light) _ on)
     (λ light is. or_right (is_marked c.args.queue.now.marks light) _ (has_changed_long c.args.word (length (light_at c.args.board.now light)) _ _ is.1)) in
     let read : (light : ℕ) → light < length c.args.board.now.lights → is_read c.args.board.now c.args.word (is_marked c.queue_changed.new.queue.marks) light ≡ true
     → bits_in c.read_marked.new.base light ≡ base_bits c.args.board.now (light_at c.args.board.now light) (g.R.Rows.entries c.args.rows.now (length (light_at c.args.board.now light))) =
-    λ light lt is. c.read_marked.ensures.on light lt (was_read c.args.board.now c.args.word (is_marked c.args.queue.now.marks) (is_marked c.queue_changed.new.queue.marks) c.queue_changed.ensures.grows.more within light is) (but light lt) in
+    λ light lt is. c.read_marked.ensures.on light lt (was_read c.args.board.now c.args.word (is_marked c.args.queue.now.marks) (is_marked c.queue_changed.new.queue.marks) c.queue_changed.ensures.grows.more within light is) (but light lt) (were light lt) in
     let queued : (light : ℕ) → is_marked c.queue_changed.new.queue.marks light ≡ true → is_read c.args.board.now c.args.word (is_marked c.queue_changed.new.queue.marks) light ≡ true =
     λ light on. or_left (is_marked c.queue_changed.new.queue.marks light) _ on in
     record {

@@ -46,7 +46,7 @@ settle-self-requires c =
     record {
       inside = λ listed has. absurd (omega (arith, has.1));
       cells = ap length c.make_room.ensures.same.sets ∙ kept_cells (state_of old) old.net old.kept ∙ sym (ap (λ (grid : Grid). length grid.squares) same_grid);
-      stood = stood_grown (state_of old) net now.lights (now.light_list ∙ ap lights_of same_grid) (settled_alike (state_of old) old.net net c.make_room.ensures.same old.kept.settled) now.bank.words (length c.args.word.now) grown;
+      stood = stood_grown (state_of old) net now.lights (now.light_list ∙ ap lights_of same_grid) (settled_alike (state_of old) old.net net c.make_room.ensures.same old.kept.settled) now.bank.words (length c.args.word.now) c.args.index grown;
       room = room_without now.lights now.lights (known_counts now.bank.words) net net.spare c.in_ok-make_room.ensures.none_waits refl (room_for_grown now.lights old.position.bank.words now.bank.words (length c.args.word.now) net grown room);
     }
 

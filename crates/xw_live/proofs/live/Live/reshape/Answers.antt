@@ -1,4 +1,4 @@
-use Rattle.std.proofs.Common.{◌≡◌, List, length, refl, sym, ◌∙◌, ap, subst}
+use Rattle.std.proofs.Common.{◌≡◌, List, None, length, refl, sym, ◌∙◌, ap, subst}
 use Rattle.std.specs.Prelude.{Ok, is_some}
 use Rattle.xw_words.specs.Dictionary.{Dictionary, row}
 use Rattle.xw_grid.specs.declared.lights.Light.{Light}
@@ -38,7 +38,7 @@ settle-self-requires c =
     record {
       inside = edit_in_grid (state_of old) (position_state now) action _ old.position.formed.grid made (c.as_slice.ensures ∙ c.of_shape-written.ensures);
       cells = ap length c.reserve.ensures.same.sets ∙ kept_cells (state_of old) old.net old.kept ∙ sym c.in_ok-grid.ensures.cells ∙ sym (ap (λ (s : State). length s.grid.squares) c.replace-before.ensures.state);
-      stood = stood_same (state_of old) c.reserve.new.self c.replace-before.result c.replace-before.ensures.before ready c.replace-before.new.self.bank.words (λ len. ap (λ (s : State). length (row s.words len)) c.replace-before.ensures.state);
+      stood = stood_same (state_of old) c.reserve.new.self c.replace-before.result c.replace-before.ensures.before ready c.replace-before.new.self.bank.words None (λ len. ap (λ (s : State). length (row s.words len)) c.replace-before.ensures.state);
       room =
           subst (λ (lights : List Light). HasRoomBetween c.replace-before.result lights (known_counts c.replace-before.new.self.bank.words) c.reserve.new.self c.reserve.new.self.spare) (sym lights)
           (subst (λ (s : State). HasRoomBetween c.replace-before.result c.in_ok-lights.lights (known_counts s.words) c.reserve.new.self c.reserve.new.self.spare) (sym c.replace-before.ensures.state)

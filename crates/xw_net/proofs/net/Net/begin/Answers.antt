@@ -1,3 +1,4 @@
+use Rattle.std.specs.Prelude.{Option}
 use Rattle.std.proofs.Common.{◌≡◌, ℕ, List, length, sym, ap, subst, ◌∙◌, arith}
 use Rattle.std.proofs.lemmas.Bool.{false_from_ne_true, both_ways}
 use Rattle.std.proofs.lemmas.List.{with_items_is}
@@ -17,6 +18,8 @@ use Rattle.xw_net.specs.Worklist.{is_marked}
 use Rattle.xw_net.specs.Inner.Forget.{lost_from, Forgets}
 use Rattle.xw_net.specs.Opened.{Arrays, IsOpening}
 use Rattle.xw_net.proofs.Nets.SlotsApart.{slots_apart}
+use Rattle.xw_net.specs.Begin.{filled_of}
+use Rattle.xw_net.proofs.Revivals.FilledCell.{fills_one}
 use Rattle.xw_net.proofs.Revivals.OpenedNet.{opens}
 use Rattle.xw_net.proofs.net.Net.begin.Goals as goal
 
@@ -25,10 +28,10 @@ Lost change board lights entries held held' pending pending' =
     Forgets board (λ light. lost_from change.word (same_before change.before lights light) (length (light_at board light)) (length (entries (length (light_at board light))))) held held' pending pending'
 
 -- the same for equal boards, lights and words
-opening_of : (grid : Grid) (change : Fields) (old new : Arrays) (board board' : Board) (lights lights' : List Light) (entries entries' : ℕ → List Entry) → board ≡ board' → lights ≡ lights' → entries ≡ entries'
-    → IsOpening grid board lights entries change old new → IsOpening grid board' lights' entries' change old new
-opening_of grid change old new board board' lights lights' entries entries' b l e opening =
-    subst (λ es. IsOpening grid board' lights' es change old new) e (subst (λ ls. IsOpening grid board' ls entries change old new) l (subst (λ bs. IsOpening grid bs lights entries change old new) b opening))
+opening_of : (grid : Grid) (change : Fields) (cell : Option ℕ) (old new : Arrays) (board board' : Board) (lights lights' : List Light) (entries entries' : ℕ → List Entry) → board ≡ board' → lights ≡ lights' → entries ≡ entries'
+    → IsOpening grid board lights entries change cell old new → IsOpening grid board' lights' entries' change cell old new
+opening_of grid change cell old new board board' lights lights' entries entries' b l e opening =
+    subst (λ es. IsOpening grid board' lights' es change cell old new) e (subst (λ ls. IsOpening grid board' ls entries change cell old new) l (subst (λ bs. IsOpening grid bs lights entries change cell old new) b opening))
 
 lost_of : (change : Fields) (held held' pending pending' : List ℕ) (board board' : Board) (lights lights' : List Light) (entries entries' : ℕ → List Entry) → board ≡ board' → lights ≡ lights' → entries ≡ entries'
     → Lost change board lights entries held held' pending pending' → Lost change board' lights' entries' held held' pending pending'
@@ -71,13 +74,14 @@ returns-clause-opened g c before words action settled read is filled moved =
     let rest = c.open.ensures.rest in
     let held = ap (λ (net : Net). net.held.items) rest ∙ with_items_is c.args.self.now.held c.forget_lights.new.held (omega (arith, c.forget_lights.auto.held, c.deref_mut.ensures.len)) in
     let pending = ap (λ (net : Net). net.pending.items) rest ∙ with_items_is c.args.self.now.pending c.forget_lights.new.pending (omega (arith, c.forget_lights.auto.pending, c.deref_mut-2.ensures.len)) in
-    let opening = opening_of c.args.grid.now (fields_of c.args.lights.now c.args.change.now) _ _ c.args.board.now (board_of c.args.grid.now) c.args.lights.now (lights_of c.args.grid.now) (g.R.Rows.entries c.args.rows.now) (row words) c.requires.boards c.requires.are_lights entries
+    let opening = opening_of c.args.grid.now (fields_of c.args.lights.now c.args.change.now) (filled_of c.args.grid.now c.args.board.now c.args.change.now) _ _ c.args.board.now (board_of c.args.grid.now) c.args.lights.now (lights_of c.args.grid.now) (g.R.Rows.entries c.args.rows.now) (row words) c.requires.boards c.requires.are_lights entries
     c.open.ensures.opening in
     let lost = lost_of (fields_of c.args.lights.now c.args.change.now) _ _ _ _ c.args.board.now (board_of c.args.grid.now) c.args.lights.now (lights_of c.args.grid.now) (g.R.Rows.entries c.args.rows.now) (row words) c.requires.boards c.requires.are_lights entries
     (lost_by (fields_of c.args.lights.now c.args.change.now) c.args.board.now c.args.lights.now (g.R.Rows.entries c.args.rows.now) c.deref_mut.result.now c.args.self.now.held.items c.forget_lights.new.held _ c.deref_mut-2.result.now c.args.self.now.pending.items c.forget_lights.new.pending _
     c.deref_mut.ensures.value (sym held) c.deref_mut-2.ensures.value (sym pending) c.forget_lights.ensures) in
     opens before (record { grid = c.args.grid.now; words = words }) action (fields_of c.args.lights.now c.args.change.now) is settled c.args.self.now c.open.new.self filled filled.holding moved opening lost
     (ap (λ (net : Net). net.entered.items) rest) (ap (λ (net : Net). net.restart.items) rest) c.requires.inside
+    (λ filled some. fills_one c.args.grid.now c.args.board.now c.args.lights.now c.args.change.now filled c.requires.are_lights some)
 
 pub returns-clause-begun : goal.returns-clause-begun
 unfolding queued_in is_marked pending_in

@@ -51,7 +51,7 @@ returns-clause-unstripped g c dictionary setting =
     let start : Net = record old { base = with_items old.base c.read_marked.new.base; letters = with_items old.letters c.fill_letters.new.letters; chain = c.mark_all.new.chain } in
     let is_base : IsBase board dictionary start.base.items = λ light lt.
     ap (λ (rows : List RowOfBits). bits_in rows light) base_is
-    ∙ c.read_marked.ensures.on light lt (or_left (is_marked c.mark_all.new.chain.marks light) false (c.mark_all.ensures.all light lt)) (λ position some. let never : None ≡ Some (length (light_at board light), position) = some in cc)
+    ∙ c.read_marked.ensures.on light lt (or_left (is_marked c.mark_all.new.chain.marks light) false (c.mark_all.ensures.all light lt)) (λ position some. let never : None ≡ Some (length (light_at board light), position) = some in cc) (λ cell some. let never : None ≡ Some cell = some in cc)
     ∙ ap (base_bits board (light_at board light)) (setting.read (length (light_at board light))) in
     let held_far : (light position letter : ℕ) → IsPositionIn c.args.board.now light position → is_capital letter ≡ true → known c.args.board.now dictionary light ≤ held_in c.args.self.now (slot_at c.args.board.now light position) letter =
     λ light position letter here capital. omega (arith, fresh.held light position letter here capital, known_few dictionary (length (light_at board light)) setting.words) in

@@ -7,7 +7,7 @@ use Rattle.xw_net.specs.Opened.IsTouched.{by_word}
 use Rattle.xw_net.specs.Opened.MayGain.{if_touched, if_queued}
 use Rattle.xw_net.specs.Spread.{no_positions}
 use Rattle.xw_net.specs.Worklist.{ListOfLights}
-use Rattle.xw_net.specs.Begin.{HasLength, Prepares}
+use Rattle.xw_net.specs.Begin.{HasLength, Prepares, filled_of}
 use Rattle.xw_net.specs.Change.{word_of, fields_of}
 use Rattle.xw_net.proofs.Lists.ListsOfLights.{seeds_grow, grows_more}
 use Rattle.xw_net.proofs.Revivals.LettersComeBack.{spread_grows}
@@ -32,7 +32,7 @@ returns-clause-opening g c =
     let queue = grows_more self.queue t.new.queue p.new.queue t.ensures.queue_grows p.ensures.queue in
     let chain = grows_more self.chain t.new.chain p.new.chain t.ensures.chain_grows p.ensures.chain in
     let long : (light : ℕ) → HasLength board c.word.result light → HasLength board (word_of c.args.change.now) light = λ light. subst (λ w. HasLength board w light) c.word.ensures in
-    let raw : IsOpening c.args.grid.now board c.args.lights.now (g.R.Rows.entries c.args.rows.now) (fields_of c.args.lights.now c.args.change.now) old new = record {
+    let raw : IsOpening c.args.grid.now board c.args.lights.now (g.R.Rows.entries c.args.rows.now) (fields_of c.args.lights.now c.args.change.now) (filled_of c.args.grid.now c.args.board.now c.args.change.now) old new = record {
       size = queue.size ∙ c.requires.sized.shaped.queue;
       queue = queue;
       listed = seeds_grow self.queue p.new.queue queue c.requires.queued;
@@ -50,12 +50,13 @@ returns-clause-opening g c =
       };
       spread = spread_grows board (set_has c.deref_mut.result.now) (set_has c.touch.new.letters) c.touch.new.chain c.prepare.new.chain no_positions p.ensures.chain t.ensures.spread;
       freed = t.ensures.freed;
-      prepared = subst (λ w. Prepares board (g.R.Rows.entries c.args.rows.now) w c.deref_mut-3.result.now c.prepare.new.words c.deref_mut-2.result.now c.prepare.new.base c.prepare.new.queue c.prepare.new.chain) c.word.ensures p.ensures.prepared;
+      prepared = subst (λ cell. Prepares board (g.R.Rows.entries c.args.rows.now) (word_of c.args.change.now) cell c.deref_mut-3.result.now c.prepare.new.words c.deref_mut-2.result.now c.prepare.new.base c.prepare.new.queue c.prepare.new.chain) c.filled_in.ensures
+          (subst (λ w. Prepares board (g.R.Rows.entries c.args.rows.now) w c.filled_in.result c.deref_mut-3.result.now c.prepare.new.words c.deref_mut-2.result.now c.prepare.new.base c.prepare.new.queue c.prepare.new.chain) c.word.ensures p.ensures.prepared);
       queued_within = λ member start these. p.ensures.queued_within member (t.ensures.queued_within member start these) (λ light is. these light (by_word (long light is)));
       within = λ member start these.
           p.ensures.within member (t.ensures.within member start these)
           (p.ensures.queued_within member (t.ensures.queued_within member (λ light on. these light (if_queued on)) (λ light is. these light (if_touched is))) (λ light is. these light (if_touched (by_word (long light is)))));
     } in
     let from : old ≡ arrays_of c.args.self.now = arrays_same c.deref_mut-3.ensures.value c.deref_mut-2.ensures.value c.deref_mut.ensures.value in
-    let P : Arrays → Arrays → Type 0 = IsOpening c.args.grid.now c.args.board.now c.args.lights.now (g.R.Rows.entries c.args.rows.now) (fields_of c.args.lights.now c.args.change.now) in
+    let P : Arrays → Arrays → Type 0 = IsOpening c.args.grid.now c.args.board.now c.args.lights.now (g.R.Rows.entries c.args.rows.now) (fields_of c.args.lights.now c.args.change.now) (filled_of c.args.grid.now c.args.board.now c.args.change.now) in
     subst (P (arrays_of c.args.self.now)) (arrays_same (sym rows) (sym base) (sym letters)) (subst (λ a. P a new) from raw)

@@ -4,7 +4,7 @@ use Rattle.xw_net.specs.Nets.{IsShaped, HasBits}
 use Rattle.xw_net.specs.Update.{IsSized}
 use Rattle.xw_net.specs.Filled.{AreLong, HasRowRoom}
 use Rattle.xw_net.specs.Room.{counts_of}
-use Rattle.xw_net.specs.Change.{before_of}
+use Rattle.xw_net.specs.Change.{before_of, word_of}
 use Rattle.xw_net.proofs.Nets.NetsAtRest.{stood_rest, stood_rows, stood_base}
 use Rattle.xw_net.proofs.Nets.SizesAtRest.{rest_shaped, rest_chained, rest_bits, rest_base, rest_room, rest_queued, rest_marked}
 use Rattle.xw_net.proofs.net.Net.revive.Goals as goal
@@ -31,10 +31,10 @@ move_to-requires g c =
     let counts = counts_of (g.R.Rows.entries c.args.rows.now) in
     record {
       lights = record { grid = c.args.grid.now; are = c.requires.lights };
-      rest = stood_rest before counts c.args.self.now c.requires.stood;
+      rest = stood_rest before (word_of c.args.change.now) counts c.args.self.now c.requires.stood;
       room = c.requires.room;
-      rows = stood_rows before counts c.args.self.now c.requires.stood;
-      base = stood_base before counts c.args.self.now c.requires.stood;
+      rows = stood_rows before (word_of c.args.change.now) counts c.args.self.now c.requires.stood;
+      base = stood_base before (word_of c.args.change.now) counts c.args.self.now c.requires.stood;
     }
 
 pub returns-clause-shaped : goal.returns-clause-shaped

@@ -1,4 +1,4 @@
-use Rattle.std.proofs.Common.{length, false, sym, ap, subst, ◌∙◌, arith}
+use Rattle.std.proofs.Common.{length, false, None, sym, ap, subst, ◌∙◌, arith}
 use Rattle.std.specs.Prelude.{vec_len}
 use Rattle.std.proofs.lemmas.List.{length-replicate}
 use Rattle.xw_net.specs.Room.{counts_of}
@@ -33,8 +33,8 @@ returns-in-Some g c = record {
         marked_long = marked_long;
         is_marked = λ light. ap (λ (list : ListOfLights). is_marked list.marks light) is.chain ∙ none_marked (length c.args.lights.now) light;
       };
-  rows = turned_near c.args.before.now c.args.lights.now c.requires.lights (counts_of (g.R.Rows.entries c.args.words.now)) c.args.self.now.rows.items c.renumber.new.self.rows.items c.renumber.ensures.renumbered.rows c.requires.rows;
-  base = turned_near c.args.before.now c.args.lights.now c.requires.lights (counts_of (g.R.Rows.entries c.args.words.now)) c.args.self.now.base.items c.renumber.new.self.base.items c.renumber.ensures.renumbered.base c.requires.base;
+  rows = turned_near c.args.before.now c.args.lights.now c.requires.lights (counts_of (g.R.Rows.entries c.args.words.now)) c.args.self.now.rows.items c.renumber.new.self.rows.items c.renumber.ensures.renumbered.rows None c.requires.rows;
+  base = turned_near c.args.before.now c.args.lights.now c.requires.lights (counts_of (g.R.Rows.entries c.args.words.now)) c.args.self.now.base.items c.renumber.new.self.base.items c.renumber.ensures.renumbered.base None c.requires.base;
   room =
       let had = subst (HasRoomBetween c.args.before.now c.args.lights.now (counts_of (g.R.Rows.entries c.args.words.now)) c.args.self.now) (sym c.in-Some.ensures.value) c.requires.room in
       c.renumber.ensures.room (record { rows = had.0.rows; base = had.0.base });
@@ -52,8 +52,8 @@ returns-in-Some g c = record {
 pub returns-in_default : goal.returns-in_default
 returns-in_default g c =
     let room = subst (HasRoomBetween c.args.before.now c.args.lights.now (counts_of (g.R.Rows.entries c.args.words.now)) c.args.self.now) (sym c.in_default.ensures.value) c.requires.room in
-    subst (λ spare. Follows c.args.before.now c.args.lights.now (counts_of (g.R.Rows.entries c.args.words.now)) c.args.self.now (record c.args.self.now { spare = spare })) (sym c.take.ensures.after)
-    (follows_kept c.args.before.now c.args.lights.now (counts_of (g.R.Rows.entries c.args.words.now)) c.args.self.now room.0 c.requires.lights c.requires.rest c.requires.rows c.requires.base c.requires.room)
+    subst (λ spare. Follows c.args.before.now c.args.lights.now (counts_of (g.R.Rows.entries c.args.words.now)) None c.args.self.now (record c.args.self.now { spare = spare })) (sym c.take.ensures.after)
+    (follows_kept c.args.before.now c.args.lights.now (counts_of (g.R.Rows.entries c.args.words.now)) None c.args.self.now room.0 c.requires.lights c.requires.rest c.requires.rows c.requires.base c.requires.room)
 
 pub renumber-requires-clause-spare : goal.renumber-requires-clause-spare
 renumber-requires-clause-spare g c =

@@ -6,12 +6,12 @@ use Rattle.xw_net.specs.Change.{IsChange, entries_written}
 use Rattle.xw_live.specs.Engine.{IsKept}
 use Rattle.xw_live.specs.Live.{state_of}
 use Rattle.xw_live.proofs.InPlace.{can_follow, told, same_cells_kept, same_room_kept}
-use Rattle.xw_live.proofs.live.Live.enter.Goals as goal
+use Rattle.xw_live.proofs.live.Live.enter_cells.Goals as goal
 
 pub settle-self-requires : goal.settle-self-requires
 settle-self-requires c =
     let old = c.args.self.now in
-    can_follow old c.commit.new.self (in_place_action c.args.edit.now) c.commit.ensures.made c.commit.ensures.shape c.commit.ensures.counts _ (c.as_slice.ensures ∙ c.of_entries-written.ensures ∙ ap (entries_written old.position.grid) (sym c.requires.entries)) refl
+    can_follow old c.commit.new.self (in_place_action c.args.edit.now) c.commit.ensures.made c.commit.ensures.shape c.commit.ensures.counts _ (c.requires.cells ∙ ap (entries_written old.position.grid) (sym c.requires.entries)) refl
 
 pub invariant_of-self-2 : goal.invariant_of-self-2
 invariant_of-self-2 c =
@@ -19,7 +19,7 @@ invariant_of-self-2 c =
     let now = c.commit.new.self in
     let action = in_place_action c.args.edit.now in
     let of_grid : IsOfGrid (state_of old) action = subst (IsOfGrid (state_of c.args.self.now)) (sym c.requires.entries) (entries_of_grid (state_of old) c.args.entries.now) in
-    let written = c.as_slice.ensures ∙ c.of_entries-written.ensures ∙ ap (entries_written old.position.grid) (sym c.requires.entries) in
+    let written = c.requires.cells ∙ ap (entries_written old.position.grid) (sym c.requires.entries) in
     let change : IsChange (state_of old) (position_state now) action _ = told old now action c.commit.ensures.made c.commit.ensures.shape _ of_grid.none_turned of_grid.none_back written refl of_grid.no_word in
     let kept : IsKept (position_state now) c.settle-self.new.net = c.settle-self.ensures.kept (state_of old) action change old.kept.settled in
     record {
@@ -34,7 +34,7 @@ returns c =
     let now = c.commit.new.self in
     let action = in_place_action c.args.edit.now in
     let of_grid : IsOfGrid (state_of old) action = subst (IsOfGrid (state_of c.args.self.now)) (sym c.requires.entries) (entries_of_grid (state_of old) c.args.entries.now) in
-    let written = c.as_slice.ensures ∙ c.of_entries-written.ensures ∙ ap (entries_written old.position.grid) (sym c.requires.entries) in
+    let written = c.requires.cells ∙ ap (entries_written old.position.grid) (sym c.requires.entries) in
     let change : IsChange (state_of old) (position_state now) action _ = told old now action c.commit.ensures.made c.commit.ensures.shape _ of_grid.none_turned of_grid.none_back written refl of_grid.no_word in
     record {
       made = c.commit.ensures.made;

@@ -17,12 +17,12 @@ use Rattle.xw_live.proofs.Keeping.{kept_cells}
 use Rattle.xw_live.proofs.Made.{entries_of_grid}
 use Rattle.xw_live.proofs.Saving.{kept_copy}
 use Rattle.xw_live.proofs.Trying.{none_gives, some_gives, stopped_dead, can_restore}
-use Rattle.xw_live.proofs.live.Live.try_entries.Goals as goal
+use Rattle.xw_live.proofs.live.Live.try_cells.Goals as goal
 
 pub try_settle-dead-requires : goal.try_settle-dead-requires
 try_settle-dead-requires c =
     let old = c.args.self.now in
-    can_follow old c.enter.new.self (entry_action c.args.edit.now) c.in_ok-enter.ensures.made c.enter.ensures.shape (λ len. ap (λ (words : Dictionary). length (row words len)) c.enter.ensures.words) _ (c.as_slice.ensures ∙ c.of_entries-written.ensures) refl
+    can_follow old c.enter.new.self (entry_action c.args.edit.now) c.in_ok-enter.ensures.made c.enter.ensures.shape (λ len. ap (λ (words : Dictionary). length (row words len)) c.enter.ensures.words) _ c.requires.cells refl
 
 pub invariant_of-self-in_default : goal.invariant_of-self-in_default
 invariant_of-self-in_default c =
@@ -31,7 +31,7 @@ invariant_of-self-in_default c =
     let action = entry_action c.args.edit.now in
     let made = c.in_ok-enter.ensures.made in
     let is = entries_of_grid (state_of old) c.args.edit.now in
-    let change : IsChange (state_of old) (position_state now) action _ = told old now action made c.enter.ensures.shape _ is.none_turned is.none_back (c.as_slice.ensures ∙ c.of_entries-written.ensures) refl is.no_word in
+    let change : IsChange (state_of old) (position_state now) action _ = told old now action made c.enter.ensures.shape _ is.none_turned is.none_back c.requires.cells refl is.no_word in
     let kept : IsKept (position_state now) c.try_settle-dead.new.net = none_gives c.try_settle-dead.result.0 c.in_default.is c.try_settle-dead.ensures.kept (state_of old) action change old.kept.settled in
     record {
       kept = kept;
@@ -46,7 +46,7 @@ copy_from-requires-clause-before c =
     let action = entry_action c.args.edit.now in
     let made = c.in_ok-enter.ensures.made in
     let is = entries_of_grid (state_of old) c.args.edit.now in
-    let change : IsChange (state_of old) (position_state now) action _ = told old now action made c.enter.ensures.shape _ is.none_turned is.none_back (c.as_slice.ensures ∙ c.of_entries-written.ensures) refl is.no_word in
+    let change : IsChange (state_of old) (position_state now) action _ = told old now action made c.enter.ensures.shape _ is.none_turned is.none_back c.requires.cells refl is.no_word in
     let stopped : ∥ IsStoppedAt (board_of c.enter.new.self.grid) c.enter.new.self.bank.words c.try_settle-dead.new.net c.in-Some.light ∥₁ =
     some_gives _ c.try_settle-dead.result.0 c.in-Some.light c.in-Some.is c.try_settle-dead.ensures.stopped (state_of old) action change old.kept.settled in
     stopped_base now.grid now.bank.words c.try_settle-dead.new.net c.in-Some.light stopped
@@ -58,10 +58,10 @@ copy_from-requires-clause-can c =
     let action = entry_action c.args.edit.now in
     let made = c.in_ok-enter.ensures.made in
     let is = entries_of_grid (state_of old) c.args.edit.now in
-    let change : IsChange (state_of old) (position_state now) action _ = told old now action made c.enter.ensures.shape _ is.none_turned is.none_back (c.as_slice.ensures ∙ c.of_entries-written.ensures) refl is.no_word in
+    let change : IsChange (state_of old) (position_state now) action _ = told old now action made c.enter.ensures.shape _ is.none_turned is.none_back c.requires.cells refl is.no_word in
     let stopped : ∥ IsStoppedAt (board_of c.enter.new.self.grid) c.enter.new.self.bank.words c.try_settle-dead.new.net c.in-Some.light ∥₁ =
     some_gives _ c.try_settle-dead.result.0 c.in-Some.light c.in-Some.is c.try_settle-dead.ensures.stopped (state_of old) action change old.kept.settled in
-    let marked = c.requires in
+    let marked = c.requires.marked in
     let saved : State = record { grid = c.args.mark.now.grid; words = c.args.mark.now.bank.value.words } in
     let lights : now.lights ≡ lights_of c.args.mark.now.grid = lights_are old now action made c.enter.ensures.shape ∙ ap (λ (s : State). lights_of s.grid) (sym marked) in
     can_restore saved now.grid c.try_settle-dead.new.net c.args.mark.now.net c.in-Some.light now.lights lights
@@ -73,7 +73,7 @@ copy_from-requires-clause-can c =
 pub copy_grid-requires : goal.copy_grid-requires
 copy_grid-requires c =
     let shape = c.enter.ensures.shape in
-    subst (λ (s : State). SameShape c.enter.new.self.grid s.grid) (sym c.requires) (record { lights = sym shape.lights; opens = λ cell. sym (shape.opens cell); cells = sym shape.cells })
+    subst (λ (s : State). SameShape c.enter.new.self.grid s.grid) (sym c.requires.marked) (record { lights = sym shape.lights; opens = λ cell. sym (shape.opens cell); cells = sym shape.cells })
 
 pub invariant_of-self-2 : goal.invariant_of-self-2
 invariant_of-self-2 c =
@@ -81,10 +81,10 @@ invariant_of-self-2 c =
     let now = c.enter.new.self in
     let action = entry_action c.args.edit.now in
     let made = c.in_ok-enter.ensures.made in
-    let marked = c.requires in
+    let marked = c.requires.marked in
     let saved : State = record { grid = c.args.mark.now.grid; words = c.args.mark.now.bank.value.words } in
     let lights : now.lights ≡ lights_of c.args.mark.now.grid = lights_are old now action made c.enter.ensures.shape ∙ ap (λ (s : State). lights_of s.grid) (sym marked) in
-    let back : position_state c.copy_grid.new.self ≡ state_of c.args.self.now = c.copy_grid.ensures ∙ (λ i. record { grid = ap (λ (s : State). s.grid) c.requires i; words = c.enter.ensures.words i }) in
+    let back : position_state c.copy_grid.new.self ≡ state_of c.args.self.now = c.copy_grid.ensures ∙ (λ i. record { grid = ap (λ (s : State). s.grid) c.requires.marked i; words = c.enter.ensures.words i }) in
     let copied : IsKept saved c.copy_from.new.self =
     kept_copy saved c.args.mark.now.net c.copy_from.new.self now.lights lights c.copy_from.ensures.copied (ap is_some c.copy_from.ensures.spare ∙ c.try_settle-dead.ensures.none_waits) c.args.mark.now.kept in
     record {
@@ -102,10 +102,10 @@ returns-clause-tried c =
     let action = entry_action c.args.edit.now in
     let made = c.in_ok-enter.ensures.made in
     let is = entries_of_grid (state_of old) c.args.edit.now in
-    let change : IsChange (state_of old) (position_state now) action _ = told old now action made c.enter.ensures.shape _ is.none_turned is.none_back (c.as_slice.ensures ∙ c.of_entries-written.ensures) refl is.no_word in
+    let change : IsChange (state_of old) (position_state now) action _ = told old now action made c.enter.ensures.shape _ is.none_turned is.none_back c.requires.cells refl is.no_word in
     let stopped : ∥ IsStoppedAt (board_of c.enter.new.self.grid) c.enter.new.self.bank.words c.try_settle-dead.new.net c.in-Some.light ∥₁ =
     some_gives _ c.try_settle-dead.result.0 c.in-Some.light c.in-Some.is c.try_settle-dead.ensures.stopped (state_of old) action change old.kept.settled in
-    let back : position_state c.copy_grid.new.self ≡ state_of c.args.self.now = c.copy_grid.ensures ∙ (λ i. record { grid = ap (λ (s : State). s.grid) c.requires i; words = c.enter.ensures.words i }) in (
+    let back : position_state c.copy_grid.new.self ≡ state_of c.args.self.now = c.copy_grid.ensures ∙ (λ i. record { grid = ap (λ (s : State). s.grid) c.requires.marked i; words = c.enter.ensures.words i }) in (
       back,
       record {
         is_watched = some_gives _ c.try_settle-dead.result.0 c.in-Some.light c.in-Some.is c.try_settle-dead.ensures.watched;
