@@ -126,8 +126,8 @@ uint32_t xw_open(struct xw *xw, const uint8_t *list, size_t list_length, const u
  * The answer has a line "xw: record: line N: NAME" for each refused line, and for the line that is not a command.
  *
  * A record that begins with the line "# xw session 1", such as a file of `xw edit`, may have been cut off while it was written. As in `xw edit`,
- * a last line without a line feed and a search without its line "# xw end" are dropped. The answer then begins with the line "xw: record: a cut
- * line was dropped". Write that line before what xw_record makes, if a kill may cut your file.
+ * a last line without a line feed and a search without its line "# xw end" are dropped. The answer then begins with the line
+ * "xw: record: an incomplete last command is ignored". If a kill may cut your file, write "# xw session 1" before what xw_record makes.
  *
  * Returns
  *   XW_ACCEPTED       all lines were accepted

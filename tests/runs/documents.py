@@ -141,9 +141,15 @@ def board_runs(room, program):
 
 
 def version_stands(room, program):
-    """docs/front-ends.md has the version that the program prints."""
+    """docs/front-ends.md, the manual page and the header have the version that the program prints."""
     (version,) = lines_in(call(room, program, "--version").stdout)
-    assert f"`{version}`" in text_of("docs/front-ends.md"), f"docs/front-ends.md does not have {version}"
+    number = version.split()[1]
+    major, minor, patch = map(int, number.split("."))
+    define = f"#define XW_LIBRARY_VERSION {major * 1_000_000 + minor * 1_000 + patch}\n"
+    parts = {"docs/front-ends.md": (f"`{version}`",), "docs/xw.1": (f'"xw {number}"',), "include/xw.h": (define, f"{number} is {define.split()[2]}.", f'"{version}"')}
+    for name, texts in parts.items():
+        for text in texts:
+            assert text in text_of(name), f"{name} does not have {text}"
 
 
 def has_options(room, program):
@@ -163,10 +169,19 @@ def page_is_whole(room, program):
         assert not missing, f"docs/xw.1 does not have {sorted(missing)}"
     table = page[page.index("lB lx.") : page.index(".TE")]
     cells = re.findall(r"^(?:T\{\n)?(.*?)(?:\nT\})?@T\{\n.*?\nT\}$", table, re.M | re.S)
-    forms = [form for heading in re.findall("^### ([a-z].*)$", text_of("docs/commands.md"), re.M) for form in heading.split(", ")]
-    compare("commands of docs/xw.1", [form for cell in cells for form in cell.removeprefix("lB lx.\n").split("\n.br\n")], forms)
+    compare("commands of docs/xw.1", [form for cell in cells for form in cell.removeprefix("lB lx.\n").split("\n.br\n")], forms_in_headings())
     statuses = page[page.index(".SH EXIT STATUS") : page.index(".SH FILES")]
     compare("exit statuses of docs/xw.1", re.findall(r"^\.B (\d)$", statuses, re.M), list("01234"))
+
+
+def forms_are_listed(room, program):
+    """`help` lists the commands of docs/commands.md, each on one line. With a name it shows the line of that command."""
+    *listed, end = lines_in(call(room, program, "edit", b"help\n").stdout)
+    compare("end of help", end, "ok")
+    compare("commands of help", sorted(form for line in listed for form in line.split(", ")), sorted(forms_in_headings()))
+    asked = "".join(f"help {line.split()[0]}\n" for line in listed)
+    shown = lines_in(call(room, program, "edit", asked.encode()).stdout)
+    compare("one command each", shown, [answer for line in listed for answer in (line, "ok")])
 
 
 def completions_are_whole(room, program):
@@ -183,6 +198,11 @@ def completions_are_whole(room, program):
         else:
             wanted = options_in(call(room, program, f"{words.split()[0]} --help").stdout.decode())
         compare(f"completions of xw {words}", set(offered), wanted)
+
+
+def forms_in_headings():
+    """The commands with their arguments, in the headings of docs/commands.md."""
+    return [form for heading in re.findall("^### ([a-z].*)$", text_of("docs/commands.md"), re.M) for form in heading.split(", ")]
 
 
 def options_in(text):
@@ -242,6 +262,7 @@ CASES = {
     "version of docs/front-ends.md": [version_stands],
     "options of docs/commands.md": [has_options],
     "manual page": [page_is_whole],
+    "help on commands": [forms_are_listed],
     "completions for bash": [completions_are_whole],
     "calls of docs/commands.md, accepted": [calls_accepted],
     "calls of docs/commands.md, with what they print": [puzzle_made, calls_print],

@@ -1,5 +1,5 @@
 """Runs on large inputs: no call runs out of memory while there is memory."""
-from steps import holds, run, write
+from steps import REFUSED, holds, run, write
 
 
 def times(count):
@@ -56,17 +56,26 @@ TOLD = b"size 255 255\n" + b"".join(
     b"block %d %d\ntitle T%d\nclue 1 across C%d\n" % (row, column, index, index) for index, (row, column) in enumerate(SPOTS)
 )
 
+# The same with a letter in each block, which is refused.
+WRONG = b"size 255 255\n" + b"".join(
+    b"block %d %d\ntitle T%d\nclue 1 across C%d\nset %d %d A\n" % (row, column, index, index, row, column)
+    for index, (row, column) in enumerate(SPOTS)
+)
+
+
+def resumed(lines, **wanted):
+    """Resumes a session, and checks its blocks and its last texts."""
+    last = len(SPOTS) - 1
+    rows = [b" ".join(b"#" if (row, column) in SPOTS else b"-" for column in range(1, 256)) + b"\n" for row in range(1, 256)]
+    output = b"title T%d\nclue 1 across C%d\nok\n" % (last, last) + b"".join(rows) + b"ok\n"
+    return [write("told.xw", lines), run("edit --resume told.xw", b"texts\nshow\n", output=output, **wanted)]
+
+
 CASES = {
-    "blocks_between_clues_resumed": [
-        write("told.xw", TOLD),
-        run(
-            "edit --resume told.xw",
-            b"texts\nshow\n",
-            output=b"title T%d\nclue 1 across C%d\nok\n" % (len(SPOTS) - 1, len(SPOTS) - 1)
-            + b"".join(b" ".join(b"#" if (row, column) in SPOTS else b"-" for column in range(1, 256)) + b"\n" for row in range(1, 256))
-            + b"ok\n",
-        ),
-    ],
+    "blocks_between_clues_resumed": resumed(TOLD),
+    "blocks_between_refused_lines_resumed": resumed(
+        WRONG, errors=b"".join(b"xw: told.xw: line %d: OnBlock\n" % (4 * index + 5) for index in range(len(SPOTS))), status=REFUSED
+    ),
     # Two lights that no other light crosses: all words of one leave the same to the other.
     "many_choices_uncrossed": [
         write("words", words(17576)),

@@ -14,9 +14,19 @@ def lines(text):
     return text.encode().strip().split(b"\n")
 
 
+def commands_of_the_manual():
+    """The commands that the manual describes, each with its arguments."""
+    headings = re.findall(r"^### ([a-z].*)$", MANUAL.read_text(), re.M)
+    return [command for heading in headings for command in heading.split(", ")]
+
+
+# The commands of the manual that take no arguments, all of them queries.
+ALONE = [command.encode() for command in commands_of_the_manual() if " " not in command]
+
+
 LONG = "It is told at length; " * 90
 
-# Each command of the manual: accepted, refused for each reason, and taking away what it set. A line with '!' takes no memory.
+# Each command of the manual with arguments: accepted, refused for each reason, and taking away what it set. A line with '!' takes no memory.
 COMMANDS = """size 5 5
 sym half
 watch on
@@ -117,6 +127,9 @@ sym quarter
 block 3 3
 size 4 4
 size 256 1
+!help
+!help set
+!help frob
 nonsense
 
 # a note
@@ -145,7 +158,7 @@ MANY = "".join(f"{chr(65 + n // 676)}{chr(65 + n // 26 % 26)}{chr(65 + n % 26)}\
 
 # Each line of these sessions is refused memory.
 SESSIONS = {
-    "commands": ("edit", lines(COMMANDS)),
+    "commands": ("edit", lines(COMMANDS) + ALONE),
     "fills": ("edit", lines("\n".join(FILLS))),
     "many_words": ("edit", lines("\n".join(CHUNK))),
     "repeats": ("edit", lines("\n".join(REPEATS))),
@@ -173,6 +186,25 @@ text clue 1 1 down Told
 watch on
 """
 
+# Edits that are executed at once, with a line of each kind between them, and some that are refused.
+EDITS = b"size 5 5\n" + b"".join(b"block %d 3\nset %d 3 A\n" % (row, row) for row in range(1, 5)) + b"""title Mine
+set 1 1 A
+place 1 across ON
+clue 1 across Told
+clue 99 down Told
+circle 1 1
+text clue 1 2 down Told
+more title , and more
+lights
+watch on
+set 5 1 A
+set 5 2 B
+clear 5 2
+bar 1 1 right
+bar 9 9 right
+sym half
+"""
+
 OLD = b"old\n"
 REFUSED_LINE = b"add CAT\nadd CAT\ntitle Mine\n"
 FILES = {
@@ -190,6 +222,7 @@ FILES = {
     "mine.xw": BEGUN,
     "refused.xw": REFUSED_LINE,
     "broken.xw": b"add CAT\nfrob\ntitle Mine\n",
+    "edits.xw": EDITS,
 }
 
 NEW_PUZ, NEW_TEXT, NEW_XW = {"new.puz": OLD}, {"new.txt": None}, {"new.xw": OLD}
@@ -207,6 +240,7 @@ CALLS = {
     "saving_and_not_writing": ("edit --explain --save new.xw --to new.puz", [b"size 2 2", b"bar 1 1 right"], {**NEW_XW, **NEW_PUZ}),
     "resuming": ("edit --dict few --resume mine.xw", STATE, {}),
     "resuming_a_refused_line": ("edit --resume refused.xw", [b"record"], {}),
+    "resuming_many_edits": ("edit --resume edits.xw", [b"record"], {}),
     "resuming_a_line_that_is_no_command": ("edit --resume broken.xw --save new.xw", [b"record"], NEW_XW),
     "puz_to_puz": ("convert noted new.puz", [], NEW_PUZ),
     "puz_to_text": ("convert noted new.txt", [], NEW_TEXT),
@@ -316,8 +350,7 @@ JOURNALED = {
 def has_each_of_the_manual(room, program):
     """Each command and each option of the manual is in a session or in a call above."""
     manual = MANUAL.read_text()
-    headings = re.findall(r"^### ([a-z].*)$", manual, re.M)
-    commands = {part.split()[0] for heading in headings for part in heading.split(", ")}
+    commands = {command.split()[0] for command in commands_of_the_manual()}
     options = set(re.findall(r"--[a-z]+", manual.split("\n\n")[1])) | {"--help"}
     typed = {line.split()[0].decode().removeprefix("!") for _, typed in SESSIONS.values() for line in typed if line.split()}
     called = {word for words, *_ in [*CALLS.values(), *JOURNALED.values()] for word in words.split()}

@@ -56,7 +56,7 @@ def word_list_resumed(words, typed=b"", sentence=b""):
     return run(f"edit {words}", typed, errors=b"xw: words.txt: line 1: Command\n" + sentence, status=FORMAT)
 
 
-# Many lines that edit only the grid, which are executed at once. The line between them and the last one are refused.
+# Many lines that are executed at once. Two of them are refused: one between the others, and the last one.
 EDITS = (
     b"size 6 6\nsym half\nblock 1 1\nblock 2 2\nbar 1 2 right\nbar 3 3 below\nset 1 3 A\nset 1 4 b\nset 2 4 C\nclear 1 4\nblock 2 2\n"
     b"bar 1 2 right\nsym quarter\nblock 3 1\nbar 2 3 right\nset 4 4 D\nsym none\nblock 6 2\nclear 4 4\n"
@@ -65,6 +65,7 @@ EDITS = (
     + b"".join(b"set 2 %d F\nclear 2 %d\n" % (column, column) for column in range(2, 7))
     + b"set 2 5 G\nsym none\nblock 6 6\nbar 4 4 right\ntitle Mine\nclue 1 across Told\ncircle 1 2\nset 9 9 A\n"
 )
+REFUSED_EDITS = b"xw: mine.xw: line 20: Occupied\nxw: mine.xw: line 42: OutOfGrid\n"
 
 
 def mixed():
@@ -109,9 +110,7 @@ CASES = {
         b"xw: mine.xw: line 7: OutOfGrid\nxw: mine.xw: line 8: NulByte\n",
         status=REFUSED,
     ),
-    "lines_resumed, many edits of the grid": replayed_as_typed(
-        EDITS, b"xw: mine.xw: line 20: Occupied\nxw: mine.xw: line 42: OutOfGrid\n"
-    ),
+    "lines_resumed, many edits of the grid": replayed_as_typed(EDITS, REFUSED_EDITS),
     "lines_resumed, edits of the grid between other lines": replayed_as_typed(
         b"".join(line + b"\n" for line, _ in MIXED),
         b"".join(b"xw: mine.xw: line %d: %s\n" % (number, name) for number, (_, name) in enumerate(MIXED, 1) if name),
@@ -149,6 +148,16 @@ CASES = {
     "no_command_resumed, Escape, of a cell that is not there": stopped_at(4, "Escape", b"text clue 9 9 down \\x"),
     "no_command_resumed, after blank lines and notes": stopped_at(7, "Command", b"\n# frob\ntitle \\x\nfrob"),
     "no_command_resumed, after a refused line": stopped_at(5, "Command", b"block 9 9\nfrob", told=b"xw: mine.xw: line 4: OutOfGrid\n"),
+    "no_command_resumed, after many edits": [
+        write("mine.xw", EDITS + b"frob\nset 9 9 A\n"),
+        run(
+            "edit --resume mine.xw --save mine.xw",
+            b"show\n",
+            errors=REFUSED_EDITS + b"xw: mine.xw: line 43: Command\n",
+            status=FORMAT,
+        ),
+        holds("mine.xw", EDITS + b"frob\nset 9 9 A\n"),
+    ],
     # A word list that is resumed by mistake stays.
     "word_list_resumed": [
         write("words.txt", b"CAT\nCOT\n"),

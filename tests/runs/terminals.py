@@ -1,7 +1,8 @@
-"""Messages on a terminal: a long word list is loading, and failures are explained as with `--explain`."""
+"""Messages on a terminal: a long word list is loading, failures are explained as with `--explain`, and who types commands is greeted."""
 import os
 import pty
 import subprocess
+import termios
 
 from samples import PLAIN
 from steps import FAILED, FORMAT, SECONDS, absent, compare, holds, run, write
@@ -38,6 +39,60 @@ def tells(words, messages, status=0):
         os.close(other)
         compare(f"messages of xw {words}", read_all(terminal), told(messages))
         compare(f"output and status of xw {words}", (ended.stdout, ended.returncode), (b"", status))
+
+    return step
+
+
+GREETING = b"xw: type one command per line; help lists them, and Ctrl D ends the session\n"
+END = b"\x04"
+
+
+def silent_terminal():
+    """A terminal that does not echo what is typed, so all that it shows was written by the program."""
+    terminal, other = pty.openpty()
+    modes = termios.tcgetattr(other)
+    modes[3] &= ~termios.ECHO
+    termios.tcsetattr(other, termios.TCSANOW, modes)
+    return terminal, other
+
+
+def read_up_to(stream, end):
+    found = b""
+    while not found.endswith(end):
+        more = os.read(stream, 1)
+        assert more, f"the program ended after {found}"
+        found += more
+    return found
+
+
+def greets(words, first=b""):
+    """Types a command, and Ctrl D after its answer. `first` is told before the greeting."""
+
+    def step(room, program):
+        terminal, other = silent_terminal()
+        streams = {"stdin": other, "stdout": subprocess.PIPE, "stderr": other}
+        with subprocess.Popen(["xw", *words.split()], executable=program, cwd=room, env={}, **streams) as started:
+            os.close(other)
+            compare(f"greeting of xw {words}", read_up_to(terminal, told(GREETING)), told(first + GREETING))
+            os.write(terminal, b"set 1 1 A\n")
+            compare(f"answer of xw {words}", read_up_to(started.stdout.fileno(), b"\n"), b"ok\n")
+            os.write(terminal, END)
+            compare(f"status of xw {words}", started.wait(timeout=SECONDS), 0)
+        compare(f"other messages of xw {words}", read_all(terminal), b"")
+
+    return step
+
+
+def greets_nobody(words):
+    """Types no command on a terminal, where the messages go elsewhere."""
+
+    def step(room, program):
+        terminal, other = silent_terminal()
+        os.write(terminal, END)
+        ended = subprocess.run(["xw", *words.split()], executable=program, cwd=room, env={}, timeout=SECONDS, stdin=other, stdout=subprocess.PIPE, stderr=subprocess.PIPE)
+        os.close(other)
+        os.close(terminal)
+        compare(f"xw {words}", (ended.stdout, ended.stderr, ended.returncode), (b"", b"", 0))
 
     return step
 
@@ -80,4 +135,12 @@ CASES = {
         write("bad.puz", PLAIN[:60]),
         tells("edit --dict long.txt --from bad.puz", b"xw: long.txt: loading\n" + COUNTED + NOTED + b"xw: bad.puz: NoNul\nxw: title\nxw: the file is cut off\n", FORMAT),
     ],
+    "a greeting": [greets("edit")],
+    "a greeting with a journal": [greets("edit --journal mine.xw")],
+    "a greeting after the reports of the files": [
+        write("list", b"cat\n"),
+        greets("edit --dict list --save mine.xw", b"xw: list: 1 added, 0 skipped\nxw: 0 of 1 lines have a grade\n"),
+    ],
+    "no greeting, since the messages go elsewhere": [greets_nobody("edit")],
+    "no greeting, since the lines come from elsewhere": [tells("edit", b"")],
 }

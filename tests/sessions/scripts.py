@@ -22,6 +22,70 @@ no Unknown
 no Length
 > add C4T
 no BadLetter
+@ commands_listed
+> help
+match PATTERN
+circles
+show
+lights
+words N DIR [K]
+choices N DIR K [FIRST]
+letters R C
+tally R C
+dups
+unlisted
+grades [N DIR]..
+unmatched
+suggest
+why N DIR
+help [COMMAND]
+cells
+counts
+texts
+stats
+longest
+record
+size W H
+sym KIND
+add WORD [G]
+strike WORD
+least G
+set R C L
+clear R C
+place N DIR WORD
+erase N DIR
+block R C
+bar R C SIDE
+clue N DIR TEXT
+title TEXT
+author TEXT
+copyright TEXT
+notes TEXT
+circle R C
+watch on, watch off
+text FIELD ESC
+more FIELD ESC
+fill K
+autofill K [SEED [N DIR]..]
+best K [SEED [N DIR]..]
+ok
+> help set
+set R C L
+ok
+> help watch
+watch on, watch off
+ok
+>  help   fill 
+fill K
+ok
+> help Set
+no Command
+> help frob
+no Command
+> help set clear
+no Arguments
+> help frob frob
+no Arguments
 @ words_struck_and_back
 > add cat
 ok

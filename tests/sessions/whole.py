@@ -126,6 +126,30 @@ no Arguments
 no Arguments
 > texts
 ok
+@ longest_of_several: The first in the order of `lights` counts. A grid of one cell has no light.
+> size 1 1
+ok
+> longest
+ok
+> size 3 3
+ok
+> longest
+1 across 3
+ok
+> block 1 1
+ok
+> longest
+1 down 3
+ok
+> bar 1 2 below
+ok
+> bar 1 3 below
+ok
+> longest
+2 across 3
+ok
+> longest 1
+no Arguments
 @ counts_over_grids: Three lights of 2, 2 and 3 cells have a mean of 2.333.., four of 3 and one of 2 have 2.80.
 > size 1 1
 ok

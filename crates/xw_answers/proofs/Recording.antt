@@ -10,14 +10,14 @@ use Rattle.std.proofs.lemmas.Grind.{flat_map-append}
 use Rattle.xw_words.specs.Dictionary.{Dictionary, Entry, row}
 use Rattle.xw_lines.specs.Device.{Begins, HasFailed}
 use Rattle.xw_lines.specs.Sends.{Sends}
-use Rattle.xw_commands.specs.declared.command.Command.{Command}
-use Rattle.xw_commands.specs.declared.command.Command.TheVariants.{Add, Strike, Put}
+use Rattle.xw_commands.specs.declared.change.Change.{Change}
+use Rattle.xw_commands.specs.declared.change.Change.TheVariants.{Add, Strike, Put}
 use Rattle.xw_commands.specs.declared.command.Field.{Field}
 use Rattle.xw_commands.specs.declared.command.Field.TheVariants as fields
 use Rattle.xw_commands.specs.declared.command.TextMode.{TextMode}
 use Rattle.xw_commands.specs.declared.command.CellArg.{CellArg}
-use Rattle.xw_commands.specs.declared.command.Name.TheVariants as names
-use Rattle.xw_commands.specs.Name.{word_of}
+use Rattle.xw_commands.specs.declared.change.ChangeName.TheVariants as names
+use Rattle.xw_commands.specs.Change.{change_word}
 use Rattle.xw_answers.specs.Escape.{escaped_text}
 use Rattle.xw_answers.specs.Text.{line_of}
 use Rattle.xw_answers.specs.Spelling.{command_line, in_field}
@@ -28,16 +28,16 @@ pub each_of_each : {X Y Z : Type 0} (f : Y → List Z) (g : X → List Y) (xs : 
 each_of_each f g [] = refl
 each_of_each f g (x ∷ xs) = ap (λ zs. flat_map f (g x) ++ zs) (each_of_each f g xs) ∙ sym (flat_map-append f (g x) (flat_map g xs))
 
-pub lines_of_each : {X : Type 0} (commands : X → List Command) (xs : List X) → flat_map (λ x. command_lines (commands x)) xs ≡ command_lines (flat_map commands xs)
+pub lines_of_each : {X : Type 0} (commands : X → List Change) (xs : List X) → flat_map (λ x. command_lines (commands x)) xs ≡ command_lines (flat_map commands xs)
 lines_of_each commands xs = each_of_each command_line commands xs
 
-pub line_of_each : {X : Type 0} (command : X → Command) (xs : List X) → flat_map (λ x. command_line (command x)) xs ≡ command_lines (map command xs)
+pub line_of_each : {X : Type 0} (command : X → Change) (xs : List X) → flat_map (λ x. command_line (command x)) xs ≡ command_lines (map command xs)
 line_of_each command xs = sym (flat_map-map command_line command xs)
 
-pub one_line : (command : Command) → command_line command ≡ command_lines (command ∷ [])
+pub one_line : (command : Change) → command_line command ≡ command_lines (command ∷ [])
 one_line command = sym (append-nil (command_line command))
 
-pub lines_of_both : (front rest : List Command) → command_lines front ++ command_lines rest ≡ command_lines (front ++ rest)
+pub lines_of_both : (front rest : List Change) → command_lines front ++ command_lines rest ≡ command_lines (front ++ rest)
 lines_of_both front rest = sym (flat_map-append command_line front rest)
 
 -- a word that is struck and comes back with its grade
@@ -50,7 +50,7 @@ regrade_lines entry word grade same_word same_grade is =
     ∙ ap (λ b. command_lines (if b then Strike entry.word ∷ Add entry.word (Some entry.grade) ∷ [] else [])) (sym is)
 
 -- the line of a piece of a text: its first word, and the rest
-pub put_line_parts : (putting : TextMode) (field : Field) (text : List ℕ) → command_line (Put putting field (escaped_text text)) ≡ (word_of (names.Put putting) ++ codes " ") ++ line_of (in_field field (escaped_text text ∷ []))
+pub put_line_parts : (putting : TextMode) (field : Field) (text : List ℕ) → command_line (Put putting field (escaped_text text)) ≡ (change_word (names.Put putting) ++ codes " ") ++ line_of (in_field field (escaped_text text ∷ []))
 put_line_parts putting (fields.Text name) text = refl
 put_line_parts putting (fields.Clue spot direction) text = refl
 

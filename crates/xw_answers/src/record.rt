@@ -4,9 +4,9 @@ ghost use Rattle.std.specs.List.{range_with_len};
 ghost use Rattle.xw_words.specs.Dictionary.{row as words_of, entry_at};
 ghost use Rattle.xw_grid.specs.Clue.{clue_at};
 ghost use Rattle.xw_grid.specs.Grid.{entry as entry_of};
-ghost use Rattle.xw_commands.specs.declared.command.Command.TheVariants as commands;
-ghost use Rattle.xw_commands.specs.declared.command.Name.TheVariants as names;
-ghost use Rattle.xw_commands.specs.Name.{word_of};
+ghost use Rattle.xw_commands.specs.declared.change.Change.TheVariants as changes;
+ghost use Rattle.xw_commands.specs.declared.change.ChangeName.TheVariants as names;
+ghost use Rattle.xw_commands.specs.Change.{change_word};
 ghost use Rattle.xw_lines.specs.Sends.{Sends};
 ghost use Rattle.xw_answers.specs.Escape.{escaped_text};
 ghost use Rattle.xw_commands.specs.Names.{direction_name, clue_name};
@@ -15,9 +15,8 @@ ghost use Rattle.xw_answers.specs.Text.{line_of};
 ghost use Rattle.xw_answers.specs.Record.{command_lines, known_counts, named_grade as named_grade_of, add_command, regrade_commands, strike_commands, row_commands, length_commands, least_commands, word_commands, piece_at, further_pieces, more_command, text_commands, spot_of, circle_commands, bar_commands, block_commands, letter_commands, clue_commands, cell_commands, part_commands};
 
 use crate::answer_line::{Token, write_line};
-use xw_commands::command::{
-    BEST_GRADE, CellArg, Field, Name, TextField, TextMode, WithCell, WithWord,
-};
+use xw_commands::change::ChangeName;
+use xw_commands::command::{BEST_GRADE, CellArg, Field, TextField, TextMode};
 use xw_commands::names::{CLUE, Named};
 use xw_grid::{Cell, Circles, Clues, Direction, Grid, Side, Symmetry};
 use xw_letters::Letter;
@@ -56,19 +55,19 @@ pub fn known_words(bank: &Bank) -> [usize; LENGTHS]
 /// Writes a command that takes a word.
 fn write_word_command<W: Sink>(
     sink: &mut W,
-    name: WithWord,
+    name: ChangeName,
     word: &[Letter],
 ) -> Result<(), WriteFailed>
-    ensures { Sends W.transcript W.failures sink.old sink.new result (line_of (word_of (names.Word name) ∷ word.now ∷ [])) }
+    ensures { Sends W.transcript W.failures sink.old sink.new result (line_of (change_word name ∷ word.now ∷ [])) }
 {
     write_line(sink, &[Token::Name(name.name()), Token::Letters(word)])
 }
 
 /// Writes an `add` command, with a grade if there is one.
 fn write_add<W: Sink>(sink: &mut W, word: &[Letter], grade: Option<u8>) -> Result<(), WriteFailed>
-    ensures { Sends W.transcript W.failures sink.old sink.new result (command_line (commands.Add word.now grade)) }
+    ensures { Sends W.transcript W.failures sink.old sink.new result (command_line (changes.Add word.now grade)) }
 {
-    let name = Token::Name(WithWord::Add.name());
+    let name = Token::Name(ChangeName::Add.name());
     match grade {
         Some(grade) => write_line(
             sink,
@@ -120,7 +119,7 @@ fn write_regraded_at<W: Sink>(
         return Ok(());
     }
     let word = bank.word(count, index);
-    write_word_command(sink, WithWord::Strike, word)?;
+    write_word_command(sink, ChangeName::Strike, word)?;
     write_add(sink, word, Some(bank.grade(count, index)))
 }
 
@@ -147,7 +146,7 @@ fn write_struck_at<W: Sink>(
     if !bank.is_struck(count, index) {
         return Ok(());
     }
-    write_word_command(sink, WithWord::Strike, bank.word(count, index))
+    write_word_command(sink, ChangeName::Strike, bank.word(count, index))
 }
 
 /// Writes a `strike` command for each struck word of a length.
@@ -204,7 +203,7 @@ fn write_least<W: Sink>(sink: &mut W, least: u8) -> Result<(), WriteFailed>
     write_line(
         sink,
         &[
-            Token::Name(Name::Least.name()),
+            Token::Name(ChangeName::Least.name()),
             Token::Number(u64::from(least)),
         ],
     )
@@ -241,7 +240,7 @@ fn write_put<W: Sink>(
     field: Field,
     text: &[u8],
 ) -> Result<(), WriteFailed>
-    ensures { Sends W.transcript W.failures sink.old sink.new result (command_line (commands.Put putting field (escaped_text text.now))) }
+    ensures { Sends W.transcript W.failures sink.old sink.new result (command_line (changes.Put putting field (escaped_text text.now))) }
 {
     match field {
         Field::Text(field) => write_line(
@@ -289,12 +288,12 @@ pub fn write_text<W: Sink>(sink: &mut W, field: Field, text: &[u8]) -> Result<()
 
 /// Writes the `size` command.
 pub fn write_size<W: Sink>(sink: &mut W, grid: &Grid) -> Result<(), WriteFailed>
-    ensures { Sends W.transcript W.failures sink.old sink.new result (command_lines (commands.Size grid.now.width grid.now.height ∷ [])) }
+    ensures { Sends W.transcript W.failures sink.old sink.new result (command_lines (changes.Size grid.now.width grid.now.height ∷ [])) }
 {
     write_line(
         sink,
         &[
-            Token::Name(Name::Size.name()),
+            Token::Name(ChangeName::Size.name()),
             Token::Number(u64::from(grid.width())),
             Token::Number(u64::from(grid.height())),
         ],
@@ -302,26 +301,36 @@ pub fn write_size<W: Sink>(sink: &mut W, grid: &Grid) -> Result<(), WriteFailed>
 }
 
 pub fn write_symmetry<W: Sink>(sink: &mut W, kind: Symmetry) -> Result<(), WriteFailed>
-    ensures { Sends W.transcript W.failures sink.old sink.new result (command_lines (commands.Symmetry kind ∷ [])) }
+    ensures { Sends W.transcript W.failures sink.old sink.new result (command_lines (changes.Symmetry kind ∷ [])) }
 {
     write_line(
         sink,
-        &[Token::Name(Name::Symmetry.name()), Token::Name(kind.name())],
+        &[
+            Token::Name(ChangeName::Symmetry.name()),
+            Token::Name(kind.name()),
+        ],
     )
 }
 
 pub fn write_watch<W: Sink>(sink: &mut W, is_on: bool) -> Result<(), WriteFailed>
-    ensures { Sends W.transcript W.failures sink.old sink.new result (command_lines (commands.Watch is_on ∷ [])) }
+    ensures { Sends W.transcript W.failures sink.old sink.new result (command_lines (changes.Watch is_on ∷ [])) }
 {
     write_line(
         sink,
-        &[Token::Name(Name::Watch.name()), Token::Name(is_on.name())],
+        &[
+            Token::Name(ChangeName::Watch.name()),
+            Token::Name(is_on.name()),
+        ],
     )
 }
 
 /// Writes a command that takes a cell.
-fn write_cell_command<W: Sink>(sink: &mut W, name: WithCell, cell: Cell) -> Result<(), WriteFailed>
-    ensures { Sends W.transcript W.failures sink.old sink.new result (line_of (word_of (names.Cell name) ∷ at_spot (spot_of cell) [])) }
+fn write_cell_command<W: Sink>(
+    sink: &mut W,
+    name: ChangeName,
+    cell: Cell,
+) -> Result<(), WriteFailed>
+    ensures { Sends W.transcript W.failures sink.old sink.new result (line_of (change_word name ∷ at_spot (spot_of cell) [])) }
 {
     write_line(
         sink,
@@ -336,11 +345,11 @@ fn write_cell_command<W: Sink>(sink: &mut W, name: WithCell, cell: Cell) -> Resu
 /// Writes a command that takes a cell and one more word.
 fn write_cell_and_word<W: Sink>(
     sink: &mut W,
-    name: WithCell,
+    name: ChangeName,
     cell: Cell,
     word: &[u8],
 ) -> Result<(), WriteFailed>
-    ensures { Sends W.transcript W.failures sink.old sink.new result (line_of (word_of (names.Cell name) ∷ at_spot (spot_of cell) (word.now ∷ []))) }
+    ensures { Sends W.transcript W.failures sink.old sink.new result (line_of (change_word name ∷ at_spot (spot_of cell) (word.now ∷ []))) }
 {
     write_line(
         sink,
@@ -359,7 +368,7 @@ fn write_circle<W: Sink>(sink: &mut W, circles: &Circles, cell: Cell) -> Result<
     if !circles.has(cell) {
         return Ok(());
     }
-    write_cell_command(sink, WithCell::Circle, cell)
+    write_cell_command(sink, ChangeName::Circle, cell)
 }
 
 fn write_bar<W: Sink>(sink: &mut W, grid: &Grid, side: Side, cell: Cell) -> Result<(), WriteFailed>
@@ -368,7 +377,7 @@ fn write_bar<W: Sink>(sink: &mut W, grid: &Grid, side: Side, cell: Cell) -> Resu
     if !grid.is_barred(cell, side) {
         return Ok(());
     }
-    write_cell_and_word(sink, WithCell::Bar, cell, side.name().as_bytes())
+    write_cell_and_word(sink, ChangeName::Bar, cell, side.name().as_bytes())
 }
 
 fn write_block<W: Sink>(sink: &mut W, grid: &Grid, cell: Cell) -> Result<(), WriteFailed>
@@ -377,7 +386,7 @@ fn write_block<W: Sink>(sink: &mut W, grid: &Grid, cell: Cell) -> Result<(), Wri
     if !grid.is_block(cell) {
         return Ok(());
     }
-    write_cell_command(sink, WithCell::Block, cell)
+    write_cell_command(sink, ChangeName::Block, cell)
 }
 
 /// Writes the command that enters the letter of a cell, if it has one.
@@ -385,7 +394,7 @@ pub fn write_letter<W: Sink>(sink: &mut W, grid: &Grid, cell: Cell) -> Result<()
     ensures { Sends W.transcript W.failures sink.old sink.new result (command_lines (letter_commands cell (entry_of grid.now cell))) }
 {
     match grid.entry(cell) {
-        Some(letter) => write_cell_and_word(sink, WithCell::Set, cell, &[letter.byte()]),
+        Some(letter) => write_cell_and_word(sink, ChangeName::Set, cell, &[letter.byte()]),
         None => Ok(()),
     }
 }

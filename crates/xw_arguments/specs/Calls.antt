@@ -55,12 +55,6 @@ is_explained (Edit files explain) = explain
 is_explained (Convert from_file to_file explain) = explain
 is_explained (Check files explain) = explain
 
--- the call with faults explained, if they are already or if this is due
-abbrev pub explained_if : Bool → Call → Call
-explained_if due (Edit files explain) = Edit files (explain || due)
-explained_if due (Convert from_file to_file explain) = Convert from_file to_file (explain || due)
-explained_if due (Check files explain) = Check files (explain || due)
-
 -- the subcommand of a call
 abbrev pub subcommand : Call → Text
 subcommand (Edit files explain) = codes "edit"

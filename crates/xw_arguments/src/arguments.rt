@@ -4,7 +4,7 @@ ghost use Rattle.std.specs.Prelude.{◌≡◌, ◌==◌, length, ◌⊎◌, All,
 ghost use Rattle.clap.specs.Values.{kind_of};
 ghost use Rattle.clap.specs.Words.{all_of, app_of, first_of, found_of, rows_of, rule_of, subcommand_rows_of};
 ghost use Rattle.clap.specs.declared.builder.command.Command.TheViews.{out-Command as fields_of};
-ghost use Rattle.xw_arguments.specs.Calls.{AreFiles, explained_if, IsCall, IsCallOf, is_explained, has_nameless, is_empty, is_nameless, is_set, clash_in, clash_of, misnaming_in, misnaming_text, reads_input_twice};
+ghost use Rattle.xw_arguments.specs.Calls.{AreFiles, IsCall, IsCallOf, is_explained, has_nameless, is_empty, is_nameless, is_set, clash_in, clash_of, misnaming_in, misnaming_text, reads_input_twice};
 ghost use Rattle.xw_arguments.specs.Usage.{IsMisnamed, IsTold, IsNoCall, IsUsageOf};
 ghost use Rattle.xw_arguments.specs.Shapes as shapes;
 ghost use Rattle.xw_arguments.specs.Shapes.{HasNoGlobals, IsLocal};
@@ -14,9 +14,7 @@ use clap::error::ErrorKind;
 use clap::{Arg, ArgAction, ArgMatches, Command, Error};
 use std::alloc::{AllocError, Global};
 use std::convert::AsStr;
-
-/// The version of the program and of its protocol (`docs/front-ends.md`), as `--version` prints them.
-const VERSION: &str = "0.2.0 (protocol 1)";
+use xw_commands::version::VERSION;
 
 /// The example that the help of the program and of `edit` prints.
 const EXAMPLE: &str = "Example:
@@ -159,31 +157,6 @@ impl<'a> Call<'a> {
             Call::Edit { explain, .. } => *explain,
             Call::Convert { explain, .. } => *explain,
             Call::Check { explain, .. } => *explain,
-        }
-    }
-
-    /// Returns the call with faults explained, if they are already or if `is_due` is set.
-    pub fn explained_if(self, is_due: bool) -> Call<'a>
-        ensures { result ≡ explained_if is_due self.entry }
-    {
-        match self {
-            Call::Edit { files, explain } => Call::Edit {
-                files,
-                explain: explain || is_due,
-            },
-            Call::Convert {
-                from_file,
-                to_file,
-                explain,
-            } => Call::Convert {
-                from_file,
-                to_file,
-                explain: explain || is_due,
-            },
-            Call::Check { files, explain } => Call::Check {
-                files,
-                explain: explain || is_due,
-            },
         }
     }
 
@@ -391,7 +364,7 @@ fn program<'a>(alloc: Global) -> Command<'a>
 {
     Command::new(alloc, "xw")
         .about("A crossword construction engine")
-        .version(VERSION)
+        .version(VERSION.strip_prefix("xw ").unwrap_or(VERSION))
         .after_help(EXAMPLE)
         .subcommand_required(true)
 }

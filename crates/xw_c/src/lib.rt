@@ -1,23 +1,24 @@
-//! The engine for programs in other languages. `include/xw.h` is what they see.
+//! Sessions for programs in other languages. `include/xw.h` is what they see.
 #![tactic(auto)]
 
 mod box_at;
 mod handle;
 mod held;
+mod open_session;
+mod status;
 
 ghost use Rattle.std.specs.Prelude.{◌≡◌, None, length};
 ghost use Rattle.xw_files.specs.declared.kind.Kind.TheVariants.{Puz, Text};
-ghost use Rattle.xw_engine.specs.Engine.{IsFileMade, IsLineDone, IsRecordMade, IsResumed};
-ghost use Rattle.xw_engine.specs.Status.{code_of};
-ghost use Rattle.xw_engine.specs.declared.status.Status.TheVariants.{Closed};
-ghost use Rattle.xw_c.specs.Calls.{Opens, Calls, answer_of, copied, version_text};
+ghost use Rattle.xw_c.specs.OpenSession.{IsFileMade, IsLineDone, IsRecordMade, IsResumed};
+ghost use Rattle.xw_c.specs.Status.{code_of};
+ghost use Rattle.xw_c.specs.declared.status.Status.TheVariants.{Closed};
+ghost use Rattle.xw_c.specs.Calls.{Opens, Calls, answer_of, copied};
+ghost use Rattle.xw_commands.specs.declared.version.TheConstants.{VERSION};
 
 use crate::handle::Handle;
+use crate::status::Status;
 use std::alloc::Global;
-use xw_engine::{Engine, Status};
-
-/// What `xw --version` prints, without the line feed.
-const VERSION: &str = "xw 0.2.0 (protocol 1)";
+use xw_commands::version::VERSION;
 
 /// The code of a call without an open session.
 fn closed() -> u32
@@ -30,7 +31,7 @@ fn closed() -> u32
 /// on an empty grid. Each call returns the code of a status; `include/xw.h` lists those of each.
 #[unsafe(no_mangle)]
 pub extern "C" fn xw_open(alloc: Global, handle: &mut Handle, list: &[u8], puzzle: &[u8]) -> u32
-    ensures { Opens list.now puzzle.now handle.old.held.engine result handle.new.held.engine }
+    ensures { Opens list.now puzzle.now handle.old.held.session result handle.new.held.session }
 {
     if handle.is_open() {
         return Status::Open.code();
@@ -47,65 +48,65 @@ pub extern "C" fn xw_open(alloc: Global, handle: &mut Handle, list: &[u8], puzzl
 /// Replays the lines of a record, up to the first that is not a command.
 #[unsafe(no_mangle)]
 pub extern "C" fn xw_resume(alloc: Global, handle: &mut Handle, record: &[u8]) -> u32
-    ensures { Calls (IsResumed record.now) handle.old.held.engine result handle.new.held.engine }
+    ensures { Calls (IsResumed record.now) handle.old.held.session result handle.new.held.session }
 {
-    let Some(mut engine) = handle.take(alloc) else {
+    let Some(mut session) = handle.take(alloc) else {
         return closed();
     };
-    let status = engine.resume(record);
-    *handle = Handle::of(engine);
+    let status = session.resume(record);
+    *handle = Handle::of(session);
     status.code()
 }
 
 /// Answers a line.
 #[unsafe(no_mangle)]
 pub extern "C" fn xw_line(alloc: Global, handle: &mut Handle, line: &[u8]) -> u32
-    ensures { Calls (IsLineDone line.now) handle.old.held.engine result handle.new.held.engine }
+    ensures { Calls (IsLineDone line.now) handle.old.held.session result handle.new.held.session }
 {
-    let Some(mut engine) = handle.take(alloc) else {
+    let Some(mut session) = handle.take(alloc) else {
         return closed();
     };
-    let status = engine.line(line);
-    *handle = Handle::of(engine);
+    let status = session.line(line);
+    *handle = Handle::of(session);
     status.code()
 }
 
 /// Makes the puzzle as a `.puz` file the answer.
 #[unsafe(no_mangle)]
 pub extern "C" fn xw_puz(alloc: Global, handle: &mut Handle) -> u32
-    ensures { Calls (IsFileMade Puz) handle.old.held.engine result handle.new.held.engine }
+    ensures { Calls (IsFileMade Puz) handle.old.held.session result handle.new.held.session }
 {
-    let Some(mut engine) = handle.take(alloc) else {
+    let Some(mut session) = handle.take(alloc) else {
         return closed();
     };
-    let status = engine.puz();
-    *handle = Handle::of(engine);
+    let status = session.puz();
+    *handle = Handle::of(session);
     status.code()
 }
 
 /// Makes the puzzle as a text file the answer.
 #[unsafe(no_mangle)]
 pub extern "C" fn xw_text(alloc: Global, handle: &mut Handle) -> u32
-    ensures { Calls (IsFileMade Text) handle.old.held.engine result handle.new.held.engine }
+    ensures { Calls (IsFileMade Text) handle.old.held.session result handle.new.held.session }
 {
-    let Some(mut engine) = handle.take(alloc) else {
+    let Some(mut session) = handle.take(alloc) else {
         return closed();
     };
-    let status = engine.text();
-    *handle = Handle::of(engine);
+    let status = session.text();
+    *handle = Handle::of(session);
     status.code()
 }
 
 /// Makes the record of the session the answer.
 #[unsafe(no_mangle)]
 pub extern "C" fn xw_record(alloc: Global, handle: &mut Handle) -> u32
-    ensures { Calls IsRecordMade handle.old.held.engine result handle.new.held.engine }
+    ensures { Calls IsRecordMade handle.old.held.session result handle.new.held.session }
 {
-    let Some(mut engine) = handle.take(alloc) else {
+    let Some(mut session) = handle.take(alloc) else {
         return closed();
     };
-    let status = engine.record();
-    *handle = Handle::of(engine);
+    let status = session.record();
+    *handle = Handle::of(session);
     status.code()
 }
 
@@ -113,15 +114,15 @@ pub extern "C" fn xw_record(alloc: Global, handle: &mut Handle) -> u32
 /// session the answer is empty.
 #[unsafe(no_mangle)]
 pub extern "C" fn xw_answer(alloc: Global, handle: &mut Handle, out: &mut [u8]) -> usize
-    ensures length { result ≡ length (answer_of handle.old.held.engine) }
-    ensures copied { out.new ≡ copied (answer_of handle.old.held.engine) out.old }
-    ensures same { handle.new.held.engine ≡ handle.old.held.engine }
+    ensures length { result ≡ length (answer_of handle.old.held.session) }
+    ensures copied { out.new ≡ copied (answer_of handle.old.held.session) out.old }
+    ensures same { handle.new.held.session ≡ handle.old.held.session }
 {
-    let Some(engine) = handle.take(alloc) else {
+    let Some(session) = handle.take(alloc) else {
         return 0;
     };
-    let count = copy(engine.answer(), out);
-    *handle = Handle::of(engine);
+    let count = copy(session.answer(), out);
+    *handle = Handle::of(session);
     count
 }
 
@@ -138,8 +139,8 @@ fn copy(text: &[u8], out: &mut [u8]) -> usize
 /// Copies the version of the library and of the protocol, as much of it as there is room for, and returns its length.
 #[unsafe(no_mangle)]
 pub extern "C" fn xw_version(out: &mut [u8]) -> usize
-    ensures length { result ≡ length version_text }
-    ensures copied { out.new ≡ copied version_text out.old }
+    ensures length { result ≡ length VERSION.now }
+    ensures copied { out.new ≡ copied VERSION.now out.old }
 {
     copy(VERSION.as_bytes(), out)
 }
@@ -147,7 +148,7 @@ pub extern "C" fn xw_version(out: &mut [u8]) -> usize
 /// Closes a session, if one is open.
 #[unsafe(no_mangle)]
 pub extern "C" fn xw_close(alloc: Global, handle: &mut Handle)
-    ensures { handle.new.held.engine ≡ None }
+    ensures { handle.new.held.session ≡ None }
 {
     let _engine = handle.take(alloc);
 }

@@ -10,99 +10,69 @@ use Rattle.xw_lines.specs.declared.outcome.RunEnd.TheVariants.{Done, ReadFailed,
 use Rattle.xw_lines.specs.declared.outcome.Step.{Step}
 use Rattle.xw_session.specs.Opening.{empty_puzzle, opened_on}
 use Rattle.xw_session.specs.State.{State}
-use Rattle.xw_disk.specs.Disk.{Event}
 use Rattle.xw_arguments.specs.declared.arguments.SessionFiles.{SessionFiles}
 use Rattle.xw_puzzle_files.specs.declared.failure.Failure.{Failure}
 use Rattle.xw_puzzle_files.specs.declared.failure.Failure.TheVariants as failures
+use Rattle.xw_puzzle_files.specs.Desk.{Moment}
 use Rattle.xw_puzzle_files.specs.Files.{IfNamed, IsUnread}
-use Rattle.xw_cli.specs.Performed.{HasPuzzle, HasWords, IsFound, IsOpened, IsUnopened}
-use Rattle.xw_cli.specs.Streams.{AnswersInput, streams}
+use Rattle.xw_cli.specs.Answered.{AnswersInput}
+use Rattle.xw_cli.specs.Performed.{HasBoth, HasPuzzle, HasWords, IsOpened, IsUnopened}
 
-pub answers_input : {S D I O : Type 0} (Answers : S → List ℕ → Step → List ℕ → S → Type 0) (Stops : S → List ℕ → S → List ℕ → List ℕ → Type 0)
-    (log : D → List Event) (read : I → List ℕ) (is_at_end : I → Bool) (read_failures : I → ℕ) (told : O → List ℕ) (write_failures : O → ℕ)
-    (end : RunEnd) (start left : S) (disk disk' : D) (input input' : I) (output output' : O)
+-- the moment with this input and this output
+abbrev pub with_streams : {I O : Type 0} → (I → List ℕ) → (I → Bool) → (I → ℕ) → (O → List ℕ) → (O → ℕ) → (O → Bool) → Moment → I → O → Moment
+with_streams read is_at_end read_failures told write_failures is_closed moment input output =
+    record moment { read = read input; is_at_end = is_at_end input; read_failures = read_failures input; told = told output; write_failures = write_failures output; is_closed = is_closed output }
+
+pub answers_input : {S I O : Type 0} (Answers : S → List ℕ → Step → List ℕ → S → Type 0) (Stops : S → List ℕ → S → List ℕ → List ℕ → Type 0)
+    (read : I → List ℕ) (is_at_end : I → Bool) (read_failures : I → ℕ) (told : O → List ℕ) (write_failures : O → ℕ) (closed : O → Bool)
+    (end : RunEnd) (start left : S) (moment : Moment) (input input' : I) (output output' : O)
     → IsRun Answers Stops read is_at_end read_failures told write_failures end start left input input' output output'
-    → AnswersInput Answers Stops end start left (streams log read is_at_end read_failures told write_failures disk input output) (streams log read is_at_end read_failures told write_failures disk' input' output')
-answers_input Answers Stops log read is_at_end read_failures told write_failures (Done refused) start left disk disk' input input' output output' run =
-    record { text = run.0; read = run.1; at_end = run.2; count = run.3; refused_is = run.4; speaks = run.5 }
-answers_input Answers Stops log read is_at_end read_failures told write_failures ReadFailed start left disk disk' input input' output output' run =
-    record { text = run.0; first = record { read = run.1; count = run.3; speaks = run.4 }; failed = run.2 }
-answers_input Answers Stops log read is_at_end read_failures told write_failures WriteFailed start left disk disk' input input' output output' run =
-    record { text = run.0; read = run.1; failed = run.2; stops = run.3 }
-answers_input Answers Stops log read is_at_end read_failures told write_failures Stopped start left disk disk' input input' output output' run =
-    record { text = run.0; read = run.1; stops = run.2 }
-answers_input Answers Stops log read is_at_end read_failures told write_failures Endless start left disk disk' input input' output output' run =
-    record { text = run.0; first = record { read = run.1; count = run.3; speaks = run.4 }; long = run.2 }
-answers_input Answers Stops log read is_at_end read_failures told write_failures Memory start left disk disk' input input' output output' run =
-    record { read = ap read run.0; told = ap told run.1; state = run.2 }
+    → AnswersInput Answers Stops end start left (with_streams read is_at_end read_failures told write_failures closed moment input output) (with_streams read is_at_end read_failures told write_failures closed moment input' output')
+answers_input Answers Stops read is_at_end read_failures told write_failures closed (Done refused) start left moment input input' output output' run =
+    (record { text = run.0; read = run.1; at_end = run.2; count = run.3; refused_is = run.4; speaks = run.5 }, refl)
+answers_input Answers Stops read is_at_end read_failures told write_failures closed ReadFailed start left moment input input' output output' run =
+    (record { text = run.0; first = record { read = run.1; count = run.3; speaks = run.4 }; failed = run.2 }, refl)
+answers_input Answers Stops read is_at_end read_failures told write_failures closed WriteFailed start left moment input input' output output' run =
+    (record { text = run.0; read = run.1; failed = run.2; stops = run.3 }, refl)
+answers_input Answers Stops read is_at_end read_failures told write_failures closed Stopped start left moment input input' output output' run =
+    (record { text = run.0; read = run.1; stops = run.2 }, refl)
+answers_input Answers Stops read is_at_end read_failures told write_failures closed Endless start left moment input input' output output' run =
+    (record { text = run.0; first = record { read = run.1; count = run.3; speaks = run.4 }; long = run.2 }, refl)
+answers_input Answers Stops read is_at_end read_failures told write_failures closed Memory start left moment input input' output output' run =
+    (record { read = ap read run.0; told = ap told run.1; state = run.2 }, refl)
 
 -- ---- how a session is opened
 
-pub opened_with : {E : Type 0} (transcript : E → List ℕ) (failed : E → ℕ) (terminal explain : Bool) (result : Result State Failure) (files : SessionFiles) (words : Dictionary) (file : Bor (List ℕ)) (old mid new : List Event)
-    (errors told errors' : E) → HasWords transcript failed terminal explain files.dict words old mid errors told → files.from_file ≡ Some file
-    → IfOk result (λ state. (puzzle : PuzzleShown) × IsFound transcript failed file.now puzzle mid new told errors' × (state ≡ opened_on words puzzle))
-    → IfOk result (λ state. IsOpened transcript failed terminal explain files state old new errors errors')
-opened_with transcript failed terminal explain (Ok state) files words file old mid new errors told errors' has from (puzzle, is_found, is) =
-    record {
-      words = words;
-      mid = mid;
-      told = told;
-      has_words = has;
-      puzzle = puzzle;
-      has_puzzle = subst (λ (o : Option (Bor (List ℕ))). HasPuzzle transcript failed o puzzle mid new told errors') (sym from) is_found;
-      opened = is;
-    }
-opened_with transcript failed terminal explain (Err failure) files words file old mid new errors told errors' has from is = tt
+has_file : (files : SessionFiles) (words : Dictionary) (puzzle : PuzzleShown) (file : Bor (List ℕ)) (old mid new : Moment) → HasWords files.dict words old mid → files.from_file ≡ Some file
+    → HasPuzzle (Some file) puzzle mid new → HasBoth files words puzzle old new
+has_file files words puzzle file old mid new has from is_found =
+    record { mid = mid; has_words = has; has_puzzle = subst (λ (o : Option (Bor (List ℕ))). HasPuzzle o puzzle mid new) (sym from) is_found }
 
-pub unopened_with : {T E : Type 0} (transcript : E → List ℕ) (failed : E → ℕ) (terminal explain : Bool) (result : Result T Failure) (files : SessionFiles) (words : Dictionary) (file : Bor (List ℕ)) (old mid new : List Event)
-    (errors told errors' : E) → HasWords transcript failed terminal explain files.dict words old mid errors told → files.from_file ≡ Some file
-    → IfErr result (λ failure. (IsUnread file.now explain failure mid new × (errors' ≡ told)) ⊎ ((failure ≡ failures.Memory) × (puzzle : PuzzleShown) × IsFound transcript failed file.now puzzle mid new told errors'))
-    → IfErr result (λ failure. IsUnopened transcript failed terminal explain files failure old new errors errors')
-unopened_with transcript failed terminal explain (Ok session) files words file old mid new errors told errors' has from why = tt
-unopened_with transcript failed terminal explain (Err failure) files words file old mid new errors told errors' has from (inl (unread, untold)) =
-    inr (inl (record {
-      words = words;
-      mid = mid;
-      has_words = subst (λ e. HasWords transcript failed terminal explain files.dict words old mid errors e) (sym untold) has;
-      why = subst (λ (o : Option (Bor (List ℕ))). IfNamed o (λ name. IsUnread name explain failure mid new)) (sym from) unread;
-    }))
-unopened_with transcript failed terminal explain (Err failure) files words file old mid new errors told errors' has from (inr (memory, puzzle, is_found)) =
-    inr (inr (record {
-      words = words;
-      mid = mid;
-      told = told;
-      has_words = has;
-      puzzle = puzzle;
-      has_puzzle = subst (λ (o : Option (Bor (List ℕ))). HasPuzzle transcript failed o puzzle mid new told errors') (sym from) is_found;
-      memory = memory;
-    }))
+has_none : (files : SessionFiles) (words : Dictionary) (old new : Moment) → HasWords files.dict words old new → files.from_file ≡ None → HasBoth files words empty_puzzle old new
+has_none files words old new has from =
+    record { mid = new; has_words = has; has_puzzle = subst (λ (o : Option (Bor (List ℕ))). HasPuzzle o empty_puzzle new new) (sym from) (refl, refl) }
 
-pub opened_empty : {E : Type 0} (transcript : E → List ℕ) (failed : E → ℕ) (terminal explain : Bool) (result : Result State Failure) (files : SessionFiles) (words : Dictionary) (old new : List Event) (errors errors' : E)
-    → HasWords transcript failed terminal explain files.dict words old new errors errors' → files.from_file ≡ None → IfOk result (λ state. state ≡ opened_on words empty_puzzle)
-    → IfOk result (λ state. IsOpened transcript failed terminal explain files state old new errors errors')
-opened_empty transcript failed terminal explain (Ok state) files words old new errors errors' has from is =
-    record {
-      words = words;
-      mid = new;
-      told = errors';
-      has_words = has;
-      puzzle = empty_puzzle;
-      has_puzzle = subst (λ (o : Option (Bor (List ℕ))). HasPuzzle transcript failed o empty_puzzle new new errors' errors') (sym from) (refl, refl, refl);
-      opened = is;
-    }
-opened_empty transcript failed terminal explain (Err failure) files words old new errors errors' has from is = tt
+pub opened_with : (result : Result State Failure) (files : SessionFiles) (words : Dictionary) (file : Bor (List ℕ)) (old mid new : Moment) → HasWords files.dict words old mid → files.from_file ≡ Some file
+    → IfOk result (λ state. (puzzle : PuzzleShown) × HasPuzzle (Some file) puzzle mid new × (state ≡ opened_on words puzzle)) → IfOk result (λ state. IsOpened files state old new)
+opened_with (Ok state) files words file old mid new has from (puzzle, is_found, is) =
+    record { words = words; puzzle = puzzle; has_both = has_file files words puzzle file old mid new has from is_found; opened = is }
+opened_with (Err failure) files words file old mid new has from is = tt
 
-pub unopened_empty : {T E : Type 0} (transcript : E → List ℕ) (failed : E → ℕ) (terminal explain : Bool) (result : Result T Failure) (files : SessionFiles) (words : Dictionary) (old new : List Event) (errors errors' : E)
-    → HasWords transcript failed terminal explain files.dict words old new errors errors' → files.from_file ≡ None → IsOkUnless result failures.Memory
-    → IfErr result (λ failure. IsUnopened transcript failed terminal explain files failure old new errors errors')
-unopened_empty transcript failed terminal explain (Ok session) files words old new errors errors' has from why = tt
-unopened_empty transcript failed terminal explain (Err failure) files words old new errors errors' has from why =
-    inr (inr (record {
-      words = words;
-      mid = new;
-      told = errors';
-      has_words = has;
-      puzzle = empty_puzzle;
-      has_puzzle = subst (λ (o : Option (Bor (List ℕ))). HasPuzzle transcript failed o empty_puzzle new new errors' errors') (sym from) (refl, refl, refl);
-      memory = why;
-    }))
+pub unopened_with : {T : Type 0} (result : Result T Failure) (files : SessionFiles) (words : Dictionary) (file : Bor (List ℕ)) (old mid new : Moment) → HasWords files.dict words old mid → files.from_file ≡ Some file
+    → IfErr result (λ failure. IsUnread file.now failure mid new ⊎ ((failure ≡ failures.Memory) × (puzzle : PuzzleShown) × HasPuzzle (Some file) puzzle mid new))
+    → IfErr result (λ failure. IsUnopened files failure old new)
+unopened_with (Ok session) files words file old mid new has from why = tt
+unopened_with (Err failure) files words file old mid new has from (inl unread) =
+    inr (inl (record { words = words; mid = mid; has_words = has; why = subst (λ (o : Option (Bor (List ℕ))). IfNamed o (λ name. IsUnread name failure mid new)) (sym from) unread }))
+unopened_with (Err failure) files words file old mid new has from (inr (memory, puzzle, is_found)) =
+    inr (inr (record { words = words; puzzle = puzzle; has_both = has_file files words puzzle file old mid new has from is_found; memory = memory }))
+
+pub opened_empty : (result : Result State Failure) (files : SessionFiles) (words : Dictionary) (old new : Moment) → HasWords files.dict words old new → files.from_file ≡ None
+    → IfOk result (λ state. state ≡ opened_on words empty_puzzle) → IfOk result (λ state. IsOpened files state old new)
+opened_empty (Ok state) files words old new has from is = record { words = words; puzzle = empty_puzzle; has_both = has_none files words old new has from; opened = is }
+opened_empty (Err failure) files words old new has from is = tt
+
+pub unopened_empty : {T : Type 0} (result : Result T Failure) (files : SessionFiles) (words : Dictionary) (old new : Moment) → HasWords files.dict words old new → files.from_file ≡ None
+    → IsOkUnless result failures.Memory → IfErr result (λ failure. IsUnopened files failure old new)
+unopened_empty (Ok session) files words old new has from why = tt
+unopened_empty (Err failure) files words old new has from why = inr (inr (record { words = words; puzzle = empty_puzzle; has_both = has_none files words old new has from; memory = why }))

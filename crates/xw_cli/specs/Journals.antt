@@ -1,17 +1,18 @@
 -- The journal of a session: what is replayed of it, how it begins and ends, and which failure ends it.
-use Rattle.std.specs.Prelude.{◌≡◌, ◌⊎◌, ◌++◌, ◌<◌, ℕ, Bool, List, Ok, Err, codes, length, nat_lt}
+use Rattle.std.specs.Prelude.{◌≡◌, ◌⊎◌, ◌++◌, ◌<◌, ℕ, Bool, List, Result, Ok, Err, codes, length, nat_lt}
 use Rattle.xw_journal.specs.File.{first_line, form_of, is_cut, kept_lines}
 use Rattle.xw_journal.specs.declared.file.Form.{Form}
 use Rattle.xw_journal.specs.declared.file.Form.TheVariants as forms
 use Rattle.xw_lines.specs.Cut.{lines_of}
 use Rattle.xw_session.specs.State.{State}
-use Rattle.xw_disk.specs.Disk.{Event, open_, begin, end}
+use Rattle.xw_disk.specs.Disk.{open_, begin, end}
 use Rattle.xw_disk.specs.declared.disk.DiskFault.{DiskFault}
 use Rattle.xw_puzzle_files.specs.declared.failure.Failure.{Failure}
 use Rattle.xw_puzzle_files.specs.declared.failure.Failure.TheVariants as failures
-use Rattle.xw_puzzle_files.specs.Files.{Asks, IsLineFault}
+use Rattle.xw_puzzle_files.specs.Desk.{Asks, Moment, ReportsIf}
+use Rattle.xw_puzzle_files.specs.Files.{IsLineFault}
 use Rattle.xw_cli.specs.declared.session_files.Refusals.{Refusals}
-use Rattle.xw_cli.specs.SessionFiles.{Replays, TellsCutIf, file_of}
+use Rattle.xw_cli.specs.SessionFiles.{Replays, cut_line, file_of}
 use Rattle.xw_puzzle_files.specs.Told.{IsFaultOf}
 
 -- What a journal begins with, from the bytes that its file has. If these are at most a part of the first line, it
@@ -31,21 +32,30 @@ drops_in form bytes = is_cut bytes
 abbrev pub drops : List ℕ → Bool
 drops bytes = drops_in (form_of bytes) bytes
 
--- The journal with this name was opened and begun, with this flag for syncing, and the lines of its bytes that count
--- were replayed. Those that were refused are reported, and then, exactly if others were cut, this.
-pub record HasReplayed {S : Type 0} (transcript : S → List ℕ) (failed : S → ℕ) (name : List ℕ) (is_synced : Bool) (start : State) (refused : Refusals) (state : State) (old new : List Event) (errors errors' : S) : Type 0 where
-  pub bytes : List ℕ
-  pub mid : List Event
+-- The journal with this name was opened, and the lines of its bytes that count were replayed, with this result. Those
+-- that were refused are reported.
+pub record ReplaysOpened (name bytes : List ℕ) (start state : State) (result : Result Refusals Failure) (old new : Moment) : Type 0 where
+  pub mid : Moment
   pub opens : Asks (open_ name (Ok bytes)) old mid
-  pub told : S
-  pub replays : Replays transcript failed name (kept_lines bytes) start state (Ok refused) errors told
+  pub replays : Replays name (kept_lines bytes) start state result mid new
+
+-- The lines of the journal with this name were replayed, and it was begun with this flag for syncing.
+pub record IsBegun (name bytes : List ℕ) (is_synced : Bool) (start : State) (refused : Refusals) (state : State) (old new : Moment) : Type 0 where
+  pub mid : Moment
+  pub replays : ReplaysOpened name bytes start state (Ok refused) old mid
   pub begun : List ℕ
   pub begins : Begins (form_of bytes) bytes begun
   pub asks : Asks (begin name begun is_synced (Ok tt)) mid new
-  pub cut : TellsCutIf transcript failed name (drops bytes) told errors'
+
+-- The journal was begun. Then it is reported that lines of it were cut, exactly if some were.
+pub record HasReplayed (name : List ℕ) (is_synced : Bool) (start : State) (refused : Refusals) (state : State) (old new : Moment) : Type 0 where
+  pub bytes : List ℕ
+  pub mid : Moment
+  pub is_begun : IsBegun name bytes is_synced start refused state old mid
+  pub cut : ReportsIf (drops bytes) (cut_line name) mid new
 
 -- The journal with this name was not opened.
-pub record IsNotOpened (name : List ℕ) (failure : Failure) (old new : List Event) : Type 0 where
+pub record IsNotOpened (name : List ℕ) (failure : Failure) (old new : Moment) : Type 0 where
   pub fault : DiskFault
   pub told : IsFaultOf fault name failure
   pub asks : Asks (open_ name (Err fault)) old new
@@ -55,22 +65,20 @@ abbrev pub IsNoJournal : List ℕ → List ℕ → Failure → Type 0
 IsNoJournal name bytes failure = ((number : ℕ) × (form_of bytes ≡ forms.Cut) × IsLineFault name number (codes "Cut") failure) ⊎ ((form_of bytes ≡ forms.Whole) × IsLineFault name 1 (codes "Command") failure)
 
 -- The journal with this name was opened, and its file stays as it is: the replay stopped, or its lines were replayed and
--- it begins no journal. The lines that were refused are reported.
-pub record IsLeft {S : Type 0} (transcript : S → List ℕ) (failed : S → ℕ) (name : List ℕ) (start : State) (failure : Failure) (old new : List Event) (errors errors' : S) : Type 0 where
+-- it begins no journal.
+pub record IsLeft (name : List ℕ) (start : State) (failure : Failure) (old new : Moment) : Type 0 where
   pub bytes : List ℕ
-  pub asks : Asks (open_ name (Ok bytes)) old new
   pub state : State
-  pub why : Replays transcript failed name (kept_lines bytes) start state (Err failure) errors errors'
-      ⊎ ((refused : Refusals) × Replays transcript failed name (kept_lines bytes) start state (Ok refused) errors errors' × IsNoJournal name bytes failure)
+  pub why : ReplaysOpened name bytes start state (Err failure) old new
+      ⊎ ((refused : Refusals) × ReplaysOpened name bytes start state (Ok refused) old new × IsNoJournal name bytes failure)
 
 -- The journal with this name was opened, its lines were replayed, and it could not be begun.
-pub record IsNotBegun {S : Type 0} (transcript : S → List ℕ) (failed : S → ℕ) (name : List ℕ) (is_synced : Bool) (start : State) (failure : Failure) (old new : List Event) (errors errors' : S) : Type 0 where
+pub record IsNotBegun (name : List ℕ) (is_synced : Bool) (start : State) (failure : Failure) (old new : Moment) : Type 0 where
   pub bytes : List ℕ
-  pub mid : List Event
-  pub opens : Asks (open_ name (Ok bytes)) old mid
   pub state : State
   pub refused : Refusals
-  pub replays : Replays transcript failed name (kept_lines bytes) start state (Ok refused) errors errors'
+  pub mid : Moment
+  pub replays : ReplaysOpened name bytes start state (Ok refused) old mid
   pub begun : List ℕ
   pub begins : Begins (form_of bytes) bytes begun
   pub fault : DiskFault
@@ -78,43 +86,36 @@ pub record IsNotBegun {S : Type 0} (transcript : S → List ℕ) (failed : S →
   pub asks : Asks (begin name begun is_synced (Err fault)) mid new
 
 -- The journal with this name was begun, and then an allocation failed: for the report that lines were cut, or after it.
-pub record IsBegunInVain {S : Type 0} (transcript : S → List ℕ) (failed : S → ℕ) (name : List ℕ) (is_synced : Bool) (start : State) (failure : Failure) (old new : List Event) (errors errors' : S) : Type 0 where
+pub record IsBegunInVain (name : List ℕ) (is_synced : Bool) (start : State) (failure : Failure) (old new : Moment) : Type 0 where
   pub bytes : List ℕ
-  pub mid : List Event
-  pub opens : Asks (open_ name (Ok bytes)) old mid
   pub state : State
   pub refused : Refusals
-  pub told : S
-  pub replays : Replays transcript failed name (kept_lines bytes) start state (Ok refused) errors told
-  pub begun : List ℕ
-  pub begins : Begins (form_of bytes) bytes begun
-  pub asks : Asks (begin name begun is_synced (Ok tt)) mid new
-  pub cut : (errors' ≡ told) ⊎ TellsCutIf transcript failed name (drops bytes) told errors'
+  pub mid : Moment
+  pub is_begun : IsBegun name bytes is_synced start refused state old mid
+  pub cut : (new ≡ mid) ⊎ ReportsIf (drops bytes) (cut_line name) mid new
   pub memory : failure ≡ failures.Memory
 
 -- why the lines of the journal with this name are not replayed, or no session begins with it
-abbrev pub IsUnreplayed : {S : Type 0} → (S → List ℕ) → (S → ℕ) → List ℕ → Bool → State → Failure → List Event → List Event → S → S → Type 0
-IsUnreplayed transcript failed name is_synced start failure old new errors errors' =
-    (IsNotOpened name failure old new × (errors' ≡ errors))
-    ⊎ (IsLeft transcript failed name start failure old new errors errors'
-    ⊎ (IsNotBegun transcript failed name is_synced start failure old new errors errors'
-    ⊎ IsBegunInVain transcript failed name is_synced start failure old new errors errors'))
+abbrev pub IsUnreplayed : List ℕ → Bool → State → Failure → Moment → Moment → Type 0
+IsUnreplayed name is_synced start failure old new =
+    IsNotOpened name failure old new
+    ⊎ (IsLeft name start failure old new ⊎ (IsNotBegun name is_synced start failure old new ⊎ IsBegunInVain name is_synced start failure old new))
 
 -- ---- the end of a journal
 
 -- The journal with this name was to be replaced by the record of the session, and was not.
-pub record IsNotEnded (name : List ℕ) (state : State) (failure : Failure) (old new : List Event) : Type 0 where
+pub record IsNotEnded (name : List ℕ) (state : State) (failure : Failure) (old new : Moment) : Type 0 where
   pub fault : DiskFault
   pub told : IsFaultOf fault name failure
   pub asks : Asks (end name (file_of state) (Err fault)) old new
 
 -- why the journal with this name is not replaced by the record: its name no longer leads to it, an allocation failed,
 -- or the disk failed
-abbrev pub IsUnended : List ℕ → State → Failure → List Event → List Event → Type 0
+abbrev pub IsUnended : List ℕ → State → Failure → Moment → Moment → Type 0
 IsUnended name state failure old new =
     (((fault : DiskFault) × IsFaultOf fault name failure) × (new ≡ old)) ⊎ (((failure ≡ failures.Memory) × (new ≡ old)) ⊎ IsNotEnded name state failure old new)
 
 -- the journal with this name was replaced by the record of the session if none of its lines was refused, and otherwise
 -- stays
-abbrev pub IsEnded : List ℕ → ℕ → State → List Event → List Event → Type 0
+abbrev pub IsEnded : List ℕ → ℕ → State → Moment → Moment → Type 0
 IsEnded name refused state old new = ((refused ≡ 0) × Asks (end name (file_of state) (Ok tt)) old new) ⊎ ((0 < refused) × (new ≡ old))

@@ -1,5 +1,5 @@
 pub mod SessionFiles
 pub mod Journals
-pub mod Streams
+pub mod Answered
 pub mod Performed
 pub mod Called

@@ -1,62 +1,91 @@
 //! The journal of a session: its opening, its replay and its end.
-ghost use Rattle.std.specs.Prelude.{◌≡◌, [], ℕ, IfOk, IfErr, OnOk, Ok, codes};
+ghost use Rattle.std.specs.Prelude.{◌≡◌, [], ℕ, IfOk, IfErr, OnOk, Ok, Err, codes};
 ghost use Rattle.xw_journal.specs.File.{form_of as form_of_bytes};
 ghost use Rattle.xw_journal.specs.declared.file.Form.TheVariants as forms;
-ghost use Rattle.xw_disk.specs.Disk.{open_, started};
-ghost use Rattle.xw_puzzle_files.specs.Files.{Asks, IsLineFault};
+ghost use Rattle.xw_disk.specs.Disk.{begin, end, open_, started, take_lines};
+ghost use Rattle.xw_disk.specs.declared.disk.DiskFault.{DiskFault};
+ghost use Rattle.xw_puzzle_files.specs.Told.{IsFaultOf};
+ghost use Rattle.xw_puzzle_files.specs.Desk.{Asks};
+ghost use Rattle.xw_puzzle_files.specs.Files.{IsLineFault};
 ghost use Rattle.xw_cli.specs.Journals.{drops, Begins, HasReplayed, IsEnded, IsNoJournal, IsNotOpened, IsUnended, IsUnreplayed};
 
 use crate::session_files::{Refusals, resume_text, tell_cut_if};
-use std::alloc::Global;
 use xw_disk::{Disk, Start};
 use xw_feas::feasible::Feasible;
 use xw_feas::searchable::Searchable;
 use xw_journal::file::{FIRST_LINE, Form, form_of, is_cut, kept, saved};
-use xw_lines::Sink;
+use xw_lines::{Sink, Source};
+use xw_puzzle_files::desk::Desk;
 use xw_puzzle_files::failure::{Failure, failure_of};
 use xw_puzzle_files::files::line_fault;
+use xw_puzzle_files::outlet::Outlet;
 use xw_session::Session;
 
 /// Opens the journal, or creates it, replays the lines that count, and cuts it to these. Returns the journal, which
 /// then has the first line, and the refused lines. If a line is no command, or if a file without the first line has a cut
 /// last line or only comments, the file stays as it was.
-pub fn resume_journal<'a, D: Disk, F: Searchable, E: Sink>(
-    alloc: Global,
-    disk: &mut D,
+pub fn resume_journal<'a, F: Searchable, D: Disk, I: Source, O: Outlet, E: Sink>(
+    desk: &mut Desk<D, I, O, E>,
     file: &'a str,
     is_synced: bool,
     session: &mut Session<F>,
-    errors: &mut E,
 ) -> Result<(D::Journal, Refusals), Failure<'a>>
-    ensures ok { IfOk result (λ resumed. HasReplayed E.transcript E.failures file.entry.now is_synced session.old resumed.1 session.new (D.log disk.old) (D.log disk.new) errors.old errors.new) }
+    ensures ok { IfOk result (λ resumed. HasReplayed file.entry.now is_synced session.old resumed.1 session.new desk.old desk.new) }
     ensures transcript { IfOk result (λ resumed. D.Journal.transcript resumed.0 ≡ []) }
     ensures failures { IfOk result (λ resumed. D.Journal.failures resumed.0 ≡ 0) }
-    ensures err { IfErr result (λ failure. IsUnreplayed E.transcript E.failures file.entry.now is_synced session.old failure (D.log disk.old) (D.log disk.new) errors.old errors.new) }
+    ensures err { IfErr result (λ failure. IsUnreplayed file.entry.now is_synced session.old failure desk.old desk.new) }
 {
-    let (opened, bytes) = open_journal(disk, file)?;
+    let (opened, bytes) = open_journal(desk, file)?;
     let text = bytes.as_slice();
-    let refused = resume_text(alloc, file, session, kept(text), errors)?;
+    let refused = resume_text(desk, file, session, kept(text))?;
     let start = start_of(file, text)?;
-    let journal = match disk.begin_journal(file, opened, start, is_synced) {
-        Ok(journal) => journal,
-        Err(fault) => return Err(failure_of(fault, file)),
-    };
-    tell_cut_if(alloc, file, drops(text), errors)?;
+    let journal = begin_journal(desk, file, opened, start, is_synced)?;
+    tell_cut_if(desk, file, drops(text))?;
     Ok((journal, refused))
 }
 
 /// Opens a journal. Returns the open file and its bytes.
-fn open_journal<'a, D: Disk>(
-    disk: &mut D,
+fn open_journal<'a, D: Disk, I: Source, O: Outlet, E: Sink>(
+    desk: &mut Desk<D, I, O, E>,
     file: &'a str,
 ) -> Result<(D::Opened, Vec<u8>), Failure<'a>>
-    ensures ok { IfOk result (λ opened. Asks (open_ file.entry.now (Ok opened.1.items)) (D.log disk.old) (D.log disk.new)) }
-    ensures err { IfErr result (λ failure. IsNotOpened file.entry.now failure (D.log disk.old) (D.log disk.new)) }
+    ensures ok { IfOk result (λ opened. Asks (open_ file.entry.now (Ok opened.1.items)) desk.old desk.new) }
+    ensures err { IfErr result (λ failure. IsNotOpened file.entry.now failure desk.old desk.new) }
 {
-    match disk.open_journal(file) {
+    match desk.disk.open_journal(file) {
         Ok(opened) => Ok(opened),
         Err(fault) => Err(failure_of(fault, file)),
     }
+}
+
+/// Makes an open file a journal that lines can be appended to.
+fn begin_journal<'a, D: Disk, I: Source, O: Outlet, E: Sink>(
+    desk: &mut Desk<D, I, O, E>,
+    file: &'a str,
+    opened: D::Opened,
+    start: Start<'_>,
+    is_synced: bool,
+) -> Result<D::Journal, Failure<'a>>
+    ensures ok { IfOk result (λ journal. Asks (begin file.entry.now (started start.entry) is_synced (Ok tt)) desk.old desk.new) }
+    ensures transcript { IfOk result (λ journal. D.Journal.transcript journal ≡ []) }
+    ensures failures { IfOk result (λ journal. D.Journal.failures journal ≡ 0) }
+    ensures err { IfErr result (λ failure. (fault : DiskFault) × IsFaultOf fault file.entry.now failure × Asks (begin file.entry.now (started start.entry) is_synced (Err fault)) desk.old desk.new) }
+{
+    match desk.disk.begin_journal(file, opened, start, is_synced) {
+        Ok(journal) => Ok(journal),
+        Err(fault) => Err(failure_of(fault, file)),
+    }
+}
+
+/// Closes a journal for writing.
+pub fn close_journal<D: Disk, I: Source, O: Outlet, E: Sink>(
+    desk: &mut Desk<D, I, O, E>,
+    file: &str,
+    journal: D::Journal,
+)
+    ensures { Asks (take_lines file.now (D.Journal.transcript journal)) desk.old desk.new }
+{
+    desk.disk.close_journal(file, journal);
 }
 
 /// Returns how a file with these bytes becomes a journal that lines can be appended to.
@@ -112,24 +141,35 @@ fn cut_fault<'a>(file: &'a str, bytes: &[u8]) -> Failure<'a>
 
 /// Replaces a journal by the record of its session, unless its name no longer leads to it. `refused` is the number of
 /// its lines that were refused: if there are any, the record lacks them, and the journal stays as it is.
-pub fn end_journal<'a, D: Disk, F: Feasible>(
-    alloc: Global,
-    disk: &mut D,
+pub fn end_journal<'a, F: Feasible, D: Disk, I: Source, O: Outlet, E: Sink>(
+    desk: &mut Desk<D, I, O, E>,
     file: &'a str,
     refused: usize,
     session: &Session<F>,
 ) -> Result<(), Failure<'a>>
-    ensures ok { OnOk result (IsEnded file.entry.now refused session.now (D.log disk.old) (D.log disk.new)) }
-    ensures err { IfErr result (λ failure. IsUnended file.entry.now session.now failure (D.log disk.old) (D.log disk.new)) }
+    ensures ok { OnOk result (IsEnded file.entry.now refused session.now desk.old desk.new) }
+    ensures err { IfErr result (λ failure. IsUnended file.entry.now session.now failure desk.old desk.new) }
 {
-    if let Err(fault) = disk.find_journal() {
+    if let Err(fault) = desk.disk.find_journal() {
         return Err(failure_of(fault, file));
     }
     if refused > 0 {
         return Ok(());
     }
-    let bytes = saved(alloc, session)?;
-    match disk.end_journal(file, bytes.as_slice()) {
+    let bytes = saved(desk.alloc, session)?;
+    replace_journal(desk, file, bytes.as_slice())
+}
+
+/// Replaces a journal by these bytes.
+fn replace_journal<'a, D: Disk, I: Source, O: Outlet, E: Sink>(
+    desk: &mut Desk<D, I, O, E>,
+    file: &'a str,
+    bytes: &[u8],
+) -> Result<(), Failure<'a>>
+    ensures ok { OnOk result (Asks (end file.entry.now bytes.now (Ok tt)) desk.old desk.new) }
+    ensures err { IfErr result (λ failure. (fault : DiskFault) × IsFaultOf fault file.entry.now failure × Asks (end file.entry.now bytes.now (Err fault)) desk.old desk.new) }
+{
+    match desk.disk.end_journal(file, bytes) {
         Ok(()) => Ok(()),
         Err(fault) => Err(failure_of(fault, file)),
     }

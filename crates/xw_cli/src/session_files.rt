@@ -1,31 +1,32 @@
 //! The files of a session other than its puzzle: the word list, the commands to replay, and the record.
-ghost use Rattle.std.specs.Prelude.{◌≡◌, ◌⊎◌, ◌++◌, ℕ, List, Ok, IfOk, IfErr, OnOk, OnErr, IsOkUnless};
+ghost use Rattle.std.specs.Prelude.{◌≡◌, ◌⊎◌, ◌++◌, ◌&&◌, ℕ, Ok, Err, None, IfOk, IfErr, OnOk, OnErr, IsOkUnless};
 ghost use Rattle.xw_words.specs.WordList.{listed_in};
 ghost use Rattle.xw_answers.specs.Text.{name_of};
-ghost use Rattle.xw_puzzle_files.specs.declared.failure.Failure.TheVariants.{Memory};
-ghost use Rattle.xw_puzzle_files.specs.Explained.{GoesOut};
-ghost use Rattle.xw_puzzle_files.specs.Files.{Asks, IsFileFault};
-ghost use Rattle.xw_disk.specs.Disk.{read, replace};
-ghost use Rattle.xw_cli.specs.SessionFiles.{counts_line, cut_line, file_of, is_long, loading_line, IsLoadedTold, ends_in_known, old_line, tells_loss, HasKept, IsLoaded, IsLoadingTold, MayTellLoading, IsNotKept, IsOverfull, IsUnloaded, IsStopped, Replays, TellsCutIf, TellsReplay, IsResumed, IsUnsaved};
-ghost use Rattle.xw_session.specs.Resuming.{Tells};
 ghost use Rattle.xw_lines.specs.Cut.{lines_of};
+ghost use Rattle.xw_disk.specs.Disk.{keep, replace};
+ghost use Rattle.xw_disk.specs.declared.disk.DiskFault.{DiskFault};
+ghost use Rattle.xw_puzzle_files.specs.Told.{IsOldFaultOf};
+ghost use Rattle.xw_puzzle_files.specs.declared.failure.Failure.TheVariants.{Memory};
+ghost use Rattle.xw_puzzle_files.specs.Desk.{Asks, Reports, ReportsIf};
+ghost use Rattle.xw_puzzle_files.specs.Files.{IsFileFault};
+ghost use Rattle.xw_cli.specs.SessionFiles.{counts_line, cut_line, ends_in_known, file_of, is_long, old_line, tells_loss, HasKept, IsLoaded, IsLoadedTold, IsLoadingTold, IsNotKept, IsOverfull, IsResumed, IsStopped, IsUnloaded, IsUnsaved, Replays, TellsReplay};
 
 use crate::lists::notes_of;
 use memchr::memchr_iter;
-use std::alloc::Global;
 use xw_answers::refusal::{self, Refusal};
 use xw_disk::Disk;
 use xw_disk::replacing::kept_name;
 use xw_feas::feasible::Feasible;
 use xw_feas::searchable::Searchable;
 use xw_journal::file::{is_cut, kept, saved};
-use xw_lines::device;
+use xw_lines::{Sink, Source};
+use xw_puzzle_files::desk::Desk;
 use xw_puzzle_files::failure::{Failure, old_failure_of};
-use xw_puzzle_files::files::{file_fault, line_fault, read_file, write_file};
-use xw_puzzle_files::outlet::Messages;
+use xw_puzzle_files::files::{file_fault, line_fault};
+use xw_puzzle_files::outlet::Outlet;
+use xw_session::Session;
 use xw_session::resuming::{self, Stop};
 use xw_session::vec_sink::VecSink;
-use xw_session::{Session, Sink};
 use xw_text::lines::first_line;
 use xw_words::{Bank, Loaded, WordFault};
 
@@ -50,23 +51,18 @@ impl Refusals {
 }
 
 /// Loads a word list into a dictionary, and prints how many lines were added and skipped, with notes on the list if
-/// `explain` is set. On a terminal it first prints that a long list is loading.
-pub fn read_dictionary<'a, D: Disk, E: Messages>(
-    alloc: Global,
-    disk: &mut D,
+/// failures are explained. On a terminal it first prints that a long list is loading.
+pub fn read_dictionary<'a, D: Disk, I: Source, O: Outlet, E: Sink>(
+    desk: &mut Desk<D, I, O, E>,
     file: &'a str,
-    explain: bool,
-    errors: &mut E,
 ) -> Result<Bank, Failure<'a>>
-    // The dictionary is the one that the bytes of the file list, and a report counts their lines.
-    ensures ok { IfOk result (λ bank. IsLoaded E.transcript E.failures (E.is_terminal errors.old) explain file.entry.now bank.words (D.log disk.old) (D.log disk.new) errors.old errors.new) }
-    ensures err { IfErr result (λ failure. IsUnloaded file.entry.now failure (D.log disk.old) (D.log disk.new)) }
-    ensures untold { OnErr result (MayTellLoading E.transcript E.failures (E.is_terminal errors.old) file.entry.now errors.old errors.new) }
+    ensures ok { IfOk result (λ bank. IsLoaded file.entry.now bank.words desk.old desk.new) }
+    ensures err { IfErr result (λ failure. IsUnloaded file.entry.now failure desk.old desk.new) }
 {
-    let bytes = read_file(disk, file)?;
+    let bytes = desk.read_file(file)?;
     let list = bytes.as_slice();
-    tell_loading(alloc, file, list, errors)?;
-    dictionary_of(alloc, file, list, explain, errors)
+    tell_loading(desk, file, list)?;
+    dictionary_of(desk, file, list)
 }
 
 /// Returns whether a word list takes a while to load.
@@ -76,43 +72,49 @@ fn is_long(bytes: &[u8]) -> bool
     memchr_iter(b'\n', bytes).count() > LONG
 }
 
-/// Prints on a terminal that a word list is loading, if it is long. Write errors are ignored.
-fn tell_loading<'a, E: Messages>(
-    alloc: Global,
+/// Returns whether a terminal is told that a word list is loading.
+fn tells_loading<D: Disk, I: Source, O: Outlet, E: Sink>(
+    desk: &Desk<D, I, O, E>,
+    bytes: &[u8],
+) -> bool
+    ensures { result ≡ (desk.now.is_terminal && is_long bytes.now) }
+{
+    desk.is_terminal && is_long(bytes)
+}
+
+/// Prints on a terminal that a word list is loading, if it is long.
+fn tell_loading<'a, D: Disk, I: Source, O: Outlet, E: Sink>(
+    desk: &mut Desk<D, I, O, E>,
     file: &'a str,
     bytes: &[u8],
-    errors: &mut E,
 ) -> Result<(), Failure<'a>>
-    ensures told { OnOk result (IsLoadingTold E.transcript E.failures (E.is_terminal errors.old) file.entry.now bytes.now errors.old errors.new) }
+    ensures told { OnOk result (IsLoadingTold file.entry.now bytes.now desk.old desk.new) }
     ensures memory { IsOkUnless result Memory }
-    ensures untold { OnErr result (errors.new ≡ errors.old) }
+    ensures untold { OnErr result (desk.new ≡ desk.old) }
 {
-    let is_due = errors.is_terminal() && is_long(bytes);
-    if !is_due {
+    if !tells_loading(desk, bytes) {
         return Ok(());
     }
-    let text = format!(in alloc; "xw: {file}: loading\n")?;
-    let _ = device::write_all(errors, text.as_bytes());
+    let text = format!(in desk.alloc; "xw: {file}: loading\n")?;
+    desk.report(text.as_bytes());
     Ok(())
 }
 
 /// Loads the bytes of a word list and prints its counts, as `read_dictionary`.
-fn dictionary_of<'a, E: Sink>(
-    alloc: Global,
+fn dictionary_of<'a, D: Disk, I: Source, O: Outlet, E: Sink>(
+    desk: &mut Desk<D, I, O, E>,
     file: &'a str,
     bytes: &[u8],
-    explain: bool,
-    errors: &mut E,
 ) -> Result<Bank, Failure<'a>>
     ensures words { IfOk result (λ bank. bank.words ≡ listed_in bytes.now) }
-    ensures told { OnOk result (IsLoadedTold E.transcript E.failures explain file.entry.now bytes.now errors.old errors.new) }
+    ensures told { OnOk result (IsLoadedTold file.entry.now bytes.now desk.old desk.new) }
     ensures err { IfErr result (λ failure. (failure ≡ Memory) ⊎ IsOverfull file.entry.now bytes.now failure) }
-    ensures untold { OnErr result (errors.new ≡ errors.old) }
+    ensures untold { OnErr result (desk.new ≡ desk.old) }
 {
-    let notes = notes_of(alloc, bytes, explain)?;
-    match Bank::load_list(alloc, bytes) {
+    let notes = notes_of(desk.alloc, bytes, desk.explains)?;
+    match Bank::load_list(desk.alloc, bytes) {
         Ok((bank, loaded)) => {
-            tell_loaded(alloc, file, loaded, notes.as_str(), errors)?;
+            tell_loaded(desk, file, loaded, notes.as_str())?;
             Ok(bank)
         }
         Err(fault) => Err(unloaded(file, fault)),
@@ -130,98 +132,83 @@ fn unloaded<'a>(file: &'a str, fault: WordFault) -> Failure<'a>
     }
 }
 
-/// Prints how many lines of a word list were added and skipped, and then the notes. Write errors are ignored.
-fn tell_loaded<'a, E: Sink>(
-    alloc: Global,
+/// Prints how many lines of a word list were added and skipped, and then the notes.
+fn tell_loaded<'a, D: Disk, I: Source, O: Outlet, E: Sink>(
+    desk: &mut Desk<D, I, O, E>,
     file: &'a str,
     loaded: Loaded,
     notes: &str,
-    errors: &mut E,
 ) -> Result<(), Failure<'a>>
-    ensures told { OnOk result (GoesOut E.transcript E.failures errors.old errors.new (counts_line file.entry.now loaded.added loaded.skipped ++ notes.now)) }
+    ensures told { OnOk result (Reports (counts_line file.entry.now loaded.added loaded.skipped ++ notes.now) desk.old desk.new) }
     ensures memory { IsOkUnless result Memory }
-    ensures untold { OnErr result (errors.new ≡ errors.old) }
+    ensures untold { OnErr result (desk.new ≡ desk.old) }
 {
     let (added, skipped) = (loaded.added, loaded.skipped);
-    let text = format!(in alloc; "xw: {file}: {added} added, {skipped} skipped\n{notes}")?;
-    let _ = device::write_all(errors, text.as_bytes());
+    let text = format!(in desk.alloc; "xw: {file}: {added} added, {skipped} skipped\n{notes}")?;
+    desk.report(text.as_bytes());
     Ok(())
 }
 
-/// Replays the commands of a file that count, and returns the refused lines. Reports on `errors` if others
-/// were cut.
-pub fn resume_file<'a, D: Disk, F: Searchable, E: Sink>(
-    alloc: Global,
-    disk: &mut D,
+/// Replays the commands of a file that count, and returns the refused lines. Reports first if others were cut.
+pub fn resume_file<'a, F: Searchable, D: Disk, I: Source, O: Outlet, E: Sink>(
+    desk: &mut Desk<D, I, O, E>,
     file: &'a str,
     session: &mut Session<F>,
-    errors: &mut E,
 ) -> Result<Refusals, Failure<'a>>
-    ensures { IsResumed E.transcript E.failures file.entry.now session.old session.new result (D.log disk.old) (D.log disk.new) errors.old errors.new }
+    ensures { IsResumed file.entry.now session.old session.new result desk.old desk.new }
 {
-    let text = read_file(disk, file)?;
+    let text = desk.read_file(file)?;
     let bytes = text.as_slice();
-    tell_cut_if(alloc, file, is_cut(bytes), errors)?;
-    resume_text(alloc, file, session, kept(bytes), errors)
+    tell_cut_if(desk, file, is_cut(bytes))?;
+    resume_text(desk, file, session, kept(bytes))
 }
 
-/// Reports that an incomplete last command is ignored if one was. Write errors are ignored.
-pub fn tell_cut_if<'a, E: Sink>(
-    alloc: Global,
+/// Reports that an incomplete last command is ignored if one was.
+pub fn tell_cut_if<'a, D: Disk, I: Source, O: Outlet, E: Sink>(
+    desk: &mut Desk<D, I, O, E>,
     file: &'a str,
     is_due: bool,
-    errors: &mut E,
 ) -> Result<(), Failure<'a>>
-    ensures told { OnOk result (TellsCutIf E.transcript E.failures file.entry.now is_due errors.old errors.new) }
+    ensures told { OnOk result (ReportsIf is_due (cut_line file.entry.now) desk.old desk.new) }
     ensures memory { IsOkUnless result Memory }
-    ensures untold { OnErr result (errors.new ≡ errors.old) }
+    ensures untold { OnErr result (desk.new ≡ desk.old) }
 {
-    if is_due {
-        return tell_cut(alloc, file, errors);
+    if !is_due {
+        return Ok(());
     }
-    Ok(())
-}
-
-/// Reports that an incomplete last command is ignored. Write errors are ignored.
-fn tell_cut<'a, E: Sink>(alloc: Global, file: &'a str, errors: &mut E) -> Result<(), Failure<'a>>
-    ensures told { OnOk result (GoesOut E.transcript E.failures errors.old errors.new (cut_line file.entry.now)) }
-    ensures memory { IsOkUnless result Memory }
-    ensures untold { OnErr result (errors.new ≡ errors.old) }
-{
-    let text = format!(in alloc; "xw: {file}: an incomplete last command is ignored\n")?;
-    let _ = device::write_all(errors, text.as_bytes());
+    let text = format!(in desk.alloc; "xw: {file}: an incomplete last command is ignored\n")?;
+    desk.report(text.as_bytes());
     Ok(())
 }
 
 /// Replays commands, and returns the refused lines, which it reports. `file` is named in reports.
-pub fn resume_text<'a, F: Searchable, E: Sink>(
-    alloc: Global,
+pub fn resume_text<'a, F: Searchable, D: Disk, I: Source, O: Outlet, E: Sink>(
+    desk: &mut Desk<D, I, O, E>,
     file: &'a str,
     session: &mut Session<F>,
     text: &[u8],
-    errors: &mut E,
 ) -> Result<Refusals, Failure<'a>>
-    ensures { Replays E.transcript E.failures file.entry.now (lines_of text.now) session.old session.new result errors.old errors.new }
+    ensures { Replays file.entry.now (lines_of text.now) session.old session.new result desk.old desk.new }
 {
-    let mut reports = VecSink::new(alloc);
-    let ended = resuming::resume(alloc, session, file, text, &mut reports);
-    tell_replayed(file, ended, &reports, errors)
+    let mut reports = VecSink::new(desk.alloc);
+    let ended = resuming::resume(desk.alloc, session, file, text, &mut reports);
+    tell_replayed(desk, file, ended, &reports)
 }
 
 /// Prints the reports of a replay, and returns the refused lines. Fails if the reports could not be allocated; then none
-/// is printed. Write errors are ignored.
-fn tell_replayed<'a, E: Sink>(
+/// is printed.
+fn tell_replayed<'a, D: Disk, I: Source, O: Outlet, E: Sink>(
+    desk: &mut Desk<D, I, O, E>,
     file: &'a str,
     ended: Result<usize, Stop>,
     reports: &VecSink,
-    errors: &mut E,
 ) -> Result<Refusals, Failure<'a>>
-    ensures { TellsReplay E.transcript E.failures file.entry.now reports.now.failures reports.now.bytes.items ended result errors.old errors.new }
+    ensures { TellsReplay file.entry.now reports.now.failures reports.now.bytes.items ended result desk.old desk.new }
 {
     if reports.failures() > 0 {
         return Err(Failure::Memory);
     }
-    tell_reports(reports, errors);
+    desk.report(reports.bytes());
     match ended {
         Ok(count) => Ok(Refusals {
             count,
@@ -229,13 +216,6 @@ fn tell_replayed<'a, E: Sink>(
         }),
         Err(stop) => Err(stopped(file, stop)),
     }
-}
-
-/// Prints the reports of a replay. Write errors are ignored.
-fn tell_reports<E: Sink>(reports: &VecSink, errors: &mut E)
-    ensures { Tells E.transcript E.failures errors.old errors.new reports.now.bytes.items }
-{
-    let _ = device::write_all(errors, reports.bytes());
 }
 
 /// Returns whether a report ends with the reason `Known`.
@@ -272,51 +252,62 @@ fn stopped<'a>(file: &'a str, stop: Stop) -> Failure<'a>
 }
 
 /// Writes a session to a file: the first line and the record. The disk is not asked until all bytes are built.
-pub fn write_session<'a, D: Disk, F: Feasible>(
-    alloc: Global,
-    disk: &mut D,
+pub fn write_session<'a, F: Feasible, D: Disk, I: Source, O: Outlet, E: Sink>(
+    desk: &mut Desk<D, I, O, E>,
     file: &'a str,
     session: &Session<F>,
 ) -> Result<(), Failure<'a>>
-    ensures ok { OnOk result (Asks (replace file.entry.now (file_of session.now) (Ok tt)) (D.log disk.old) (D.log disk.new)) }
-    ensures err { IfErr result (λ failure. IsUnsaved file.entry.now session.now failure (D.log disk.old) (D.log disk.new)) }
+    ensures ok { OnOk result (Asks (replace file.entry.now (file_of session.now) (Ok tt)) desk.old desk.new) }
+    ensures err { IfErr result (λ failure. IsUnsaved file.entry.now session.now failure desk.old desk.new) }
 {
-    let bytes = saved(alloc, session)?;
-    write_file(disk, file, bytes.as_slice())
+    let bytes = saved(desk.alloc, session)?;
+    desk.write_file(file, bytes.as_slice())
 }
 
 /// Keeps a file under another name before it is written over, and reports it. The other name does not lead to `apart`.
-pub fn keep_old<'a, D: Disk, E: Sink>(
-    alloc: Global,
-    disk: &mut D,
+pub fn keep_old<'a, D: Disk, I: Source, O: Outlet, E: Sink>(
+    desk: &mut Desk<D, I, O, E>,
     file: &'a str,
     apart: Option<&str>,
-    errors: &mut E,
 ) -> Result<(), Failure<'a>>
-    ensures ok { OnOk result (HasKept E.transcript E.failures file.entry.now (D.log disk.old) (D.log disk.new) errors.old errors.new) }
-    ensures err { IfErr result (λ failure. IsNotKept file.entry.now failure (D.log disk.old) (D.log disk.new)) }
-    ensures untold { OnErr result (errors.new ≡ errors.old) }
+    ensures ok { OnOk result (HasKept file.entry.now desk.old desk.new) }
+    ensures err { IfErr result (λ failure. IsNotKept file.entry.now failure desk.old desk.new) }
 {
-    let bytes = read_file(disk, file)?;
-    match disk.keep(file, apart, bytes.as_slice()) {
-        Ok(number) => tell_kept(alloc, file, number, errors),
+    let bytes = desk.read_file(file)?;
+    let number = keep_bytes(desk, file, apart, bytes.as_slice())?;
+    tell_kept(desk, file, number)
+}
+
+/// Keeps these bytes of a file beside it, and returns the number of their name.
+fn keep_bytes<'a, D: Disk, I: Source, O: Outlet, E: Sink>(
+    desk: &mut Desk<D, I, O, E>,
+    file: &'a str,
+    apart: Option<&str>,
+    bytes: &[u8],
+) -> Result<u32, Failure<'a>>
+    ensures ok { IfOk result (λ number. Asks (keep file.entry.now bytes.now number (Ok tt)) desk.old desk.new) }
+    ensures err { IfErr result (λ failure. (number : ℕ) × (fault : DiskFault) × IsOldFaultOf fault file.entry.now number failure × Asks (keep file.entry.now bytes.now number (Err fault)) desk.old desk.new) }
+{
+    match desk.disk.keep(file, apart, bytes) {
+        Ok(number) => Ok(number),
         Err(unkept) => Err(old_failure_of(unkept, file)),
     }
 }
 
-/// Reports that an old file is kept under the name with this number. Write errors are ignored.
-fn tell_kept<'a, E: Sink>(
-    alloc: Global,
+/// Reports that an old file is kept under the name with this number.
+fn tell_kept<'a, D: Disk, I: Source, O: Outlet, E: Sink>(
+    desk: &mut Desk<D, I, O, E>,
     file: &'a str,
     number: u32,
-    errors: &mut E,
 ) -> Result<(), Failure<'a>>
-    ensures told { OnOk result (GoesOut E.transcript E.failures errors.old errors.new (old_line file.entry.now number)) }
+    ensures told { OnOk result (Reports (old_line file.entry.now number) desk.old desk.new) }
     ensures memory { IsOkUnless result Memory }
-    ensures untold { OnErr result (errors.new ≡ errors.old) }
+    ensures untold { OnErr result (desk.new ≡ desk.old) }
 {
-    let name = kept_name(alloc, file, number)?;
-    let text = format!(in alloc; "xw: {file}: refused lines; the old file is kept as {name}\n")?;
-    let _ = device::write_all(errors, text.as_bytes());
+    let name = kept_name(desk.alloc, file, number)?;
+    let text = format!(in desk.alloc;
+        "xw: {file}: refused lines; the old file is kept as {name}\n"
+    )?;
+    desk.report(text.as_bytes());
     Ok(())
 }

@@ -31,3 +31,16 @@ no_row {A} name (value ∷ values) (row ∷ rows) word same none =
       | inl is ↦ let bad : Some value ≡ None = rw is at none in cc
       | inr other ↦ rw (first, other) (no_row name values rows word others (rw other at none))
     ]
+
+-- two tables with the same words have the same words
+pub same_row : {A B : Type 0} (name : A → List ℕ) (values : List A) (table : List (List ℕ × B)) (word : List ℕ) (a : A) → map (λ row. row.0) table ≡ map name values → lookup (by_name name values) word ≡ Some a
+    → (b : B) × (lookup table word ≡ Some b)
+same_row name [] table word a same found = cc
+same_row name (value ∷ values) [] word a same found = cc
+same_row {A} name (value ∷ values) (row ∷ rows) word a same found =
+    let first : row.0 ≡ name value = cc in
+    let others : map (λ row. row.0) rows ≡ map name values = cc in
+    elim (cases_Bool (bytes_eq word (name value))) [
+      | inl is ↦ (row.1, rw (first, is) refl)
+      | inr other ↦ let rest = same_row name values rows word a others (rw other at found) in (rest.0, rw (first, other) rest.1)
+    ]

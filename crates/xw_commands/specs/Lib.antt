@@ -1,6 +1,7 @@
 pub mod Line
 pub mod Names
 pub mod Reading
-pub mod Name
+pub mod Query
+pub mod Change
+pub mod Search
 pub mod Command
-pub mod Kind

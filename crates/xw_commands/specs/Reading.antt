@@ -99,6 +99,14 @@ abbrev pub lookup : {A : Type 0} → List (List ℕ × A) → List ℕ → Optio
 lookup [] name = None
 lookup (row ∷ rows) name = if bytes_eq name row.0 then Some row.1 else lookup rows name
 
+abbrev pub reading_if_any : {A : Type 0} → Option (Reading A) → Reading A
+reading_if_any None = fault faults.Command
+reading_if_any (Some reading) = reading
+
+-- the reading that the table has for this name
+abbrev pub reading_in : {A : Type 0} → List (List ℕ × Reading A) → List ℕ → Reading A
+reading_in table name = reading_if_any (lookup table name)
+
 abbrev pub key_word : {A : Type 0} → List (List ℕ × A) → Reading A
 key_word table = do wanted (lookup table (← word))
 

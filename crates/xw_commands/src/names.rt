@@ -1,6 +1,5 @@
-//! The words of the commands and of the values of their arguments. Commands, answers and records spell them in the
-//! same way.
-use crate::command::{Name, Report, TextField, TextMode, WithCell, WithLight, WithWord};
+//! The words of the values of arguments. Commands, answers and records spell them in the same way.
+use crate::command::TextField;
 use xw_grid::{Direction, Side, Symmetry};
 
 /// The directions.
@@ -42,6 +41,17 @@ pub trait Named: Copy {
     /// Returns the word.
     fn name(self) -> &'static str
         ensures { result.now ≡ name self };
+}
+
+/// The name of a command.
+pub trait CommandName: Copy {
+    ghost use Rattle.std.specs.Prelude.{◌≡◌, ℕ, List};
+
+    ghost form: { Self → List ℕ };
+
+    /// Returns the word of the command with its arguments.
+    fn form(self) -> &'static str
+        ensures { result.now ≡ form self };
 }
 
 impl Named for Direction {
@@ -122,126 +132,6 @@ impl Named for Option<TextField> {
         match self {
             Some(field) => field.name(),
             None => CLUE,
-        }
-    }
-}
-
-/// The name of the command.
-impl Named for WithWord {
-    ghost use Rattle.xw_commands.specs.Name.{word_of};
-    ghost use Rattle.xw_commands.specs.declared.command.Name.TheVariants as commands;
-
-    ghost name = { λ name. word_of (commands.Word name) };
-
-    fn name(self) -> &'static str {
-        match self {
-            WithWord::Add => "add",
-            WithWord::Strike => "strike",
-            WithWord::Match => "match",
-        }
-    }
-}
-
-/// The name of the command.
-impl Named for WithCell {
-    ghost use Rattle.xw_commands.specs.Name.{word_of};
-    ghost use Rattle.xw_commands.specs.declared.command.Name.TheVariants as commands;
-
-    ghost name = { λ name. word_of (commands.Cell name) };
-
-    fn name(self) -> &'static str {
-        match self {
-            WithCell::Set => "set",
-            WithCell::Clear => "clear",
-            WithCell::Block => "block",
-            WithCell::Bar => "bar",
-            WithCell::Circle => "circle",
-            WithCell::Letters => "letters",
-            WithCell::Tally => "tally",
-        }
-    }
-}
-
-/// The name of the command.
-impl Named for WithLight {
-    ghost use Rattle.xw_commands.specs.Name.{word_of};
-    ghost use Rattle.xw_commands.specs.declared.command.Name.TheVariants as commands;
-
-    ghost name = { λ name. word_of (commands.Light name) };
-
-    fn name(self) -> &'static str {
-        match self {
-            WithLight::Place => "place",
-            WithLight::Erase => "erase",
-            WithLight::Clue => CLUE,
-            WithLight::Words => "words",
-            WithLight::Choices => "choices",
-            WithLight::Why => "why",
-        }
-    }
-}
-
-/// The name of the command.
-impl Named for Report {
-    ghost use Rattle.xw_commands.specs.Name.{word_of};
-    ghost use Rattle.xw_commands.specs.declared.command.Name.TheVariants as commands;
-
-    ghost name = { λ report. word_of (commands.Tell report) };
-
-    fn name(self) -> &'static str {
-        match self {
-            Report::Cells => "cells",
-            Report::Counts => "counts",
-            Report::Texts => "texts",
-            Report::Stats => "stats",
-            Report::Record => "record",
-        }
-    }
-}
-
-/// The name of the command.
-impl Named for TextMode {
-    ghost use Rattle.xw_commands.specs.Name.{word_of};
-    ghost use Rattle.xw_commands.specs.declared.command.Name.TheVariants as commands;
-
-    ghost name = { λ mode. word_of (commands.Put mode) };
-
-    fn name(self) -> &'static str {
-        match self {
-            TextMode::Instead => "text",
-            TextMode::Behind => "more",
-        }
-    }
-}
-
-impl Named for Name {
-    ghost use Rattle.xw_commands.specs.Name.{word_of};
-
-    ghost name = { word_of };
-
-    fn name(self) -> &'static str {
-        match self {
-            Name::Size => "size",
-            Name::Symmetry => "sym",
-            Name::Word(name) => name.name(),
-            Name::Least => "least",
-            Name::Cell(name) => name.name(),
-            Name::Light(name) => name.name(),
-            Name::Text(field) => field.name(),
-            Name::Circles => "circles",
-            Name::Show => "show",
-            Name::Lights => "lights",
-            Name::Duplicates => "dups",
-            Name::Unlisted => "unlisted",
-            Name::Grades => "grades",
-            Name::Unmatched => "unmatched",
-            Name::Suggest => "suggest",
-            Name::Fill => "fill",
-            Name::Autofill => "autofill",
-            Name::Best => "best",
-            Name::Watch => "watch",
-            Name::Tell(report) => report.name(),
-            Name::Put(mode) => mode.name(),
         }
     }
 }

@@ -33,3 +33,8 @@ pub mod TryingLemmas
 pub mod LeastLemmas
 pub mod GradeLemmas
 pub mod ClimbLemmas
+pub mod WritingLemmas
+pub mod EntryLemmas
+pub mod ReasonLemmas
+pub mod ReasonExists
+mod ReasonExamples

@@ -13,6 +13,8 @@ pub mod Choices
 pub mod Listing
 pub mod Laws
 pub mod NamedFill
+pub mod Reason
+pub mod Sparing
 pub mod OfState
 pub mod Best
 pub mod Inner

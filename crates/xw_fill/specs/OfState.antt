@@ -12,6 +12,8 @@ use Rattle.xw_fill.specs.Suggesting
 use Rattle.xw_fill.specs.Choices
 use Rattle.xw_fill.specs.Listing
 use Rattle.xw_fill.specs.NamedFill
+use Rattle.xw_fill.specs.Reason
+use Rattle.xw_fill.specs.Sparing
 use Rattle.xw_fill.specs.declared.scan.Scan.{Scan}
 use Rattle.xw_fill.specs.declared.search.Next.{Next}
 
@@ -121,3 +123,11 @@ is_in_named named state = NamedFill.is_in_named named (position_of state)
 
 abbrev pub IsFillOf : (ℕ → Bool) → State → List (Option ℕ) → Type 0
 IsFillOf named state = NamedFill.IsFillOf named (position_of state)
+
+-- ---- reasons
+
+abbrev pub IsReason : State → ℕ → List (Option ℕ) → Type 0
+IsReason state = Reason.IsReason (position_of state)
+
+abbrev pub IsNeeded : State → ℕ → List (Option ℕ) → ℕ → Type 0
+IsNeeded state = Sparing.IsNeeded (position_of state)

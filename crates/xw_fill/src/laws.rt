@@ -7,7 +7,8 @@ ghost use Rattle.xw_fill.specs.Position.{Position};
 ghost use Rattle.xw_fill.specs.FeasibleWords.{feasible_words};
 ghost use Rattle.xw_fill.specs.Fill.{IsFill};
 ghost use Rattle.xw_fill.specs.NamedFill.{IsFillOf, IsInLights};
-ghost use Rattle.xw_fill.specs.Search.{chosen};
+ghost use Rattle.xw_fill.specs.Reason.{IsReason};
+ghost use Rattle.xw_fill.specs.Search.{chosen, lacks_words};
 ghost use Rattle.xw_fill.specs.Best.{FillsReachDown, NoneReachesUp};
 ghost use Rattle.xw_fill.specs.Laws.{IsSearched, IsChoice, FillsAreFeasible, FoundIsFill, FillIsFound, AnswerIsOne, EndIsOne};
 
@@ -56,4 +57,9 @@ pub fn all_law()
 pub fn grade_law()
     ensures fills { FillsReachDown }
     ensures none { NoneReachesUp }
+{}
+
+/// A light without a feasible word has a reason.
+pub fn reason_law()
+    ensures { (position : Position) (light : ℕ) → lacks_words position light ≡ true → (entries : List (Option ℕ)) × IsReason position light entries }
 {}

@@ -1,5 +1,5 @@
-//! Finds repeated and unlisted words, suggests words, and fills grids or named lights, also with the best words that
-//! it finds. Works over any engine that implements `Feasible`; filling needs one that implements `Searchable`.
+//! Finds repeated and unlisted words, suggests words, fills grids or named lights, also with the best words that it
+//! finds, and says why a light has no feasible word. Works over any engine that implements `Feasible`; filling needs one that implements `Searchable`.
 #![tactic(auto)]
 
 pub mod allowance;
@@ -17,6 +17,7 @@ pub mod search;
 mod stack;
 pub mod suggesting;
 mod tries;
+pub mod why;
 
 pub use allowance::Allowance;
 pub use best::{Best, BestHint, best_fill};
@@ -26,3 +27,4 @@ pub use marks::Marks;
 pub use named_lights::autofill;
 pub use search::{Filling, fill};
 pub use suggesting::{Suggestion, suggest};
+pub use why::{NoReason, reason};

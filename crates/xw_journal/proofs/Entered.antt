@@ -4,7 +4,7 @@ use Rattle.std.specs.Prelude.{◌⊎◌, Option, is_some, slice_get, if◌then�
 use Rattle.std.specs.List.{range_with_len}
 use Rattle.std.proofs.lemmas.List.{take_more, take-append-drop, drop_more, length-map}
 use Rattle.std.proofs.lemmas.Grind.{flat_map-append}
-use Rattle.xw_commands.specs.declared.command.Command.{Command}
+use Rattle.xw_commands.specs.declared.change.Change.{Change}
 use Rattle.xw_grid.specs.declared.cell.Cell.{Cell}
 use Rattle.std.proofs.lemmas.Option.{slice_get-get_or}
 use Rattle.xw_grid.specs.Grid.{Grid, cells, cell_at, cell_in, entry}
@@ -30,7 +30,7 @@ entry_before was grid entries k h below =
 
 -- ---- whether a search entered anything
 
-nothing_joined : (front rest : List Command) → front ++ rest ≡ [] → (front ≡ []) × (rest ≡ [])
+nothing_joined : (front rest : List Change) → front ++ rest ≡ [] → (front ≡ []) × (rest ≡ [])
 nothing_joined [] rest e = (refl, e)
 nothing_joined (command ∷ front) rest e = cc
 
@@ -76,7 +76,7 @@ some_at was grid cell some other none =
       by_entry (Some letter) some e = cc
 
 -- a group that is not empty
-pub group_is : (commands : List Command) → commands ≢ [] → codes "# xw begin\n" ++ (command_lines commands ++ codes "# xw end\n") ≡ grouped commands
+pub group_is : (commands : List Change) → commands ≢ [] → codes "# xw begin\n" ++ (command_lines commands ++ codes "# xw end\n") ≡ grouped commands
 group_is [] some = absurd (some refl)
 group_is (command ∷ commands) some = refl
 

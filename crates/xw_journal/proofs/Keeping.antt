@@ -4,6 +4,8 @@ use Rattle.std.specs.Prelude.{Bool, true, false, Option, Some, None, Result, Ok,
 use Rattle.xw_grid.specs.Grid.{Grid}
 use Rattle.xw_commands.specs.declared.command.Command.{Command}
 use Rattle.xw_commands.specs.declared.command.Command.TheVariants as commands
+use Rattle.xw_commands.specs.declared.search.Search.{Search}
+use Rattle.xw_commands.specs.declared.search.Search.TheVariants as searches
 use Rattle.xw_commands.specs.declared.command.LightArg.{LightArg}
 use Rattle.xw_commands.specs.declared.command.SyntaxFault.{SyntaxFault}
 use Rattle.xw_commands.specs.Command.{command_of}
@@ -28,9 +30,8 @@ use Rattle.xw_answers.specs.Text.{word_line}
 use Rattle.xw_session.specs.Autofill.{names_of, IsAutofillDue, IsAutofillReply}
 use Rattle.xw_session.specs.Best.{IsBestDue, IsBestReply}
 use Rattle.xw_session.specs.Answer.{IsDue, Replies, Answers, AnswersParsed, step_of, state_after}
-use Rattle.xw_commands.specs.declared.command.Kind.TheVariants.{Search}
-use Rattle.xw_commands.specs.Kind.{kind_of, kind_of_line}
-use Rattle.xw_journal.specs.Journal.{events_of_kind, events_of_parsed}
+use Rattle.xw_journal.specs.declared.journal.Written.TheVariants.{Letters}
+use Rattle.xw_journal.specs.Journal.{written_of}
 
 -- the grid has the size that it had before
 pub record HasSizeOf (before after : Grid) : Type 0 where
@@ -76,33 +77,28 @@ best_filled_size : (state : State) (lights : List LightArg) (reply : Reply) → 
 best_filled_size state lights reply a =
     subst (λ (r : Reply). HasSizeOf state.engine.grid r.state.engine.grid) (sym a.is) (best_size (is_named state.engine (names_of lights)) state.engine a.engine a.best a.done)
 
-search_size : (state : State) (command : Command) (reply : Reply) → kind_of command ≡ Search → (due : Result Reply Refusal) → IsDue state command due → due ≡ Ok reply → HasSizeOf state.engine.grid reply.state.engine.grid
-search_size state (commands.Fill limit) reply e due owed is = fill_size state limit reply (owed ∙ is)
-search_size state (commands.Autofill limit seed lights) reply e due owed is = autofilled_size state lights reply (subst (λ (d : Result Reply Refusal). IsAutofillDue state (names_of lights) d) is owed)
-search_size state (commands.Best limit seed lights) reply e due owed is = best_filled_size state lights reply (subst (λ (d : Result Reply Refusal). IsBestDue state (names_of lights) d) is owed)
-search_size state other reply e due owed is = cc
+search_size : (state : State) (search : Search) (reply : Reply) (due : Result Reply Refusal) → IsDue state (commands.Search search) due → due ≡ Ok reply → HasSizeOf state.engine.grid reply.state.engine.grid
+search_size state (searches.Fill limit) reply due owed is = fill_size state limit reply (owed ∙ is)
+search_size state (searches.Autofill limit seed lights) reply due owed is = autofilled_size state lights reply (subst (λ (d : Result Reply Refusal). IsAutofillDue state (names_of lights) d) is owed)
+search_size state (searches.Best limit seed lights) reply due owed is = best_filled_size state lights reply (subst (λ (d : Result Reply Refusal). IsBestDue state (names_of lights) d) is owed)
 
-accepted_size : (state : State) (command : Command) (reply : Result Reply Refusal) (after : State) → kind_of command ≡ Search → Replies state command reply → Accepted ≡ step_of reply → after ≡ state_after state reply
+accepted_size : (state : State) (search : Search) (reply : Result Reply Refusal) (after : State) → Replies state (commands.Search search) reply → Accepted ≡ step_of reply → after ≡ state_after state reply
     → HasSizeOf state.engine.grid after.engine.grid
-accepted_size state command (Ok reply) after e (due, owed, fits) step is = subst (λ (s : State). HasSizeOf state.engine.grid s.engine.grid) (sym is) (search_size state command reply e due owed fits)
-accepted_size state command (Err refusal) after e replies step is = cc
+accepted_size state search (Ok reply) after (due, owed, fits) step is = subst (λ (s : State). HasSizeOf state.engine.grid s.engine.grid) (sym is) (search_size state search reply due owed fits)
+accepted_size state search (Err refusal) after replies step is = cc
 
-parsed_size : (state after : State) (parsed : Result (Option Command) SyntaxFault) (answer : List ℕ) → kind_of_line parsed ≡ Search → AnswersParsed state parsed Accepted answer after
+parsed_size : (state after : State) (parsed : Result (Option Command) SyntaxFault) (answer : List ℕ) → written_of parsed ≡ Letters → AnswersParsed state parsed Accepted answer after
     → HasSizeOf state.engine.grid after.engine.grid
-parsed_size state after (Ok (Some command)) answer e (reply, replies, step, is, left) = accepted_size state command reply after e replies step left
+parsed_size state after (Ok (Some (commands.Search search))) answer e (reply, replies, step, is, left) = accepted_size state search reply after replies step left
+parsed_size state after (Ok (Some (commands.Ask query))) answer e said = cc
+parsed_size state after (Ok (Some (commands.Change change))) answer e said = cc
 parsed_size state after (Ok None) answer e said = cc
 parsed_size state after (Err fault) answer e said = cc
 
 -- an accepted search keeps the size of the grid
-pub searched_size : (state after : State) (line answer : List ℕ) → kind_of_line (command_of line) ≡ Search → Answers state line Accepted answer after
+pub searched_size : (state after : State) (line answer : List ℕ) → written_of (command_of line) ≡ Letters → Answers state line Accepted answer after
     → HasSizeOf state.engine.grid after.engine.grid
 searched_size state after line answer e said = parsed_size state after (command_of line) answer e said
-
--- what is written for a line is what is written for one of its kind
-pub kind_events : (parsed : Result (Option Command) SyntaxFault) (line : List ℕ) (before after : Grid) → events_of_kind (kind_of_line parsed) line before after ≡ events_of_parsed parsed line before after
-kind_events (Ok (Some command)) line before after = refl
-kind_events (Ok None) line before after = refl
-kind_events (Err fault) line before after = refl
 
 -- a line whose answer was not finished was executed
 pub broken_done : (state after : State) (line : List ℕ) (fault : AnswerFault) (old new : List ℕ) → broken_by Answers NeverStops fault state line after old new → MayBeDone state line after

@@ -1,7 +1,7 @@
 -- Groups of lines, which are executed as a whole: a comment, commands, and another comment.
 use Rattle.std.specs.Prelude.{ℕ, Bool, not, ◌&&◌, List, [], ◌∷◌, ◌++◌, Option, Some, None, codes, if◌then◌else◌, bytes_eq}
 use Rattle.std.specs.List.{list_any}
-use Rattle.xw_commands.specs.declared.command.Command.{Command}
+use Rattle.xw_commands.specs.declared.change.Change.{Change}
 use Rattle.xw_answers.specs.Record.{command_lines}
 
 -- the comment before a group
@@ -13,7 +13,7 @@ abbrev pub end_line : List ℕ
 end_line = codes "# xw end"
 
 -- commands as a group; nothing if there are none
-abbrev pub grouped : List Command → List ℕ
+abbrev pub grouped : List Change → List ℕ
 grouped [] = []
 grouped (command ∷ commands) = codes "# xw begin\n" ++ (command_lines (command ∷ commands) ++ codes "# xw end\n")
 

@@ -8,15 +8,16 @@ use Rattle.xw_lines.specs.declared.outcome.Step.{Step}
 use Rattle.xw_lines.specs.declared.outcome.Step.TheVariants.{Accepted, Silent}
 use Rattle.xw_commands.specs.Command.{command_of}
 use Rattle.xw_commands.specs.declared.command.Command.{Command}
-use Rattle.xw_commands.specs.declared.command.Kind.{Kind}
-use Rattle.xw_commands.specs.declared.command.Kind.TheVariants.{Query, Change, Search}
-use Rattle.xw_commands.specs.Kind.{kind_of}
+use Rattle.xw_commands.specs.declared.command.Command.TheVariants as commands
 use Rattle.xw_commands.specs.declared.command.SyntaxFault.{SyntaxFault}
+use Rattle.xw_commands.specs.declared.change.Change.{Change}
 use Rattle.xw_session.specs.Answer.{Answers}
 use Rattle.xw_answers.specs.Record.{letter_commands}
 use Rattle.xw_session.specs.State.{State}
 use Rattle.xw_session.specs.Resuming.{MayBeDone}
 use Rattle.xw_journal.specs.Group.{grouped}
+use Rattle.xw_journal.specs.declared.journal.Written.{Written}
+use Rattle.xw_journal.specs.declared.journal.Written.TheVariants.{Nothing, Line, Letters}
 use Rattle.xw_journal.specs.declared.cause.Cause.{Cause}
 use Rattle.xw_journal.specs.declared.cause.Cause.TheVariants.{Journal, Memory}
 
@@ -28,11 +29,11 @@ is_same_entry (Some letter) (Some other) = nat_eq letter other
 is_same_entry one other = false
 
 -- the command that enters the letter of a cell, if the cell had another entry before
-abbrev pub entered_at : Grid → Grid → Cell → List Command
+abbrev pub entered_at : Grid → Grid → Cell → List Change
 entered_at before after cell = if is_same_entry (entry before cell) (entry after cell) then [] else letter_commands cell (entry after cell)
 
 -- the letters that are new in a grid, in reading order, as commands
-abbrev pub entered_commands : Grid → Grid → List Command
+abbrev pub entered_commands : Grid → Grid → List Change
 entered_commands before after = flat_map (entered_at before after) (cells after)
 
 -- the entries of all cells in reading order
@@ -47,42 +48,40 @@ pub record HasEntriesBefore (before after : Grid) (entries : List (Option ℕ)) 
 
 -- ---- what is written to the journal
 
--- the text that replays the change: each line ends with an LF
-abbrev pub text_of_kind : Kind → List ℕ → Grid → Grid → List ℕ
-text_of_kind Query line before after = []
-text_of_kind Change line before after = line ++ 10 ∷ []
-text_of_kind Search line before after = grouped (entered_commands before after)
+-- what is written of a parsed line, if it is accepted
+abbrev pub written_of : Result (Option Command) SyntaxFault → Written
+written_of (Ok (Some (commands.Change change))) = Line
+written_of (Ok (Some (commands.Search search))) = Letters
+written_of other = Nothing
 
-abbrev pub text_of_parsed : Result (Option Command) SyntaxFault → List ℕ → Grid → Grid → List ℕ
-text_of_parsed (Ok (Some command)) line before after = text_of_kind (kind_of command) line before after
-text_of_parsed other line before after = []
+-- the text that replays the change: each line ends with an LF
+abbrev pub text_of : Written → List ℕ → Grid → Grid → List ℕ
+text_of Nothing line before after = []
+text_of Line line before after = line ++ 10 ∷ []
+text_of Letters line before after = grouped (entered_commands before after)
 
 -- the text for a line, from the grids before and after it: empty unless the line was accepted and changes the session
 abbrev pub journal_text : Grid → List ℕ → Step → Grid → List ℕ
-journal_text before line Accepted after = text_of_parsed (command_of line) line before after
+journal_text before line Accepted after = text_of (written_of (command_of line)) line before after
 journal_text before line other after = []
 
 -- a text as the journal takes it: each change, and each search, ends with a flush
-abbrev pub taken : Kind → List ℕ → List ℕ
-taken Query text = []
-taken Change text = text ++ flushed ∷ []
-taken Search text = text ++ flushed ∷ []
+abbrev pub taken : Written → List ℕ → List ℕ
+taken Nothing text = []
+taken Line text = text ++ flushed ∷ []
+taken Letters text = text ++ flushed ∷ []
 
 -- the entries that were kept before a search are those of an earlier grid
-abbrev pub WereKept : Kind → Grid → Grid → List (Option ℕ) → Type 0
-WereKept kind before after entries = kind ≡ Search → HasEntriesBefore before after entries
+abbrev pub WereKept : Written → Grid → Grid → List (Option ℕ) → Type 0
+WereKept written before after entries = written ≡ Letters → HasEntriesBefore before after entries
 
--- the text for a line of this kind, with its flush
-abbrev pub events_of_kind : Kind → List ℕ → Grid → Grid → List ℕ
-events_of_kind kind line before after = taken kind (text_of_kind kind line before after)
-
-abbrev pub events_of_parsed : Result (Option Command) SyntaxFault → List ℕ → Grid → Grid → List ℕ
-events_of_parsed (Ok (Some command)) line before after = events_of_kind (kind_of command) line before after
-events_of_parsed other line before after = []
+-- the text with its flush
+abbrev pub events_of : Written → List ℕ → Grid → Grid → List ℕ
+events_of written line before after = taken written (text_of written line before after)
 
 -- the text for a line with its flush
 abbrev pub journal_events : Grid → List ℕ → Step → Grid → List ℕ
-journal_events before line Accepted after = events_of_parsed (command_of line) line before after
+journal_events before line Accepted after = events_of (written_of (command_of line)) line before after
 journal_events before line other after = []
 
 -- ---- a session with its journal

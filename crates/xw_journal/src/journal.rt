@@ -7,16 +7,38 @@ ghost use Rattle.xw_lines.specs.Device.{flushed};
 ghost use Rattle.xw_lines.specs.Sends.{Sends};
 ghost use Rattle.xw_answers.specs.Record.{command_lines, letter_commands};
 ghost use Rattle.xw_journal.specs.Group.{grouped};
-ghost use Rattle.xw_commands.specs.Kind.{kind_of_line};
-ghost use Rattle.xw_journal.specs.Journal.{entered_commands, events_of_kind, journal_events, HasEntriesBefore, WereKept};
+ghost use Rattle.xw_journal.specs.Journal.{entered_commands, written_of as written_of_line, events_of, journal_events, HasEntriesBefore, WereKept};
 
 use crate::entries::Entries;
 use crate::group::{BEGIN, END};
 use xw_answers::record::write_letter;
-use xw_commands::command::Kind;
+use xw_commands::Command;
+use xw_commands::command::SyntaxFault;
 use xw_grid::{Cell, Grid};
 use xw_lines::device::{self, Sink, WriteFailed};
 use xw_lines::outcome::Step;
+
+/// What is written of an accepted line.
+#[derive(Clone, Copy, Debug, PartialEq, Eq)]
+pub enum Written {
+    /// Nothing, since the line changes nothing.
+    Nothing,
+    /// The line itself.
+    Line,
+    /// The letters that a search entered.
+    Letters,
+}
+
+/// Returns what is written of a parsed line, if it is accepted.
+pub fn written_of(parsed: &Result<Option<Command<'_>>, SyntaxFault>) -> Written
+    ensures { result ≡ written_of_line parsed.now }
+{
+    match parsed {
+        Ok(Some(Command::Change(_))) => Written::Line,
+        Ok(Some(Command::Search(_))) => Written::Letters,
+        Ok(Some(Command::Ask(_)) | None) | Err(_) => Written::Nothing,
+    }
+}
 
 /// Writes the command that enters the letter of a cell, unless the cell has the entry that it had before.
 fn write_unless<J: Sink>(
@@ -90,17 +112,17 @@ fn write_line<J: Sink>(journal: &mut J, line: &[u8]) -> Result<(), WriteFailed>
 /// Writes the text of an accepted line to the journal, and flushes it, unless the line changes nothing.
 fn keep<J: Sink>(
     journal: &mut J,
-    kind: Kind,
+    written: Written,
     line: &[u8],
     before: &Entries,
     grid: &Grid,
 ) -> Result<(), WriteFailed>
-    ensures { (was : AnyGrid) → WereKept kind was grid.now before.now → Sends J.transcript J.failures journal.old journal.new result (events_of_kind kind line.now was grid.now) }
+    ensures { (was : AnyGrid) → WereKept written was grid.now before.now → Sends J.transcript J.failures journal.old journal.new result (events_of written line.now was grid.now) }
 {
-    match kind {
-        Kind::Query => return Ok(()),
-        Kind::Change => write_line(journal, line)?,
-        Kind::Search => write_group(journal, before, grid)?,
+    match written {
+        Written::Nothing => return Ok(()),
+        Written::Line => write_line(journal, line)?,
+        Written::Letters => write_group(journal, before, grid)?,
     }
     flush(journal)
 }
@@ -109,18 +131,18 @@ fn keep<J: Sink>(
 pub fn keep_accepted<J: Sink>(
     journal: &mut J,
     step: Step,
-    kind: Kind,
+    written: Written,
     line: Option<&[u8]>,
     before: &Entries,
     grid: &Grid,
 ) -> Result<(), WriteFailed>
     ensures events { (was : AnyGrid) (whole : List ℕ) → held whole ≡ option_map (λ bytes. bytes.now) line.entry
-        → kind ≡ kind_of_line (command_of whole) → (kind ≡ Kind.Search → step ≡ Step.Accepted → HasEntriesBefore was grid.now before.now)
+        → written ≡ written_of_line (command_of whole) → (written ≡ Written.Letters → step ≡ Step.Accepted → HasEntriesBefore was grid.now before.now)
         → Sends J.transcript J.failures journal.old journal.new result (journal_events was whole step grid.now) }
     ensures accepted { OnErr result (step ≡ Step.Accepted) }
 {
     match (step, line) {
-        (Step::Accepted, Some(line)) => keep(journal, kind, line, before, grid),
+        (Step::Accepted, Some(line)) => keep(journal, written, line, before, grid),
         _ => Ok(()),
     }
 }

@@ -6,10 +6,10 @@ ghost use Rattle.xw_journal.specs.Journal.{AnswersJournaled, StopsAtJournal, IsE
 
 use crate::cause::Cause;
 use crate::entries::Entries;
-use crate::journal::keep_accepted;
+use crate::journal::{Written, keep_accepted, written_of};
 use std::alloc::{AllocError, Global};
 use std::marker::Model;
-use xw_commands::command::{Kind, kind_of_parsed, parse_held};
+use xw_commands::command::parse_held;
 use xw_feas::feasible::Feasible;
 use xw_feas::searchable::Searchable;
 use xw_lines::device::{self, Sink, Source};
@@ -124,15 +124,15 @@ fn execute<E: Searchable, J: Sink>(
         (option_map (λ bytes. bytes.now) line.entry) why (journaled_state session.new (J.transcript journal.new) (J.failures journal.new) later)) }
 {
     let parsed = parse_held(line);
-    let kind = kind_of_parsed(&parsed);
-    if kind == Kind::Search {
+    let written = written_of(&parsed);
+    if written == Written::Letters {
         before.copy(session.grid());
     }
     answer.clear();
     let Ok(step) = session.execute(parsed, answer) else {
         return Err(Cause::Memory);
     };
-    match keep_accepted(journal, step, kind, line, before, session.grid()) {
+    match keep_accepted(journal, step, written, line, before, session.grid()) {
         Ok(()) => Ok(step),
         Err(_) => Err(Cause::Journal),
     }

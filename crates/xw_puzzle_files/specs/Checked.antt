@@ -3,17 +3,15 @@ use Rattle.std.specs.Prelude.{◌≡◌, ◌⊎◌, ◌++◌, ℕ, Bool, true, f
 use Rattle.xw_grid.specs.Grid.{Grid}
 use Rattle.xw_grid.specs.Light.{lights_of}
 use Rattle.xw_grid.specs.Puzzle.{PuzzleShown}
-use Rattle.xw_files.specs.Formats.{IsRead}
 use Rattle.xw_files.specs.declared.kind.Kind.{Kind}
 use Rattle.xw_files.specs.declared.kind.Kind.TheVariants.{Puz, Text}
-use Rattle.xw_lines.specs.Device.{Begins, HasFailed, flushed}
-use Rattle.xw_disk.specs.Disk.{Event, read}
 use Rattle.xw_puzzle_files.specs.declared.failure.Failure.{Failure}
 use Rattle.xw_puzzle_files.specs.declared.failure.Failure.TheVariants as failures
 use Rattle.xw_puzzle_files.specs.declared.failure.Status.{Status}
 use Rattle.xw_puzzle_files.specs.declared.failure.Status.TheVariants.{Accepted}
-use Rattle.xw_puzzle_files.specs.Explained.{GoesOut, IsMessage}
-use Rattle.xw_puzzle_files.specs.Files.{Asks, IsRebusTold, IsUnread}
+use Rattle.xw_puzzle_files.specs.Desk.{FailsToShow, Moment, Reports, Shows}
+use Rattle.xw_puzzle_files.specs.Explained.{IsMessage}
+use Rattle.xw_puzzle_files.specs.Files.{IsFound, IsUnread}
 use Rattle.xw_puzzle_files.specs.Status.{code_of, status_of}
 
 -- ---- one file
@@ -35,32 +33,30 @@ abbrev pub line_start : Bool → List ℕ → List ℕ
 line_start true name = name ++ codes ": "
 line_start false name = []
 
--- The file with this name was read, rebus cells in it are reported, and the puzzle that its bytes mean is described in a
--- line, which is flushed.
-pub record IsChecked {E : Type 0} (transcript : E → List ℕ) (reports : E → ℕ) (is_named : Bool) (name : List ℕ) (old new : List Event) (told told' : List ℕ) (errors errors' : E) : Type 0 where
+-- the line of a file
+abbrev pub line_of : Bool → List ℕ → Kind → PuzzleShown → List ℕ
+line_of is_named name kind puzzle = line_start is_named name ++ described kind puzzle.grid
+
+-- The file with this name was read, and the puzzle that its bytes mean is described in a line.
+pub record IsChecked (is_named : Bool) (name : List ℕ) (old new : Moment) : Type 0 where
   pub kind : Kind
-  pub bytes : List ℕ
   pub puzzle : PuzzleShown
-  pub asks : Asks (read name (Ok bytes)) old new
-  pub means : IsRead kind bytes puzzle
-  pub rebus : IsRebusTold transcript reports name kind bytes errors errors'
-  pub line : told' ≡ told ++ ((line_start is_named name ++ described kind puzzle.grid) ++ flushed ∷ [])
+  pub mid : Moment
+  pub found : IsFound name kind puzzle old mid
+  pub shows : Shows (line_of is_named name kind puzzle) mid new
 
 -- The file with this name was read. The line for its puzzle could not be allocated, or the output failed after a part
 -- of it.
-pub record IsNotShown {E : Type 0} (transcript : E → List ℕ) (reports : E → ℕ) (is_named : Bool) (name : List ℕ) (failure : Failure) (old new : List Event) (told told' : List ℕ) (failed failed' : ℕ) (errors errors' : E) : Type 0 where
+pub record IsNotShown (is_named : Bool) (name : List ℕ) (failure : Failure) (old new : Moment) : Type 0 where
   pub kind : Kind
-  pub bytes : List ℕ
   pub puzzle : PuzzleShown
-  pub asks : Asks (read name (Ok bytes)) old new
-  pub means : IsRead kind bytes puzzle
-  pub rebus : IsRebusTold transcript reports name kind bytes errors errors'
-  pub why : ((failure ≡ failures.Memory) × (told' ≡ told)) ⊎ ((failure ≡ failures.Output) × HasFailed failed failed' × Begins told told' ((line_start is_named name ++ described kind puzzle.grid) ++ flushed ∷ []))
+  pub mid : Moment
+  pub found : IsFound name kind puzzle old mid
+  pub why : ((failure ≡ failures.Memory) × (new ≡ mid)) ⊎ ((failure ≡ failures.Output) × FailsToShow (line_of is_named name kind puzzle) mid new)
 
 -- why a file is not checked
-abbrev pub IsUnchecked : {E : Type 0} → (E → List ℕ) → (E → ℕ) → Bool → List ℕ → Bool → Failure → List Event → List Event → List ℕ → List ℕ → ℕ → ℕ → E → E → Type 0
-IsUnchecked transcript reports is_named name explain failure old new told told' failed failed' errors errors' =
-    (IsUnread name explain failure old new × (told' ≡ told) × (errors' ≡ errors)) ⊎ IsNotShown transcript reports is_named name failure old new told told' failed failed' errors errors'
+abbrev pub IsUnchecked : Bool → List ℕ → Failure → Moment → Moment → Type 0
+IsUnchecked is_named name failure old new = IsUnread name failure old new ⊎ IsNotShown is_named name failure old new
 
 -- ---- several files
 
@@ -71,29 +67,25 @@ ends_call failures.Memory = true
 ends_call failure = false
 
 -- One of several files is not checked, and this is reported, with nothing else. The call goes on.
-pub record IsToldUnchecked {E : Type 0} (transcript : E → List ℕ) (reports : E → ℕ) (name : List ℕ) (status : Status) (explain : Bool) (old new : List Event) (told told' : List ℕ) (errors errors' : E) : Type 0 where
+pub record IsToldUnchecked (name : List ℕ) (status : Status) (old new : Moment) : Type 0 where
   pub failure : Failure
   pub goes_on : ends_call failure ≡ false
-  pub unread : IsUnread name explain failure old new
-  pub unshown : told' ≡ told
+  pub mid : Moment
+  pub unread : IsUnread name failure old mid
   pub status_is : status ≡ status_of failure
   pub message : List ℕ
-  pub is_message : IsMessage explain failure message
-  pub goes_out : GoesOut transcript reports errors errors' message
+  pub is_message : IsMessage mid.explains failure message
+  pub reports : Reports message mid new
 
 -- One of several files is checked in its turn, with this status: its line has its name, or the failure is reported.
-abbrev pub IsCheckedInTurn : {E : Type 0} → (E → List ℕ) → (E → ℕ) → List ℕ → Status → Bool → List Event → List Event → List ℕ → List ℕ → E → E → Type 0
-IsCheckedInTurn transcript reports name status explain old new told told' errors errors' =
-    ((status ≡ Accepted) × IsChecked transcript reports true name old new told told' errors errors')
-    ⊎ IsToldUnchecked transcript reports name status explain old new told told' errors errors'
+abbrev pub IsCheckedInTurn : List ℕ → Status → Moment → Moment → Type 0
+IsCheckedInTurn name status old new = ((status ≡ Accepted) × IsChecked true name old new) ⊎ IsToldUnchecked name status old new
 
 -- The files with these names are checked one after another, with these statuses.
-abbrev pub AreChecked : {E : Type 0} → (E → List ℕ) → (E → ℕ) → List (List ℕ) → List Status → Bool → List Event → List Event → List ℕ → List ℕ → E → E → Type 0
-AreChecked transcript reports [] [] explain old new told told' errors errors' = (new ≡ old) × (told' ≡ told) × (errors' ≡ errors)
-AreChecked {E} transcript reports (name ∷ names) (status ∷ statuses) explain old new told told' errors errors' =
-    (mid : List Event) × (shown : List ℕ) × (reported : E) × IsCheckedInTurn transcript reports name status explain old mid told shown errors reported
-    × AreChecked transcript reports names statuses explain mid new shown told' reported errors'
-AreChecked transcript reports names statuses explain old new told told' errors errors' = ⊥
+abbrev pub AreChecked : List (List ℕ) → List Status → Moment → Moment → Type 0
+AreChecked [] [] old new = new ≡ old
+AreChecked (name ∷ names) (status ∷ statuses) old new = (mid : Moment) × IsCheckedInTurn name status old mid × AreChecked names statuses mid new
+AreChecked names statuses old new = ⊥
 
 -- the greater of two statuses
 abbrev pub greater : Status → Status → Status
@@ -101,35 +93,31 @@ greater first second = if nat_lt (code_of first) (code_of second) then second el
 
 -- One of several files ends the call: it is not checked because the output or an allocation failed, or because the
 -- message for its failure could not be allocated.
-abbrev pub EndsCheck : {E : Type 0} → (E → List ℕ) → (E → ℕ) → List ℕ → Bool → Failure → List Event → List Event → List ℕ → List ℕ → ℕ → ℕ → E → E → Type 0
-EndsCheck transcript reports name explain failure old new told told' failed failed' errors errors' =
-    ((ends_call failure ≡ true) × IsUnchecked transcript reports true name explain failure old new told told' failed failed' errors errors')
-    ⊎ ((failure ≡ failures.Memory) × (told' ≡ told) × (errors' ≡ errors) × (untold : Failure) × IsUnread name explain untold old new)
+abbrev pub EndsCheck : List ℕ → Failure → Moment → Moment → Type 0
+EndsCheck name failure old new =
+    ((ends_call failure ≡ true) × IsUnchecked true name failure old new)
+    ⊎ ((failure ≡ failures.Memory) × (untold : Failure) × IsUnread name untold old new)
 
 -- The call ends at one of the files, and those before it are checked.
-pub record IsUncheckedAmong {E : Type 0} (transcript : E → List ℕ) (reports : E → ℕ) (names : List (List ℕ)) (explain : Bool) (failure : Failure) (old new : List Event) (told told' : List ℕ) (failed failed' : ℕ) (errors errors' : E) : Type 0 where
+pub record IsUncheckedAmong (names : List (List ℕ)) (failure : Failure) (old new : Moment) : Type 0 where
   pub before : List (List ℕ)
   pub name : List ℕ
   pub after : List (List ℕ)
   pub are : names ≡ before ++ name ∷ after
   pub statuses : List Status
-  pub mid : List Event
-  pub shown : List ℕ
-  pub reported : E
-  pub checked : AreChecked transcript reports before statuses explain old mid told shown errors reported
-  pub ends : EndsCheck transcript reports name explain failure mid new shown told' failed failed' reported errors'
+  pub mid : Moment
+  pub checked : AreChecked before statuses old mid
+  pub ends : EndsCheck name failure mid new
 
 -- how several files are checked: the status is the greatest
-abbrev pub AreAllChecked : {E : Type 0} → (E → List ℕ) → (E → ℕ) → List (List ℕ) → Bool → Result Status Failure → List Event → List Event → List ℕ → List ℕ → ℕ → ℕ → E → E → Type 0
-AreAllChecked transcript reports names explain (Ok status) old new told told' failed failed' errors errors' =
-    (statuses : List Status) × (status ≡ fold greater Accepted statuses) × AreChecked transcript reports names statuses explain old new told told' errors errors'
-AreAllChecked transcript reports names explain (Err failure) old new told told' failed failed' errors errors' =
-    IsUncheckedAmong transcript reports names explain failure old new told told' failed failed' errors errors'
+abbrev pub AreAllChecked : List (List ℕ) → Result Status Failure → Moment → Moment → Type 0
+AreAllChecked names (Ok status) old new = (statuses : List Status) × (status ≡ fold greater Accepted statuses) × AreChecked names statuses old new
+AreAllChecked names (Err failure) old new = IsUncheckedAmong names failure old new
 
 -- ---- a call
 
 -- how the files with these names are checked: one file without its name, and several with their names
-abbrev pub IsCheckOf : {E : Type 0} → (E → List ℕ) → (E → ℕ) → List (List ℕ) → Bool → Result Status Failure → List Event → List Event → List ℕ → List ℕ → ℕ → ℕ → E → E → Type 0
-IsCheckOf transcript reports (name ∷ []) explain (Ok status) old new told told' failed failed' errors errors' = (status ≡ Accepted) × IsChecked transcript reports false name old new told told' errors errors'
-IsCheckOf transcript reports (name ∷ []) explain (Err failure) old new told told' failed failed' errors errors' = IsUnchecked transcript reports false name explain failure old new told told' failed failed' errors errors'
-IsCheckOf transcript reports names explain result old new told told' failed failed' errors errors' = AreAllChecked transcript reports names explain result old new told told' failed failed' errors errors'
+abbrev pub IsCheckOf : List (List ℕ) → Result Status Failure → Moment → Moment → Type 0
+IsCheckOf (name ∷ []) (Ok status) old new = (status ≡ Accepted) × IsChecked false name old new
+IsCheckOf (name ∷ []) (Err failure) old new = IsUnchecked false name failure old new
+IsCheckOf names result old new = AreAllChecked names result old new

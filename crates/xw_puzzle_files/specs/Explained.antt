@@ -2,7 +2,7 @@
 use Rattle.std.specs.Prelude.{◌≡◌, ◌⊎◌, ◌++◌, ◌&&◌, ℕ, Bool, true, false, List, [], ◌∷◌, codes}
 use Rattle.xw_arguments.specs.declared.arguments.Usage.{Usage}
 use Rattle.xw_arguments.specs.declared.arguments.Usage.TheVariants.{Help, Wrong, Memory}
-use Rattle.xw_lines.specs.Device.{HasFailed, flushed}
+use Rattle.xw_puzzle_files.specs.Desk.{FailsToShow, Moment, Reports, Shows}
 use Rattle.xw_puzzle_files.specs.Status.{status_of}
 use Rattle.xw_puzzle_files.specs.Sentences.{sentence_if}
 use Rattle.xw_puzzle_files.specs.Told.{failure_text}
@@ -12,22 +12,25 @@ use Rattle.xw_puzzle_files.specs.declared.failure.Status.{Status}
 use Rattle.xw_puzzle_files.specs.declared.failure.Status.TheVariants.{Accepted, Failed}
 use Rattle.xw_puzzle_files.specs.declared.failure.Status.TheVariants as statuses
 
--- For Help either the whole text is written and flushed, or the writer failed. For Wrong and Memory nothing is written
--- to this writer. The arguments are the writer's ghost functions, the usage, the writer before and after, and the
--- status.
-abbrev pub IsExplained : {S : Type 0} → (S → List ℕ) → (S → ℕ) → Usage → S → S → Status → Type 0
-IsExplained transcript failures (Help text) old new status = ((status ≡ Accepted) × (transcript new ≡ transcript old ++ text.bytes.items ++ flushed ∷ [])) ⊎ ((status ≡ Failed) × HasFailed (failures old) (failures new))
-IsExplained transcript failures (Wrong text) old new status = (status ≡ statuses.Usage) × (new ≡ old)
-IsExplained transcript failures Memory old new status = (status ≡ Failed) × (new ≡ old)
+-- a fault of the output is reported, unless its reader is gone
+abbrev pub TellsOutputFault : Bool → Moment → Moment → Type 0
+TellsOutputFault true old new = new ≡ old
+TellsOutputFault false old new = Reports (codes "xw: output fault\n") old new
 
--- help has no message if the reader of the output is gone
-abbrev pub IsSilentHelp : {S : Type 0} → Usage → Bool → S → S → Type 0
-IsSilentHelp (Help text) true old new = new ≡ old
-IsSilentHelp usage closed old new = Unit {0}
+-- Help was not shown: the output failed, and this is reported, unless its reader is gone.
+pub record IsHelpLost (text : List ℕ) (old new : Moment) : Type 0 where
+  pub mid : Moment
+  pub fails : FailsToShow text old mid
+  pub told : TellsOutputFault mid.is_closed mid new
 
--- the text was written, or a write failed
-abbrev pub GoesOut : {S : Type 0} → (S → List ℕ) → (S → ℕ) → S → S → List ℕ → Type 0
-GoesOut transcript failures old new text = (transcript new ≡ transcript old ++ text) ⊎ HasFailed (failures old) (failures new)
+abbrev pub IsHelp : List ℕ → Moment → Moment → Status → Type 0
+IsHelp text old new status = ((status ≡ Accepted) × Shows text old new) ⊎ ((status ≡ Failed) × IsHelpLost text old new)
+
+-- help is shown, or is lost; an error of usage is reported
+abbrev pub IsExplained : Usage → Moment → Moment → Status → Type 0
+IsExplained (Help text) old new status = IsHelp text.bytes.items old new status
+IsExplained (Wrong text) old new status = (status ≡ statuses.Usage) × Reports text.bytes.items old new
+IsExplained Memory old new status = (status ≡ Failed) × Reports (codes "xw: memory\n") old new
 
 -- the report of a file with rebus cells
 abbrev pub rebus_line : List ℕ → List ℕ
@@ -52,10 +55,10 @@ IsMessage explain failure text = (reason : List ℕ) × IsReason (explain && is_
 
 -- The message of the failure is written, and the status is that of the failure. Or the message could not be allocated,
 -- and this is reported instead, with its status.
-abbrev pub IsTold : {S : Type 0} → (S → List ℕ) → (S → ℕ) → Bool → Failure → S → S → Status → Type 0
-IsTold transcript failures explain failure old new status =
-    ((text : List ℕ) × IsMessage explain failure text × (status ≡ status_of failure) × GoesOut transcript failures old new text)
-    ⊎ ((status ≡ Failed) × GoesOut transcript failures old new (codes "xw: memory\n"))
+abbrev pub IsTold : Failure → Moment → Moment → Status → Type 0
+IsTold failure old new status =
+    ((text : List ℕ) × IsMessage old.explains failure text × (status ≡ status_of failure) × Reports text old new)
+    ⊎ ((status ≡ Failed) × Reports (codes "xw: memory\n") old new)
 
 -- a failure has no message if it is one of the output, whose reader is gone
 abbrev pub is_quiet : Failure → Bool → Bool
@@ -63,6 +66,9 @@ is_quiet faults.Output closed = closed
 is_quiet failure closed = false
 
 -- a quiet failure has no message; any other has one
-abbrev pub IsReported : {S : Type 0} → (S → List ℕ) → (S → ℕ) → Bool → Bool → Failure → S → S → Status → Type 0
-IsReported transcript failures true explain failure old new status = (status ≡ Failed) × (new ≡ old)
-IsReported transcript failures false explain failure old new status = IsTold transcript failures explain failure old new status
+abbrev pub IsReportedIf : Bool → Failure → Moment → Moment → Status → Type 0
+IsReportedIf true failure old new status = (status ≡ Failed) × (new ≡ old)
+IsReportedIf false failure old new status = IsTold failure old new status
+
+abbrev pub IsReported : Failure → Moment → Moment → Status → Type 0
+IsReported failure old new status = IsReportedIf (is_quiet failure old.is_closed) failure old new status

@@ -7,7 +7,7 @@ use Rattle.xw_grid.specs.Puzzle.{PuzzleShown}
 use Rattle.xw_files.specs.FaultNames.{read_fault_name, write_fault_name}
 use Rattle.xw_files.specs.Puz.Sections.{Section}
 use Rattle.xw_files.specs.Puz.Rebus.{HasSections, is_rebus}
-use Rattle.xw_files.specs.Formats.{HasFormat, IsFirstFault, written_as}
+use Rattle.xw_files.specs.Formats.{HasFormat, IsFirstFault, IsRead, written_as}
 use Rattle.xw_files.specs.declared.fault.ReadFault.{ReadFault}
 use Rattle.xw_files.specs.declared.fault.WriteFault.{WriteFault}
 use Rattle.xw_files.specs.declared.kind.Kind.{Kind}
@@ -15,18 +15,13 @@ use Rattle.xw_files.specs.declared.kind.Kind.TheVariants.{Puz, Text}
 use Rattle.xw_puzzle_files.specs.declared.failure.Failure.{Failure}
 use Rattle.xw_puzzle_files.specs.declared.failure.Failure.TheVariants as failures
 use Rattle.xw_puzzle_files.specs.declared.location.Location.{Location}
-use Rattle.xw_disk.specs.Disk.{Event, read, replace}
+use Rattle.xw_disk.specs.Disk.{read, replace}
 use Rattle.xw_disk.specs.declared.disk.DiskFault.{DiskFault}
+use Rattle.xw_puzzle_files.specs.Desk.{Asks, Moment, Reports, ReportsIf}
 use Rattle.xw_puzzle_files.specs.Told.{IsFaultOf}
-use Rattle.xw_puzzle_files.specs.Explained.{GoesOut, rebus_line}
+use Rattle.xw_puzzle_files.specs.Explained.{rebus_line}
 use Rattle.xw_puzzle_files.specs.Names.{HasEnding, IsKindNamed}
 use Rattle.xw_puzzle_files.specs.Locations.{read_location, write_location}
-
--- ---- steps on the disk
-
--- the disk was asked this, and nothing else
-abbrev pub Asks : Event → List Event → List Event → Type 0
-Asks event old new = new ≡ old ++ event ∷ []
 
 -- ---- failures
 
@@ -49,7 +44,7 @@ location_if false location = None
 -- ---- reading a file
 
 -- The file with this name was to be read, and was not.
-pub record IsUnreadFile (name : List ℕ) (failure : Failure) (old new : List Event) : Type 0 where
+pub record IsUnreadFile (name : List ℕ) (failure : Failure) (old new : Moment) : Type 0 where
   pub fault : DiskFault
   pub told : IsFaultOf fault name failure
   pub asks : Asks (read name (Err fault)) old new
@@ -66,29 +61,32 @@ pub record IsMalformed (name : List ℕ) (explain : Bool) (bytes : List ℕ) (fa
   pub told : IsFileFault name (read_fault_name fault) (location_if explain (read_location bytes fault)) failure
 
 -- The file with this name was read, and its bytes are malformed, or an allocation failed.
-pub record IsBadPuzzle (name : List ℕ) (explain : Bool) (failure : Failure) (old new : List Event) : Type 0 where
+pub record IsBadPuzzle (name : List ℕ) (failure : Failure) (old new : Moment) : Type 0 where
   pub bytes : List ℕ
   pub asks : Asks (read name (Ok bytes)) old new
-  pub told : (failure ≡ failures.Memory) ⊎ IsMalformed name explain bytes failure
+  pub told : (failure ≡ failures.Memory) ⊎ IsMalformed name old.explains bytes failure
 
 -- why the puzzle file with this name is not read
-abbrev pub IsUnread : List ℕ → Bool → Failure → List Event → List Event → Type 0
-IsUnread name explain failure old new = IsUnreadFile name failure old new ⊎ IsBadPuzzle name explain failure old new
-
--- the report is written if there are rebus cells, and otherwise nothing is
-abbrev pub IsToldIf : {S : Type 0} → (S → List ℕ) → (S → ℕ) → List ℕ → Bool → S → S → Type 0
-IsToldIf transcript failures name true old new = GoesOut transcript failures old new (rebus_line name)
-IsToldIf transcript failures name false old new = new ≡ old
+abbrev pub IsUnread : List ℕ → Failure → Moment → Moment → Type 0
+IsUnread name failure old new = IsUnreadFile name failure old new ⊎ IsBadPuzzle name failure old new
 
 -- rebus cells of a `.puz` file are reported, and nothing else
-abbrev pub IsRebusTold : {S : Type 0} → (S → List ℕ) → (S → ℕ) → List ℕ → Kind → List ℕ → S → S → Type 0
-IsRebusTold transcript failures name Puz bytes old new = (sections : List Section) → HasSections bytes sections → IsToldIf transcript failures name (list_any is_rebus sections) old new
-IsRebusTold transcript failures name Text bytes old new = new ≡ old
+abbrev pub IsRebusTold : List ℕ → Kind → List ℕ → Moment → Moment → Type 0
+IsRebusTold name Puz bytes old new = (sections : List Section) → HasSections bytes sections → ReportsIf (list_any is_rebus sections) (rebus_line name) old new
+IsRebusTold name Text bytes old new = new ≡ old
+
+-- The file with this name was read, its bytes mean this puzzle in this format, and rebus cells in it are reported.
+pub record IsFound (name : List ℕ) (kind : Kind) (puzzle : PuzzleShown) (old new : Moment) : Type 0 where
+  pub bytes : List ℕ
+  pub mid : Moment
+  pub asks : Asks (read name (Ok bytes)) old mid
+  pub means : IsRead kind bytes puzzle
+  pub rebus : IsRebusTold name kind bytes mid new
 
 -- ---- writing a file
 
 -- The file with this name was to have these bytes, and was not replaced.
-pub record IsUnreplaced (name bytes : List ℕ) (failure : Failure) (old new : List Event) : Type 0 where
+pub record IsUnreplaced (name bytes : List ℕ) (failure : Failure) (old new : Moment) : Type 0 where
   pub fault : DiskFault
   pub told : IsFaultOf fault name failure
   pub asks : Asks (replace name bytes (Err fault)) old new
@@ -111,25 +109,25 @@ pub record IsUnfit (name : List ℕ) (explain : Bool) (puzzle : PuzzleShown) (fa
   pub told : IsFileFault name (write_fault_name fault) (location_if explain (write_location puzzle.grid fault)) failure
 
 -- The puzzle was written to the file with this name, in the format that the name asks for.
-pub record IsWritten (name : List ℕ) (puzzle : PuzzleShown) (old new : List Event) : Type 0 where
+pub record IsWritten (name : List ℕ) (puzzle : PuzzleShown) (old new : Moment) : Type 0 where
   pub bytes : List ℕ
   pub are : AreBytesFor name puzzle bytes
   pub asks : Asks (replace name bytes (Ok tt)) old new
 
 -- The bytes of the puzzle were not made, and the disk was not asked.
-pub record IsUnmade (name : List ℕ) (explain : Bool) (puzzle : PuzzleShown) (failure : Failure) (old new : List Event) : Type 0 where
-  pub told : (failure ≡ failures.Memory) ⊎ IsUnfit name explain puzzle failure
+pub record IsUnmade (name : List ℕ) (puzzle : PuzzleShown) (failure : Failure) (old new : Moment) : Type 0 where
+  pub told : (failure ≡ failures.Memory) ⊎ IsUnfit name old.explains puzzle failure
   pub unasked : new ≡ old
 
 -- The file with this name was to have the bytes of the puzzle, and was not replaced.
-pub record IsUnput (name : List ℕ) (puzzle : PuzzleShown) (failure : Failure) (old new : List Event) : Type 0 where
+pub record IsUnput (name : List ℕ) (puzzle : PuzzleShown) (failure : Failure) (old new : Moment) : Type 0 where
   pub bytes : List ℕ
   pub are : AreBytesFor name puzzle bytes
   pub unreplaced : IsUnreplaced name bytes failure old new
 
 -- why the puzzle is not written to the file with this name
-abbrev pub IsUnwritten : List ℕ → Bool → PuzzleShown → Failure → List Event → List Event → Type 0
-IsUnwritten name explain puzzle failure old new = IsUnmade name explain puzzle failure old new ⊎ IsUnput name puzzle failure old new
+abbrev pub IsUnwritten : List ℕ → PuzzleShown → Failure → Moment → Moment → Type 0
+IsUnwritten name puzzle failure old new = IsUnmade name puzzle failure old new ⊎ IsUnput name puzzle failure old new
 
 -- ---- a puzzle that is written as text
 
@@ -147,9 +145,8 @@ IsTextNote name None = AsksForFormat name
 IsTextNote name (Some note) = (AsksForFormat name → ⊥) × (note ≡ text_line name)
 
 -- the report is written if it is due, and otherwise nothing is
-abbrev pub IsTextTold : {S : Type 0} → (S → List ℕ) → (S → ℕ) → List ℕ → S → S → Type 0
-IsTextTold transcript failures name old new =
-    (AsksForFormat name × (new ≡ old)) ⊎ ((AsksForFormat name → ⊥) × GoesOut transcript failures old new (text_line name))
+abbrev pub IsTextTold : List ℕ → Moment → Moment → Type 0
+IsTextTold name old new = (AsksForFormat name × (new ≡ old)) ⊎ ((AsksForFormat name → ⊥) × Reports (text_line name) old new)
 
 -- ---- files that are named
 

@@ -5,5 +5,6 @@ pub mod Told
 pub mod Names
 pub mod Locations
 pub mod Sentences
+pub mod Desk
 pub mod Explained
 pub mod Files

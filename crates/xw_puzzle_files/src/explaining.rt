@@ -1,10 +1,10 @@
 //! Prints help, usage errors and failures.
-ghost use Rattle.std.specs.Prelude.{◌≡◌, [], ◌∷◌, ◌++◌, ◌&&◌, List, ℕ, IfOk, OnOk, OnErr, IsOkUnless};
-ghost use Rattle.xw_lines.specs.Device.{flushed};
-ghost use Rattle.xw_lines.specs.Sends.{Sends};
+ghost use Rattle.std.specs.Prelude.{◌≡◌, ◌&&◌, List, ℕ, IfOk, IfErr};
+ghost use Rattle.xw_puzzle_files.specs.Desk.{Reports};
 ghost use Rattle.xw_puzzle_files.specs.Status.{status_of};
-ghost use Rattle.xw_puzzle_files.specs.Explained.{is_of_disk, is_quiet, rebus_line, GoesOut, IsExplained, IsMessage, IsReason, IsReported, IsSilentHelp, IsTold};
+ghost use Rattle.xw_puzzle_files.specs.Explained.{is_of_disk, is_quiet, IsExplained, IsHelp, IsMessage, IsReason, IsReported, IsTold};
 
+use crate::desk::Desk;
 use crate::failure::{Failure, Status};
 use crate::outlet::Outlet;
 use crate::sentences::sentence_line;
@@ -12,58 +12,84 @@ use std::alloc::{AllocError, Global};
 use std::io;
 use xw_arguments::Usage;
 use xw_disk::Disk;
-use xw_lines::{Sink, WriteFailed, device};
+use xw_lines::{Sink, Source};
 
-/// Prints the text of a call that is not executed, and returns the exit status. Help goes to `output`, an error to
-/// `errors`. Errors of writing to `errors` are ignored. If the reader of `output` is gone, nothing is reported.
-pub fn explain<O: Outlet, E: Sink>(usage: &Usage, output: &mut O, errors: &mut E) -> Status
-    ensures output { IsExplained O.transcript O.failures usage.now output.old output.new result }
-    ensures errors { IsSilentHelp usage.now (O.is_closed output.new) errors.old errors.new }
-{
-    match usage {
-        Usage::Help(text) => match show(output, text.as_bytes()) {
-            Ok(()) => Status::Accepted,
-            Err(_) if output.is_closed() => Status::Failed,
-            Err(_) => {
-                let _ = device::write_all(errors, b"xw: output fault\n");
+impl<D: Disk, I: Source, O: Outlet, E: Sink> Desk<D, I, O, E> {
+    /// Prints the text of a call that is not executed, and returns the exit status. Help goes to the output, and an error
+    /// to the messages. If the reader of the output is gone, nothing is reported.
+    pub fn explain(&mut self, usage: &Usage) -> Status
+        ensures { IsExplained usage.now self.old self.new result }
+    {
+        match usage {
+            Usage::Help(text) => self.help(text.as_bytes()),
+            Usage::Wrong(text) => {
+                self.report(text.as_bytes());
+                Status::Usage
+            }
+            Usage::Memory => {
+                self.report(b"xw: memory\n");
                 Status::Failed
             }
-        },
-        Usage::Wrong(text) => {
-            let _ = device::write_all(errors, text.as_bytes());
-            Status::Usage
-        }
-        Usage::Memory => {
-            let _ = device::write_all(errors, b"xw: memory\n");
-            Status::Failed
         }
     }
-}
 
-/// Writes a text and flushes the writer.
-pub fn show<O: Sink>(output: &mut O, text: &[u8]) -> Result<(), WriteFailed>
-    ensures { Sends O.transcript O.failures output.old output.new result (text.now ++ flushed ∷ []) }
-{
-    device::write_all(output, text)?;
-    match output.flush() {
-        Ok(()) => Ok(()),
-        Err(_) => Err(WriteFailed),
+    /// Shows help, and returns the exit status.
+    fn help(&mut self, text: &[u8]) -> Status
+        ensures { IsHelp text.now self.old self.new result }
+    {
+        match self.show(text) {
+            Ok(()) => Status::Accepted,
+            Err(_) if self.is_closed() => Status::Failed,
+            Err(_) => {
+                self.report(b"xw: output fault\n");
+                Status::Failed
+            }
+        }
     }
-}
 
-/// Reports that the rebus cells of a file are not kept. Write errors are ignored.
-pub fn tell_rebus<'a, E: Sink>(
-    alloc: Global,
-    errors: &mut E,
-    file: &'a str,
-) -> Result<(), Failure<'a>>
-    ensures transcript { OnOk result (GoesOut E.transcript E.failures errors.old errors.new (rebus_line file.entry.now)) }
-    ensures memory { IsOkUnless result Failure.Memory }
-    ensures untold { OnErr result (errors.new ≡ errors.old) }
-{
-    let text = format!(in alloc; "xw: {file}: rebus cells are not kept\n")?;
-    let _ = device::write_all(errors, text.as_bytes());
-    Ok(())
+    /// Reports the failure that ends a call, and returns the exit status. Nothing is reported if the reader of the output
+    /// is gone.
+    pub fn end(&mut self, failure: &Failure<'_>) -> Status
+        ensures { IsReported failure.now self.old self.new result }
+    {
+        if is_quiet(failure, self.is_closed()) {
+            return Status::Failed;
+        }
+        self.tell(failure)
+    }
+
+    /// Prints the message of a failure, and returns the exit status. If the message cannot be allocated, prints
+    /// `xw: memory` and returns `Failed`.
+    pub fn tell(&mut self, failure: &Failure<'_>) -> Status
+        ensures { IsTold failure.now self.old self.new result }
+    {
+        match self.tell_in_turn(failure) {
+            Ok(status) => status,
+            Err(_) => {
+                self.report(b"xw: memory\n");
+                Status::Failed
+            }
+        }
+    }
+
+    /// Prints the message of a failure after which the call goes on, and returns its status. Fails, with nothing printed, if
+    /// the message cannot be allocated.
+    pub fn tell_in_turn(&mut self, failure: &Failure<'_>) -> Result<Status, AllocError>
+        ensures ok { IfOk result (λ status. (status ≡ status_of failure.now) × (text : List ℕ) × IsMessage self.old.explains failure.now text × Reports text self.old self.new) }
+        ensures err { IfErr result (λ _. self.new ≡ self.old) }
+    {
+        let text = self.message(failure)?;
+        self.report(text.as_bytes());
+        Ok(failure.status())
+    }
+
+    /// Returns the message of a failure. If failures are explained, more lines follow: the error of the system after a
+    /// fault of the disk, and the sentence for the failure.
+    fn message(&self, failure: &Failure<'_>) -> Result<String, AllocError>
+        ensures { IfOk result (λ text. IsMessage self.now.explains failure.now text.bytes.items) }
+    {
+        message(self.alloc, failure, self.explains, self.disk.error())
+    }
 }
 
 /// Returns whether a failure has no message: the output failed because its reader is gone.
@@ -74,65 +100,6 @@ fn is_quiet(failure: &Failure<'_>, is_closed: bool) -> bool
         Failure::Output => is_closed,
         _ => false,
     }
-}
-
-/// Reports the failure of a call, and returns the exit status. `is_closed` says whether the reader of the output is
-/// gone. If `explain` is set, more lines follow, as `message` says.
-pub fn report<D: Disk, E: Sink>(
-    alloc: Global,
-    disk: &D,
-    failure: &Failure<'_>,
-    explain: bool,
-    is_closed: bool,
-    errors: &mut E,
-) -> Status
-    ensures { IsReported E.transcript E.failures (is_quiet failure.now is_closed) explain failure.now errors.old errors.new result }
-{
-    if is_quiet(failure, is_closed) {
-        return Status::Failed;
-    }
-    tell(alloc, failure, explain, disk.error(), errors)
-}
-
-/// Prints the message of a failure, and returns the exit status. If the message cannot be allocated, prints `xw: memory`
-/// and returns `Failed`. Write errors are ignored.
-pub fn tell<E: Sink>(
-    alloc: Global,
-    failure: &Failure<'_>,
-    explain: bool,
-    error: Option<io::Error>,
-    errors: &mut E,
-) -> Status
-    ensures { IsTold E.transcript E.failures explain failure.now errors.old errors.new result }
-{
-    match message(alloc, failure, explain, error) {
-        Ok(text) => {
-            let _ = device::write_all(errors, text.as_bytes());
-            failure.status()
-        }
-        Err(_) => {
-            let _ = device::write_all(errors, b"xw: memory\n");
-            Status::Failed
-        }
-    }
-}
-
-/// Prints the message of a failure after which the call goes on, as `report`, and returns its status. Fails if the
-/// message cannot be allocated.
-pub fn tell_in_turn<'a, D: Disk, E: Sink>(
-    alloc: Global,
-    disk: &D,
-    failure: &Failure<'a>,
-    explain: bool,
-    errors: &mut E,
-) -> Result<Status, Failure<'a>>
-    ensures ok { IfOk result (λ status. (status ≡ status_of failure.now) × (text : List ℕ) × IsMessage explain failure.now text × GoesOut E.transcript E.failures errors.old errors.new text) }
-    ensures memory { IsOkUnless result Failure.Memory }
-    ensures untold { OnErr result (errors.new ≡ errors.old) }
-{
-    let text = message(alloc, failure, explain, disk.error())?;
-    let _ = device::write_all(errors, text.as_bytes());
-    Ok(failure.status())
 }
 
 /// Returns the message of a failure. If `explain` is set, more lines follow: the error of the system after a fault of

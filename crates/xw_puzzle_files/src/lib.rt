@@ -4,6 +4,7 @@
 
 pub mod apart;
 pub mod checking;
+pub mod desk;
 pub mod explaining;
 pub mod failure;
 pub mod files;

@@ -1,4 +1,4 @@
-//! Standard output, which may lose its reader, and standard error, which may be a terminal.
+//! Standard output, which may lose its reader.
 ghost use Rattle.std.specs.Prelude.{◌≡◌, Bool, false};
 
 use std::cell::Cell;
@@ -103,53 +103,5 @@ impl<'a, S: Sink + Drop> Outlet for Output<'a, S> {
 
     fn is_closed(&self) -> bool {
         self.is_closed
-    }
-}
-
-/// A writer of messages that knows whether it is a terminal.
-pub trait Messages: Sink {
-    // whether it is a terminal
-    ghost is_terminal: { Self → Bool };
-
-    /// Returns whether it is a terminal.
-    fn is_terminal(&self) -> bool
-        ensures { result ≡ is_terminal self.now };
-}
-
-/// A sink, and whether it is a terminal, as `Messages`.
-#[derive(Drop)]
-pub struct Errors<S: Sink + Drop> {
-    sink: S,
-    is_terminal: bool,
-}
-
-impl<S: Sink + Drop> Errors<S> {
-    pub fn new(sink: S, is_terminal: bool) -> Errors<S>
-        ensures sink { result.sink ≡ sink }
-        ensures terminal { result.is_terminal ≡ is_terminal }
-    {
-        Errors { sink, is_terminal }
-    }
-}
-
-impl<S: Sink + Drop> Sink for Errors<S> {
-    ghost transcript = { λ errors. S.transcript errors.sink };
-
-    ghost failures = { λ errors. S.failures errors.sink };
-
-    fn write(&mut self, bytes: &[u8]) -> Result<usize, DeviceFault> {
-        self.sink.write(bytes)
-    }
-
-    fn flush(&mut self) -> Result<(), DeviceFault> {
-        self.sink.flush()
-    }
-}
-
-impl<S: Sink + Drop> Messages for Errors<S> {
-    ghost is_terminal = { λ errors. errors.is_terminal };
-
-    fn is_terminal(&self) -> bool {
-        self.is_terminal
     }
 }

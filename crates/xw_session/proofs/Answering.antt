@@ -1,6 +1,6 @@
 -- Answering commands.
-use Rattle.std.proofs.Common.{◌≡◌, ℕ, true, leb, List, ◌++◌, length, refl, subst, sym, ◌∙◌, inl, inr, arith}
-use Rattle.std.specs.Prelude.{Option, Some, None, Result, Ok, Err, IfOk, nat_lt}
+use Rattle.std.proofs.Common.{◌≡◌, ℕ, List, ◌++◌, refl, ap, subst, sym, ◌∙◌, inl, inr}
+use Rattle.std.specs.Prelude.{Option, Some, Result, Ok, Err, IfOk}
 use Rattle.xw_lines.specs.Sends.{Sends}
 use Rattle.xw_lines.specs.Device.{Begins, HasFailed}
 use Rattle.xw_lines.proofs.SendsLemmas.{sends-then, stops-within}
@@ -14,70 +14,83 @@ use Rattle.xw_answers.specs.Text.{accepted, refused}
 use Rattle.xw_commands.specs.declared.command.SyntaxFault.{SyntaxFault}
 use Rattle.xw_session.specs.State.{State}
 use Rattle.xw_commands.specs.declared.command.Command.{Command}
+use Rattle.xw_commands.specs.declared.command.Command.TheVariants as commands
+use Rattle.xw_commands.specs.declared.query.Query.{Query}
+use Rattle.xw_commands.specs.declared.change.Change.{Change}
 use Rattle.xw_answers.specs.declared.refusal.Refusal.{Refusal}
 use Rattle.xw_answers.specs.declared.refusal.Refusal.TheVariants as refusals
-use Rattle.xw_session.specs.Reply.{Reply, shown, reply_to, want_of}
-use Rattle.xw_session.specs.Answer.{Answers, IsReply, IsReplyTo, IsDue, AnswersBy, AnswersTo, AnswersParsed, AnswersParsedBy, Edits, reply_of, text_of, step_of}
+use Rattle.xw_session.specs.Reply.{Reply, shown, changed, want_of}
+use Rattle.xw_session.specs.Answer.{Answers, IsReply, IsAnswer, AnswersBy, AnswersTo, AnswersQuery, AnswersChange, AnswersParsed, AnswersParsedBy, Edits, reply_of, text_of, ended_by, step_by, outcome_of, step_of, IsExecuted}
 
-pub only_due : (reply due : Result Reply Refusal) → Some reply ≡ Some due → reply ≡ due
-only_due reply due is = cc
-
-only_reply : (found : Option (Result Reply Refusal)) (want : Option Refusal) (reply : Result Reply Refusal) → IsReplyTo found want reply
-    → (due : Result Reply Refusal) × (found ≡ Some due) × IsReply due want reply
-only_reply None want reply fits = absurd fits
-only_reply (Some due) want reply fits = (due, refl, fits)
-
--- a command was executed or refused, and then its answer was written
-pub edit_answers : {S E T : Type 0} (transcript : S → List ℕ) (failures : S → ℕ) (state after : State) (command : Command) (done : Result T Refusal) (result : Result Step E) (old new : S)
-    → ((due : Result Reply Refusal) → reply_to state command ≡ Some due → IsDue state command due) → Edits state command done after
+-- a change was made or refused, and then its answer was written
+pub edit_answers : {S E T : Type 0} (transcript : S → List ℕ) (failures : S → ℕ) (state after : State) (change : Change) (done : Result T Refusal) (result : Result (Result (Unit {0}) Refusal) E) (old new : S) → Edits state change done after
     → ((g : State) → Sends transcript failures old new result (text_of (reply_of done g)))
-    → ((g : State) → IfOk result (λ o. o ≡ step_of (reply_of done g)))
-    → AnswersTo transcript failures state command result after old new
-edit_answers transcript failures state after command done result old new is edits sends outcome = let only = only_reply (reply_to state command) (want_of state command) (reply_of done after) edits.0 in (
-  only.0,
-  is only.0 only.1,
+    → ((g : State) → IfOk result (λ o. o ≡ ended_by (reply_of done g)))
+    → AnswersChange transcript failures state change result after old new
+edit_answers transcript failures state after change done result old new edits sends outcome = (
+  changed state change,
+  refl,
   record {
     reply = reply_of done after;
-    fits = only.2;
+    fits = edits.0;
     effect = edits.1;
     sends = sends after;
     step = outcome after;
   },
 )
 
+-- the outcome of a line, by the reply to its command
+step_by_reply : (reply : Result Reply Refusal) → step_by (ended_by reply) ≡ step_of reply
+step_by_reply (Ok reply) = refl
+step_by_reply (Err refusal) = refl
+
 -- a line with a command
-pub line_answers : {S E : Type 0} (transcript : S → List ℕ) (failures : S → ℕ) (state after : State) (command : Command) (result : Result Step E) (old new : S)
-    → AnswersTo transcript failures state command result after old new → AnswersParsedBy transcript failures state (Ok (Some command)) result after old new
-line_answers transcript failures state after command result old new (due, owed, a) = record {
+pub line_answers : {S E : Type 0} (transcript : S → List ℕ) (failures : S → ℕ) (state after : State) (command : Command) (result : Result (Result (Unit {0}) Refusal) E) (old new : S)
+    → AnswersTo transcript failures state command result after old new → AnswersParsedBy transcript failures state (Ok (Some command)) (outcome_of result) after old new
+line_answers transcript failures state after command (Ok ended) old new (due, owed, a) = record {
   outcome = step_of a.reply;
   answer = text_of a.reply;
   fits = (a.reply, (due, owed, a.fits), refl, refl, a.effect);
   sends = a.sends;
-  is = a.step;
+  is = ap step_by a.step ∙ step_by_reply a.reply;
+}
+line_answers transcript failures state after command (Err error) old new (due, owed, a) = record {
+  outcome = step_of a.reply;
+  answer = text_of a.reply;
+  fits = (a.reply, (due, owed, a.fits), refl, refl, a.effect);
+  sends = a.sends;
+  is = tt;
 }
 
 -- a line that is not a valid command
-pub line_refused : {S E : Type 0} (transcript : S → List ℕ) (failures : S → ℕ) (state : State) (fault : SyntaxFault) (result : Result Step E) (old new : S)
+pub line_refused : {S E : Type 0} (transcript : S → List ℕ) (failures : S → ℕ) (state : State) (fault : SyntaxFault) (result : Result (Result (Unit {0}) Refusal) E) (old new : S)
     → ((g : State) → Sends transcript failures old new result (text_of (reply_of {T = Unit {0}} (Err (refusals.Syntax fault)) g)))
-    → ((g : State) → IfOk result (λ o. o ≡ step_of (reply_of {T = Unit {0}} (Err (refusals.Syntax fault)) g)))
-    → AnswersParsedBy transcript failures state (Err fault) result state old new
-line_refused transcript failures state fault result old new sends outcome = record {
+    → ((g : State) → IfOk result (λ o. o ≡ ended_by (reply_of {T = Unit {0}} (Err (refusals.Syntax fault)) g)))
+    → AnswersParsedBy transcript failures state (Err fault) (outcome_of result) state old new
+line_refused transcript failures state fault (Ok ended) old new sends ends = record {
   outcome = Refused;
   answer = refused (refusals.Syntax fault);
   fits = (refl, refl, refl);
   sends = sends state;
-  is = outcome state;
+  is = ap step_by (ends state);
+}
+line_refused transcript failures state fault (Err error) old new sends ends = record {
+  outcome = Refused;
+  answer = refused (refusals.Syntax fault);
+  fits = (refl, refl, refl);
+  sends = sends state;
+  is = tt;
 }
 
 -- ---- the specified reply was answered
 
 module _ {S : Type 0} (transcript : S → List ℕ) (failures : S → ℕ) where
   -- the lines were written, and then the end of the answer
-  pub reply_answers : {E : Type 0} (state : State) (due : Result Reply Refusal) (want : Option Refusal) (reply : Reply) (result : Result Step E) (old mid new : S)
+  pub reply_answers : {E : Type 0} (state : State) (due : Result Reply Refusal) (want : Option Refusal) (reply : Reply) (result : Result (Result (Unit {0}) Refusal) E) (old mid new : S)
       → due ≡ Ok reply
       → (transcript mid ≡ transcript old ++ reply.lines) × (failures mid ≡ failures old)
       → ((g : State) → Sends transcript failures mid new result (text_of (reply_of {T = Unit {0}} (Ok tt) g)))
-      → ((g : State) → IfOk result (λ o. o ≡ step_of (reply_of {T = Unit {0}} (Ok tt) g)))
+      → ((g : State) → IfOk result (λ o. o ≡ ended_by (reply_of {T = Unit {0}} (Ok tt) g)))
       → AnswersBy transcript failures state due want result reply.state old new
   reply_answers state due want reply result old mid new is wrote sends outcome = record {
     reply = Ok reply;
@@ -101,10 +114,10 @@ module _ {S : Type 0} (transcript : S → List ℕ) (failures : S → ℕ) where
   }
 
   -- a refusal was answered
-  pub refused_answers : {E : Type 0} (state : State) (due : Result Reply Refusal) (want : Option Refusal) (refusal : Refusal) (result : Result Step E) (old new : S)
+  pub refused_answers : {E : Type 0} (state : State) (due : Result Reply Refusal) (want : Option Refusal) (refusal : Refusal) (result : Result (Result (Unit {0}) Refusal) E) (old new : S)
       → IsReply due want (Err refusal)
       → ((g : State) → Sends transcript failures old new result (text_of (reply_of {T = Unit {0}} (Err refusal) g)))
-      → ((g : State) → IfOk result (λ o. o ≡ step_of (reply_of {T = Unit {0}} (Err refusal) g)))
+      → ((g : State) → IfOk result (λ o. o ≡ ended_by (reply_of {T = Unit {0}} (Err refusal) g)))
       → AnswersBy transcript failures state due want result state old new
   refused_answers state due want refusal result old new is sends outcome = record {
     reply = Err refusal;
@@ -114,41 +127,53 @@ module _ {S : Type 0} (transcript : S → List ℕ) (failures : S → ℕ) where
     step = outcome state;
   }
 
-  -- a query wrote its lines, and then the end of its answer
-  pub query_answers : {E : Type 0} (state : State) (command : Command) (lines : List ℕ) (result : Result Step E) (old mid new : S)
-      → IsDue state command (shown state lines)
-      → (transcript mid ≡ transcript old ++ lines) × (failures mid ≡ failures old)
-      → ((g : State) → Sends transcript failures mid new result (text_of (reply_of {T = Unit {0}} (Ok tt) g)))
-      → ((g : State) → IfOk result (λ o. o ≡ step_of (reply_of {T = Unit {0}} (Ok tt) g)))
-      → AnswersTo transcript failures state command result state old new
-  query_answers state command lines result old mid new is wrote sends outcome =
-      (shown state lines, is, reply_answers state (shown state lines) (want_of state command) (record { lines = lines; state = state }) result old mid new refl wrote sends outcome)
+  module _ {E : Type 0} (state : State) (query : Query) where
+    -- a query wrote its lines, and then the end of its answer
+    pub query_answers : (lines : List ℕ) (result : Result (Result (Unit {0}) Refusal) E) (old mid new : S)
+        → IsAnswer state query (Ok lines)
+        → (transcript mid ≡ transcript old ++ lines) × (failures mid ≡ failures old)
+        → ((g : State) → Sends transcript failures mid new result (text_of (reply_of {T = Unit {0}} (Ok tt) g)))
+        → ((g : State) → IfOk result (λ o. o ≡ ended_by (reply_of {T = Unit {0}} (Ok tt) g)))
+        → AnswersQuery transcript failures state query result old new
+    query_answers lines result old mid new is wrote sends outcome =
+        (shown state lines, (Ok lines, is, refl), reply_answers state (shown state lines) (want_of state (commands.Ask query)) (record { lines = lines; state = state }) result old mid new refl wrote sends outcome)
 
-  -- the writer failed within the lines of a query
-  pub query_stops : {E : Type 0} (state : State) (command : Command) (lines : List ℕ) (error : E) (old new : S)
-      → IsDue state command (shown state lines)
-      → Begins (transcript old) (transcript new) lines × HasFailed (failures old) (failures new)
-      → AnswersTo transcript failures state command (Err error) state old new
-  query_stops state command lines error old new is sends =
-      (shown state lines, is, reply_stops state (shown state lines) (want_of state command) (record { lines = lines; state = state }) error old new refl sends)
+    -- the writer failed within the lines of a query
+    pub query_stops : (lines : List ℕ) (error : E) (old new : S)
+        → IsAnswer state query (Ok lines)
+        → Begins (transcript old) (transcript new) lines × HasFailed (failures old) (failures new)
+        → AnswersQuery transcript failures state query (Err error) old new
+    query_stops lines error old new is sends =
+        (shown state lines, (Ok lines, is, refl), reply_stops state (shown state lines) (want_of state (commands.Ask query)) (record { lines = lines; state = state }) error old new refl sends)
 
-  -- a query was refused
-  pub refusal_answers : {E : Type 0} (state : State) (command : Command) (refusal : Refusal) (result : Result Step E) (old new : S)
-      → IsDue state command (Err refusal)
-      → ((g : State) → Sends transcript failures old new result (text_of (reply_of {T = Unit {0}} (Err refusal) g)))
-      → ((g : State) → IfOk result (λ o. o ≡ step_of (reply_of {T = Unit {0}} (Err refusal) g)))
-      → AnswersTo transcript failures state command result state old new
-  refusal_answers state command refusal result old new is sends outcome =
-      (Err refusal, is, refused_answers state (Err refusal) (want_of state command) refusal result old new (inl refl) sends outcome)
+    -- a query was refused
+    pub query_refused : (refusal : Refusal) (result : Result (Result (Unit {0}) Refusal) E) (old new : S)
+        → IsAnswer state query (Err refusal)
+        → ((g : State) → Sends transcript failures old new result (text_of (reply_of {T = Unit {0}} (Err refusal) g)))
+        → ((g : State) → IfOk result (λ o. o ≡ ended_by (reply_of {T = Unit {0}} (Err refusal) g)))
+        → AnswersQuery transcript failures state query result old new
+    query_refused refusal result old new is sends outcome =
+        (Err refusal, (Err refusal, is, refl), refused_answers state (Err refusal) (want_of state (commands.Ask query)) refusal result old new (inl refl) sends outcome)
+
+    -- a query was refused for a failed allocation
+    pub query_unanswered : (lines : List ℕ) (refusal : Refusal) (result : Result (Result (Unit {0}) Refusal) E) (old new : S)
+        → IsAnswer state query (Ok lines) → want_of state (commands.Ask query) ≡ Some refusal
+        → ((g : State) → Sends transcript failures old new result (text_of (reply_of {T = Unit {0}} (Err refusal) g)))
+        → ((g : State) → IfOk result (λ o. o ≡ ended_by (reply_of {T = Unit {0}} (Err refusal) g)))
+        → AnswersQuery transcript failures state query result old new
+    query_unanswered lines refusal result old new is wants sends outcome =
+        (shown state lines, (Ok lines, is, refl), refused_answers state (shown state lines) (want_of state (commands.Ask query)) refusal result old new (inr (refl, wants)) sends outcome)
 
 -- only a line without a command is silent
-never_silent : (reply : Result Reply Refusal) → step_of reply ≡ Silent → ⊥
-never_silent (Ok reply) e = cc
-never_silent (Err refusal) e = cc
+pub not_silent : {E : Type 0} (P : Type 0) (result : Result (Result (Unit {0}) Refusal) E) → IfOk (outcome_of result) (λ step. step ≡ Silent → P)
+not_silent P (Ok (Ok done)) = λ e. cc
+not_silent P (Ok (Err refusal)) = λ e. cc
+not_silent P (Err error) = tt
 
-pub not_silent : {E : Type 0} (P : Type 0) (reply : Result Reply Refusal) (result : Result Step E) → IfOk result (λ s. s ≡ step_of reply) → IfOk result (λ s. s ≡ Silent → P)
-not_silent P reply (Ok step) is = λ e. absurd (never_silent reply (sym is ∙ e))
-not_silent P reply (Err error) is = tt
+-- the command of an answer was executed
+pub was_executed : {S E : Type 0} (transcript : S → List ℕ) (failures : S → ℕ) (state after : State) (command : Command) (ended : Result (Unit {0}) Refusal) (old new : S)
+    → AnswersTo {E = E} transcript failures state command (Ok ended) after old new → IsExecuted state command ended after
+was_executed transcript failures state after command ended old new (due, owed, a) = record { reply = a.reply; fits = (due, owed, a.fits); is = a.step; effect = a.effect }
 
 -- ---- the pieces that a run passes on
 

@@ -30,7 +30,7 @@ use Rattle.xw_answers.specs.Refusal.{refusal_of}
 use Rattle.xw_session.specs.State.{State}
 use Rattle.xw_answers.specs.Text.{word_line, change_line, letters_line}
 use Rattle.xw_session.specs.Tally.{tally_line}
-use Rattle.xw_session.specs.Reply.{Reply, filling_name, changes_between, moved, want_of_action, lettered, tallied, shown, fill_tried, grid_memory}
+use Rattle.xw_session.specs.Reply.{Reply, filling_name, changes_between, moved, want_of_action, lettered, tallied, fill_tried, grid_memory}
 use Rattle.xw_session.specs.Answer.{IsReply, edit_reply, fill_reply, state_after}
 
 abbrev pub Knows : EngineState → Answers → Type 0
@@ -77,16 +77,16 @@ judged false blocks good letters answer is = cc
 
 pub lettered_is : (state : State) (answers : Answers) (cell : Cell) (set : ℕ) → Knows state.engine answers
     → cell_judged state.engine.grid cell (letters_of answers (index_of state.engine.grid cell)) ≡ Ok (letters_in set)
-    → lettered state cell ≡ shown state (letters_line (letters_in set))
+    → lettered state cell ≡ Ok (letters_line (letters_in set))
 lettered_is state answers cell set exact is =
-    judged (is_inside state.engine.grid cell) (is_block state.engine.grid cell) _ _ (λ letters. shown state (letters_line letters))
+    judged (is_inside state.engine.grid cell) (is_block state.engine.grid cell) _ _ (λ letters. Ok (letters_line letters))
     (ap (cell_judged state.engine.grid cell) (sym (answered_letters (position_of state.engine) answers exact (index_of state.engine.grid cell))) ∙ is)
 
 pub tallied_is : (state : State) (answers : Answers) (cell : Cell) (set : ℕ) → Knows state.engine answers
     → cell_judged state.engine.grid cell (letters_of answers (index_of state.engine.grid cell)) ≡ Ok (letters_in set)
-    → tallied state cell ≡ shown state (flat_map (tally_line state.engine cell) (letters_in set))
+    → tallied state cell ≡ Ok (flat_map (tally_line state.engine cell) (letters_in set))
 tallied_is state answers cell set exact is =
-    judged (is_inside state.engine.grid cell) (is_block state.engine.grid cell) _ _ (λ letters. shown state (flat_map (tally_line state.engine cell) letters))
+    judged (is_inside state.engine.grid cell) (is_block state.engine.grid cell) _ _ (λ letters. Ok (flat_map (tally_line state.engine cell) letters))
     (ap (cell_judged state.engine.grid cell) (sym (answered_letters (position_of state.engine) answers exact (index_of state.engine.grid cell))) ∙ is)
 
 -- ---- words of a light

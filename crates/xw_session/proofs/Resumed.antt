@@ -1,24 +1,22 @@
 -- Executing the lines of a text one after another.
-use Rattle.std.proofs.Common.{◌≡◌, inl, inr, ◌∙◌, ◌+◌, ap, sym, refl, ℕ, false, List, [], ◌∷◌, ◌++◌, length, Option, Some, None, subst, append_assoc, append-nil, length-append, arith}
-use Rattle.std.specs.Prelude.{Result, Ok, Err}
+use Rattle.std.proofs.Common.{◌≡◌, ◌≢◌, ◌≤◌, inl, inr, ◌∙◌, ◌+◌, ap, sym, refl, ℕ, false, List, [], ◌∷◌, ◌++◌, length, Option, Some, None, subst, append_assoc, append-nil, length-append, arith}
+use Rattle.std.specs.Prelude.{Result, Ok, Err, IfErr, IfOk}
 use Rattle.xw_text.specs.Lines.{lines_of as pieces_of}
 use Rattle.xw_text.proofs.LineLemmas.{lines_of-with_lfs}
 use Rattle.xw_lines.specs.Cut.{lines_of, ended_lines, last_piece}
 use Rattle.xw_lines.specs.Device.{HasFailed}
 use Rattle.xw_lines.proofs.Cuts.{cut-whole}
-use Rattle.xw_lines.specs.declared.outcome.Step.TheVariants.{Silent, Accepted, Refused}
+use Rattle.xw_lines.specs.declared.outcome.Step.TheVariants.{Silent, Refused}
 use Rattle.xw_commands.specs.Command.{command_of}
 use Rattle.xw_commands.specs.declared.command.Command.{Command}
-use Rattle.xw_commands.specs.declared.command.SyntaxFault.{SyntaxFault}
-use Rattle.xw_session.specs.Answer.{Answers, AnswersParsed}
-use Rattle.xw_answers.specs.Text.{refused}
+use Rattle.xw_session.specs.Reply.{Reply}
+use Rattle.xw_session.specs.Answer.{Answers, AnswersParsed, AnswersTo, IsExecuted, Replies, ended_by, state_after, step_of, text_of}
 use Rattle.xw_answers.specs.declared.refusal.Refusal.{Refusal}
-use Rattle.xw_answers.specs.declared.refusal.Refusal.TheVariants as refusals
 use Rattle.xw_session.specs.declared.resuming.Stop.{Stop}
 use Rattle.xw_session.specs.declared.resuming.Stop.TheVariants.{NoCommand, Memory}
 use Rattle.xw_session.specs.State.{State}
 use Rattle.xw_session.specs.Redrawn.{IsRedrawn}
-use Rattle.xw_session.specs.Resuming.{AreDone, IsDone, IsReached, Resumes, ResumesLine, Tells, count, is_memory, line_fault, refused_line, told_of}
+use Rattle.xw_session.specs.Resuming.{AreDone, IsDone, IsReached, MayBeDone, Resumes, ResumesLine, Tells, count, is_memory, line_fault, parsed_fault, refused_line, told_of}
 
 -- commands are split into lines in the same way as word lists
 lines_are_pieces : (text : List ℕ) → pieces_of text ≡ lines_of text
@@ -32,51 +30,108 @@ first_of_both text line rest first = sym (lines_are_pieces text) ∙ first ∙ a
 
 -- ---- one line
 
--- an answer that refuses has a refusal
-parsed-why : (state after : State) (parsed : Result (Option Command) SyntaxFault) (answer : List ℕ) → AnswersParsed state parsed Refused answer after → (refusal : Refusal) × (answer ≡ refused refusal)
-parsed-why state after (Ok None) answer (silent, none, same) = let bad : Refused ≡ Silent = silent in cc
-parsed-why state after (Ok (Some command)) answer (Ok reply, fits, step, text, effect) = let bad : Refused ≡ Accepted = step in cc
-parsed-why state after (Ok (Some command)) answer (Err refusal, fits, step, text, effect) = (refusal, text)
-parsed-why state after (Err fault) answer (step, text, same) = (refusals.Syntax fault, text)
+accepted-reply : (reply : Result Reply Refusal) (done : Unit {0}) → Ok done ≡ ended_by reply → step_of reply ≢ Refused
+accepted-reply (Ok reply) done is = λ e. cc
+accepted-reply (Err refusal) done is = cc
 
-pub refused-why : (state after : State) (line answer : List ℕ) → Answers state line Refused answer after → (refusal : Refusal) × (answer ≡ refused refusal)
-refused-why state after line answer answers = parsed-why state after (command_of line) answer answers
+refused-reply : (reply : Result Reply Refusal) (refusal : Refusal) → Err refusal ≡ ended_by reply → reply ≡ Err refusal
+refused-reply (Ok reply) refusal is = cc
+refused-reply (Err why) refusal is = let same : refusal ≡ why = cc in ap Err (sym same)
+
+-- a command whose answer broke off was executed, and ended somehow
+pub broken-executed : {S E : Type 0} (transcript : S → List ℕ) (failures : S → ℕ) (state after : State) (command : Command) (error : E) (old new : S) → AnswersTo transcript failures state command (Err error) after old new
+    → (ended : Result (Unit {0}) Refusal) × IsExecuted state command ended after
+broken-executed transcript failures state after command error old new (due, owed, a) =
+    (ended_by a.reply, record { reply = a.reply; fits = (due, owed, a.fits); is = refl; effect = a.effect })
+
+-- a refused command leaves the state
+pub refused-same : (state after : State) (command : Command) (refusal : Refusal) → IsExecuted state command (Err refusal) after → after ≡ state
+refused-same state after command refusal executed = executed.effect ∙ ap (state_after state) (refused-reply executed.reply refusal executed.is)
+
+module _ (state after : State) (line : List ℕ) (command : Command) (is : command_of line ≡ Ok (Some command)) where
+  answered : (reply : Result Reply Refusal) → Replies state command reply → after ≡ state_after state reply → Answers state line (step_of reply) (text_of reply) after
+  answered reply fits effect = subst (λ parsed. AnswersParsed state parsed (step_of reply) (text_of reply) after) (sym is) (reply, fits, refl, refl, effect)
+
+  -- a line is done whose command was executed and not refused
+  pub done-accepted : (done : Unit {0}) → line_fault line ≡ None → IsExecuted state command (Ok done) after → IsDone state line None after
+  done-accepted done whole executed =
+      (whole, step_of executed.reply, text_of executed.reply, answered executed.reply executed.fits executed.effect, accepted-reply executed.reply done executed.is)
+
+  -- or refused, but not for a failed allocation
+  pub done-refused : (refusal : Refusal) → line_fault line ≡ None → is_memory refusal ≡ false → IsExecuted state command (Err refusal) after → IsDone state line (Some refusal) after
+  done-refused refusal whole other executed = (
+    whole,
+    subst (λ reply. Answers state line (step_of reply) (text_of reply) after) (refused-reply executed.reply refusal executed.is) (answered executed.reply executed.fits executed.effect),
+    other,
+  )
+
+  -- however it ended, its line may be done
+  pub may-done : (ended : Result (Unit {0}) Refusal) → IsExecuted state command ended after → MayBeDone state line after
+  may-done ended executed = (step_of executed.reply, text_of executed.reply, answered executed.reply executed.fits executed.effect)
+
+-- ---- how the replay of a line ends
+
+module _ {S : Type 0} (transcript : S → List ℕ) (failures : S → ℕ) (file : List ℕ) (number : ℕ) (state after : State) (line : List ℕ) (command : Command) (is : command_of line ≡ Ok (Some command)) (whole : line_fault line ≡ None) where
+  -- its command was not refused
+  pub resumes-accepted : (done : Unit {0}) (old : S) → IsExecuted state command (Ok done) after → ResumesLine transcript failures file number state line (Ok 0) after old old
+  resumes-accepted done old executed = (None, done-accepted state after line command is done whole executed, refl, inl (sym (append-nil (transcript old)), refl))
+
+  -- it was refused, and reported unless memory is short
+  pub resumes-refused : (refusal : Refusal) (result : Result ℕ Stop) (old new : S) → IsExecuted state command (Err refusal) after
+      → IfOk result (λ refused. (refused ≡ 1) × (is_memory refusal ≡ false) × Tells transcript failures old new (refused_line file number refusal)) → IfErr result (λ stop. (stop ≡ Memory) × (new ≡ old))
+      → ResumesLine transcript failures file number state line result after old new
+  resumes-refused refusal (Ok refused) old new executed told untold = (Some refusal, done-refused state after line command is refusal whole told.1 executed, told.0, told.2)
+  resumes-refused refusal (Err stop) old new executed told untold =
+      subst (λ stop. ResumesLine transcript failures file number state line (Err stop) after old new) (sym untold.0) (whole, may-done state after line command is (Err refusal) executed, untold.1)
+
+  -- an allocation failed
+  pub resumes-short : (ended : Result (Unit {0}) Refusal) (old : S) → IsExecuted state command ended after → ResumesLine transcript failures file number state line (Err Memory) after old old
+  resumes-short ended old executed = (whole, may-done state after line command is ended executed, refl)
+
+-- a line without a command is done
+pub silent-done : (state : State) (line : List ℕ) → command_of line ≡ Ok None → IsDone state line None state
+silent-done state line is = (
+  ap parsed_fault is,
+  Silent,
+  [],
+  subst (λ parsed. AnswersParsed state parsed Silent [] state) (sym is) (refl, refl, refl),
+  λ same. cc,
+)
+
+pub count-few : (refusal : Option Refusal) → count refusal ≤ 1
+count-few None = omega arith
+count-few (Some refusal) = omega arith
 
 -- ---- all lines before one
 
--- one more command is done
-pub done-more : (lines : List (List ℕ)) (file : List ℕ) (number : ℕ) (start mid end : State) (transcript line : List ℕ) (refused : ℕ) (refusal : Option Refusal)
-    → AreDone file number start lines transcript refused mid → IsDone mid line refusal end
-    → AreDone file number start (lines ++ line ∷ []) (transcript ++ told_of file (number + length lines) refusal) (refused + count refusal) end
-done-more [] file number start mid end transcript line refused refusal done one =
-    let first : IsDone start line refusal end = subst (λ state. IsDone state line refusal end) done.2 one in
+-- one line is done
+pub done-one : (file : List ℕ) (number : ℕ) (start end : State) (line : List ℕ) (refusal : Option Refusal) → IsDone start line refusal end
+    → AreDone file number start (line ∷ []) (told_of file number refusal) (count refusal) end
+done-one file number start end line refusal one = (refusal, end, [], 0, one, (refl, refl, refl), sym (append-nil (told_of file number refusal)), omega arith)
+
+-- more lines are done
+pub done-all : (lines others : List (List ℕ)) (file : List ℕ) (number : ℕ) (start mid end : State) (transcript more_transcript : List ℕ) (refused more : ℕ)
+    → AreDone file number start lines transcript refused mid → AreDone file (number + length lines) mid others more_transcript more end
+    → AreDone file number start (lines ++ others) (transcript ++ more_transcript) (refused + more) end
+done-all [] others file number start mid end transcript more_transcript refused more done all =
     let numbered : number + 0 ≡ number = omega arith in
-    (refusal, end, [], 0, first, (refl, refl, refl), rw done.0 (ap (λ n. told_of file n refusal) numbered ∙ sym (append-nil (told_of file number refusal))), rw done.1 (omega arith))
-done-more (first ∷ lines) file number start mid end transcript line refused refusal (why, next, others, more, did, rest, transcript-is, count-is) one =
-    let numbered : number + length (first ∷ lines) ≡ (number + 1) + length lines = omega arith in (
+    let none : 0 + more ≡ more = omega arith in
+    let here : AreDone file number mid others more_transcript more end = subst (λ n. AreDone file n mid others more_transcript more end) numbered all in
+    let first : AreDone file number start others more_transcript more end = subst (λ state. AreDone file number state others more_transcript more end) done.2 here in
+    let all_of_them : AreDone file number start others ([] ++ more_transcript) (0 + more) end = subst (λ n. AreDone file number start others more_transcript n end) (sym none) first in
+    rw (done.0, done.1) all_of_them
+done-all (first ∷ lines) others file number start mid end transcript more_transcript refused more (why, next, out, few, did, rest, transcript-is, count-is) all =
+    let numbered : number + length (first ∷ lines) ≡ (number + 1) + length lines = omega arith in
+    let here : AreDone file ((number + 1) + length lines) mid others more_transcript more end = subst (λ n. AreDone file n mid others more_transcript more end) numbered all in (
       why,
       next,
-      others ++ told_of file ((number + 1) + length lines) refusal,
-      more + count refusal,
+      out ++ more_transcript,
+      few + more,
       did,
-      done-more lines file (number + 1) next mid end others line more refusal rest one,
-      rw transcript-is (ap (λ n. (told_of file number why ++ others) ++ told_of file n refusal) numbered ∙ append_assoc (told_of file number why) others (told_of file ((number + 1) + length lines) refusal)),
+      done-all lines others file (number + 1) next mid end out more_transcript few more rest here,
+      rw transcript-is (append_assoc (told_of file number why) out more_transcript),
       rw count-is (omega arith),
     )
-
--- more commands are done, and none is refused
-done-all : (lines others : List (List ℕ)) (file : List ℕ) (number : ℕ) (start mid end : State) (transcript : List ℕ) (refused : ℕ)
-    → AreDone file number start lines transcript refused mid → AreDone file (number + length lines) mid others [] 0 end
-    → AreDone file number start (lines ++ others) transcript refused end
-done-all [] others file number start mid end transcript refused done all =
-    let numbered : number + 0 ≡ number = omega arith in
-    let here : AreDone file number mid others [] 0 end = subst (λ n. AreDone file n mid others [] 0 end) numbered all in
-    let first : AreDone file number start others [] 0 end = subst (λ state. AreDone file number state others [] 0 end) done.2 here in
-    rw (done.0, done.1) first
-done-all (first ∷ lines) others file number start mid end transcript refused (why, next, out, more, did, rest, transcript-is, count-is) all =
-    let numbered : number + length (first ∷ lines) ≡ (number + 1) + length lines = omega arith in
-    let here : AreDone file ((number + 1) + length lines) mid others [] 0 end = subst (λ n. AreDone file n mid others [] 0 end) numbered all in
-    (why, next, out, more, did, done-all lines others file (number + 1) next mid end out more rest here, transcript-is, count-is)
 
 module _ {S : Type 0} (transcript : S → List ℕ) (failures : S → ℕ) where
   -- one text is told, and then another
@@ -89,15 +144,6 @@ module _ {S : Type 0} (transcript : S → List ℕ) (failures : S → ℕ) where
   -- nothing is told
   pub tells-nothing : (old new : S) → new ≡ old → Tells transcript failures old new []
   tells-nothing old new same = rw same (inl (sym (append-nil (transcript old)), refl))
-
-  -- a refusal of the session is told
-  pub line-refused : (file : List ℕ) (number : ℕ) (state after : State) (line answer : List ℕ) (old new : S) → line_fault line ≡ None → Answers state line Refused answer after
-      → ((refusal : Refusal) → answer ≡ refused refusal → is_memory refusal ≡ false)
-      → ((refusal : Refusal) → answer ≡ refused refusal → Tells transcript failures old new (refused_line file number refusal))
-      → ResumesLine transcript failures file number state line (Ok 1) after old new
-  line-refused file number state after line answer old new command answers other said =
-      let why = refused-why state after line answer answers in
-      (Some why.0, (command, subst (λ text. Answers state line Refused text after) why.1 answers, other why.0 why.1), refl, said why.0 why.1)
 
   -- The lines before the rest of a text are commands that were done: so many, of which so many are refused, and they leave this state.
   pub record Goes (file : List ℕ) (start : State) (text rest : List ℕ) (number refused : ℕ) (state : State) (old new : S) : Type 0 where
@@ -119,37 +165,39 @@ module _ {S : Type 0} (transcript : S → List ℕ) (failures : S → ℕ) where
     tells = tells-nothing old old refl;
   }
 
+  -- more lines are done
+  goes-further : (file : List ℕ) (start mid end : State) (text rest next : List ℕ) (number refused taken more : ℕ) (old now new : S) (lines : List (List ℕ)) (told : List ℕ)
+      → lines_of rest ≡ lines ++ lines_of next → taken ≡ length lines → AreDone file (number + 1) mid lines told more end → Tells transcript failures now new told
+      → Goes file start text rest number refused mid old now → Goes file start text next (number + taken) (refused + more) end old new
+  goes-further file start mid end text rest next number refused taken more old now new lines told parts counted done said goes =
+      let numbered : number + 1 ≡ 1 + length goes.before = rw goes.numbered (omega arith) in
+      let here : AreDone file (1 + length goes.before) mid lines told more end = subst (λ n. AreDone file n mid lines told more end) numbered done in
+      record {
+        before = goes.before ++ lines;
+        out = goes.out ++ told;
+        parts = goes.parts ∙ ap (λ others. goes.before ++ others) parts ∙ sym (append_assoc goes.before lines (lines_of next));
+        numbered = rw (goes.numbered, counted) (sym (length-append goes.before lines));
+        done = done-all goes.before lines file 1 start mid end goes.out told refused more goes.done here;
+        tells = tells-more old now new goes.out told goes.tells said;
+      }
+
   -- one more line is done
   pub goes-on : (file : List ℕ) (start mid end : State) (text rest next line : List ℕ) (number refused more : ℕ) (old now new : S) → lines_of rest ≡ line ∷ lines_of next
       → ResumesLine transcript failures file (number + 1) mid line (Ok more) end now new → Goes file start text rest number refused mid old now → Goes file start text next (number + 1) (refused + more) end old new
   goes-on file start mid end text rest next line number refused more old now new first (refusal, did, counted, said) goes =
-      let numbered : 1 + length goes.before ≡ number + 1 = rw goes.numbered (omega arith) in
-      let longer = done-more goes.before file 1 start mid end goes.out line refused refusal goes.done did in
-      record {
-        before = goes.before ++ line ∷ [];
-        out = goes.out ++ told_of file (number + 1) refusal;
-        parts = goes.parts ∙ ap (λ lines. goes.before ++ lines) first ∙ sym (append_assoc goes.before (line ∷ []) (lines_of next));
-        numbered = rw goes.numbered (sym (length-append goes.before (line ∷ [])));
-        done = rw counted (subst (λ n. AreDone file 1 start (goes.before ++ line ∷ []) (goes.out ++ told_of file n refusal) (refused + count refusal) end) numbered longer);
-        tells = tells-more old now new goes.out (told_of file (number + 1) refusal) goes.tells said;
-      }
+      goes-further file start mid end text rest next number refused 1 more old now new (line ∷ []) (told_of file (number + 1) refusal) first (omega arith)
+      (rw counted (done-one file (number + 1) mid end line refusal did)) said goes
 
   -- the state is still the same
   pub goes-still : (file : List ℕ) (start mid end : State) (text rest : List ℕ) (number refused : ℕ) (old now : S) → end ≡ mid → Goes file start text rest number refused mid old now
       → Goes file start text rest number refused end old now
   goes-still file start mid end text rest number refused old now same goes = subst (λ state. Goes file start text rest number refused state old now) (sym same) goes
 
-  -- lines are done at once, and none is refused
-  pub goes-jump : (file : List ℕ) (start mid end : State) (text rest next : List ℕ) (number refused taken : ℕ) (old now : S) → IsRedrawn rest mid taken next end
-      → Goes file start text rest number refused mid old now → Goes file start text next (number + taken) refused end old now
-  goes-jump file start mid end text rest next number refused taken old now drawn goes = record {
-    before = goes.before ++ drawn.lines;
-    out = goes.out;
-    parts = goes.parts ∙ ap (λ lines. goes.before ++ lines) drawn.parts ∙ sym (append_assoc goes.before drawn.lines (lines_of next));
-    numbered = rw (goes.numbered, drawn.counted) (sym (length-append goes.before drawn.lines));
-    done = done-all goes.before drawn.lines file 1 start mid end goes.out refused goes.done (drawn.done file (1 + length goes.before));
-    tells = goes.tells;
-  }
+  -- lines are done at once
+  pub goes-jump : (file : List ℕ) (start mid end : State) (text rest next reports : List ℕ) (number refused taken more : ℕ) (old now new : S) → IsRedrawn file number rest mid taken more reports next end
+      → Tells transcript failures now new reports → Goes file start text rest number refused mid old now → Goes file start text next (number + taken) (refused + more) end old new
+  goes-jump file start mid end text rest next reports number refused taken more old now new drew said goes =
+      goes-further file start mid end text rest next number refused taken more old now new drew.lines reports drew.parts drew.counted drew.done said goes
 
   -- a line is reached
   reached : (file : List ℕ) (start state : State) (text rest next line : List ℕ) (number refused : ℕ) (old now : S) → lines_of rest ≡ line ∷ lines_of next

@@ -14,14 +14,19 @@ use Rattle.xw_lines.specs.declared.outcome.Step.{Step}
 use Rattle.xw_lines.specs.declared.outcome.Step.TheVariants.{Silent, Accepted, Refused}
 use Rattle.xw_commands.specs.declared.command.Command.{Command}
 use Rattle.xw_commands.specs.declared.command.Command.TheVariants as commands
+use Rattle.xw_commands.specs.declared.query.Query.{Query}
+use Rattle.xw_commands.specs.declared.query.Query.TheVariants as queries
+use Rattle.xw_commands.specs.declared.change.Change.{Change}
+use Rattle.xw_commands.specs.declared.search.Search.{Search}
+use Rattle.xw_commands.specs.declared.search.Search.TheVariants as searches
 use Rattle.xw_commands.specs.declared.command.SyntaxFault.{SyntaxFault}
 use Rattle.xw_answers.specs.declared.refusal.Refusal.{Refusal}
 use Rattle.xw_answers.specs.declared.refusal.Refusal.TheVariants as refusals
 use Rattle.xw_commands.specs.Command.{command_of}
-use Rattle.xw_reason.specs.declared.why.NoReason.{NoReason}
+use Rattle.xw_fill.specs.declared.why.NoReason.{NoReason}
 use Rattle.xw_answers.specs.Refusal.{refusal_of}
-use Rattle.xw_session.specs.Why.{refusal_without_reason, IsWhyDue, entry_lines}
-use Rattle.xw_session.specs.Reply.{Reply, reply_to, want_of, want_of_action, name_of_light, moved, filling_name}
+use Rattle.xw_session.specs.Why.{refusal_without_reason, IsWhyAnswer, entry_lines}
+use Rattle.xw_session.specs.Reply.{Reply, answer_of, asked, changed, searched, want_of, want_of_change, want_of_action, name_of_light, moved, filling_name}
 use Rattle.xw_session.specs.Autofill.{names_of, IsAutofillDue}
 use Rattle.xw_session.specs.Best.{best_lines, IsBestDue}
 use Rattle.xw_lines.specs.Sends.{Sends}
@@ -33,17 +38,31 @@ abbrev pub IsReply : Result Reply Refusal → Option Refusal → Result Reply Re
 IsReply due want (Ok reply) = due ≡ Ok reply
 IsReply due want (Err refusal) = (due ≡ Err refusal) ⊎ (IsOk due × (want ≡ Some refusal))
 
--- the reply is the only one
-abbrev pub IsOnly : Option (Result Reply Refusal) → Result Reply Refusal → Type 0
-IsOnly None due = ⊥
-IsOnly (Some reply) due = reply ≡ due
+-- the only answer or reply, or one of several if there is no only one
+abbrev pub IsOnlyOr : {T : Type 0} → Option T → Type 0 → T → Type 0
+IsOnlyOr None several due = several
+IsOnlyOr (Some only) several due = only ≡ due
 
--- A reply that the command may get if no allocation fails. A command that is no search, and `fill`, have exactly one.
+-- one of several answers to a query
+abbrev pub IsOneOf : State → Query → Result (List ℕ) Refusal → Type 0
+IsOneOf state (queries.Why named) answer = IsWhyAnswer state (name_of_light named) answer
+IsOneOf state other answer = ⊥
+
+-- an answer that the query may get if no allocation fails
+abbrev pub IsAnswer : State → Query → Result (List ℕ) Refusal → Type 0
+IsAnswer state query answer = IsOnlyOr (answer_of state query) (IsOneOf state query answer) answer
+
+-- one of several replies to a search
+abbrev pub IsFound : State → Search → Result Reply Refusal → Type 0
+IsFound state (searches.Autofill limit seed lights) due = IsAutofillDue state (names_of lights) due
+IsFound state (searches.Best limit seed lights) due = IsBestDue state (names_of lights) due
+IsFound state other due = ⊥
+
+-- A reply that the command may get if no allocation fails. That to a query has its answer and the state as it was.
 abbrev pub IsDue : State → Command → Result Reply Refusal → Type 0
-IsDue state (commands.Autofill limit seed lights) due = IsAutofillDue state (names_of lights) due
-IsDue state (commands.Best limit seed lights) due = IsBestDue state (names_of lights) due
-IsDue state (commands.Why named) due = IsWhyDue state (name_of_light named) due
-IsDue state other due = IsOnly (reply_to state other) due
+IsDue state (commands.Ask query) due = (answer : Result (List ℕ) Refusal) × IsAnswer state query answer × (due ≡ asked state answer)
+IsDue state (commands.Change change) due = changed state change ≡ due
+IsDue state (commands.Search search) due = IsOnlyOr (searched state search) (IsFound state search due) due
 
 -- a reply that the command may get
 abbrev pub Replies : State → Command → Result Reply Refusal → Type 0
@@ -58,34 +77,49 @@ abbrev pub state_after : State → Result Reply Refusal → State
 state_after state (Ok reply) = reply.state
 state_after state (Err refusal) = state
 
+-- how a command with this reply ended
+abbrev pub ended_by : Result Reply Refusal → Result (Unit {0}) Refusal
+ended_by (Ok reply) = Ok tt
+ended_by (Err refusal) = Err refusal
+
 abbrev pub step_of : Result Reply Refusal → Step
 step_of (Ok reply) = Accepted
 step_of (Err refusal) = Refused
 
 -- An allowed reply was written to a writer, or a prefix of it if the writer failed. Its effect remains in both cases.
-pub record AnswersBy {S E : Type 0} (transcript : S → List ℕ) (failures : S → ℕ) (state : State) (due : Result Reply Refusal) (want : Option Refusal) (result : Result Step E) (after : State) (old new : S) : Type 0 where
+pub record AnswersBy {S E : Type 0} (transcript : S → List ℕ) (failures : S → ℕ) (state : State) (due : Result Reply Refusal) (want : Option Refusal) (result : Result (Result (Unit {0}) Refusal) E) (after : State) (old new : S) : Type 0 where
   pub reply : Result Reply Refusal
   pub fits : IsReply due want reply
   pub effect : after ≡ state_after state reply
   pub sends : Sends transcript failures old new result (text_of reply)
-  pub step : IfOk result (λ s. s ≡ step_of reply)
+  pub step : IfOk result (λ ended. ended ≡ ended_by reply)
 
 -- an edit of the grid or the dictionary was answered
-abbrev pub AnswersEdit : {S E : Type 0} → (S → List ℕ) → (S → ℕ) → State → Edit → Result Step E → State → S → S → Type 0
+abbrev pub AnswersEdit : {S E : Type 0} → (S → List ℕ) → (S → ℕ) → State → Edit → Result (Result (Unit {0}) Refusal) E → State → S → S → Type 0
 AnswersEdit transcript failures state edit result left old new =
     AnswersBy transcript failures state (moved state (after state.engine (action_of edit))) (want_of_action state (action_of edit)) result left old new
 
 -- the command was answered
-abbrev pub AnswersTo : {S E : Type 0} → (S → List ℕ) → (S → ℕ) → State → Command → Result Step E → State → S → S → Type 0
+abbrev pub AnswersTo : {S E : Type 0} → (S → List ℕ) → (S → ℕ) → State → Command → Result (Result (Unit {0}) Refusal) E → State → S → S → Type 0
 AnswersTo transcript failures state command result after old new =
     (due : Result Reply Refusal) × IsDue state command due × AnswersBy transcript failures state due (want_of state command) result after old new
 
+-- the query was answered, and the state stays as it was
+abbrev pub AnswersQuery : {S E : Type 0} → (S → List ℕ) → (S → ℕ) → State → Query → Result (Result (Unit {0}) Refusal) E → S → S → Type 0
+AnswersQuery transcript failures state query result old new = AnswersTo transcript failures state (commands.Ask query) result state old new
+
+abbrev pub AnswersChange : {S E : Type 0} → (S → List ℕ) → (S → ℕ) → State → Change → Result (Result (Unit {0}) Refusal) E → State → S → S → Type 0
+AnswersChange transcript failures state change result after old new = AnswersTo transcript failures state (commands.Change change) result after old new
+
+abbrev pub AnswersSearch : {S E : Type 0} → (S → List ℕ) → (S → ℕ) → State → Search → Result (Result (Unit {0}) Refusal) E → State → S → S → Type 0
+AnswersSearch transcript failures state search result after old new = AnswersTo transcript failures state (commands.Search search) result after old new
+
 -- ---- what single functions of a session do
 
--- the command stands for this edit of the engine, or is refused before any edit
-abbrev pub Asks : State → Command → Result Edit Refusal → Type 0
-Asks state command (Ok edit) = IsDue state command (moved state (after state.engine (action_of edit))) × (want_of state command ≡ want_of_action state (action_of edit))
-Asks state command (Err refusal) = IsDue state command (Err refusal)
+-- the change stands for this edit of the engine, or is refused before any edit
+abbrev pub Asks : State → Change → Result Edit Refusal → Type 0
+Asks state change (Ok edit) = (changed state change ≡ moved state (after state.engine (action_of edit))) × (want_of_change state change ≡ want_of_action state (action_of edit))
+Asks state change (Err refusal) = changed state change ≡ Err refusal
 
 -- the result of a command without answer lines, as a reply
 abbrev pub reply_of : {T : Type 0} → Result T Refusal → State → Result Reply Refusal
@@ -112,16 +146,28 @@ abbrev pub why_reply : Grid → Result (Vec (Option ℕ) Global) NoReason → St
 why_reply grid (Ok entries) state = Ok (record { lines = entry_lines grid entries.items; state = state })
 why_reply grid (Err refusal) state = Err (refusal_without_reason refusal)
 
--- the only reply, or a failed allocation
-abbrev pub IsReplyTo : Option (Result Reply Refusal) → Option Refusal → Result Reply Refusal → Type 0
-IsReplyTo None want reply = ⊥
-IsReplyTo (Some due) want reply = IsReply due want reply
+-- A change was made or refused, and left the state that its reply has.
+abbrev pub Edits : {T : Type 0} → State → Change → Result T Refusal → State → Type 0
+Edits state change result after = IsReply (changed state change) (want_of_change state change) (reply_of result after) × (after ≡ state_after state (reply_of result after))
 
--- A command with one allowed reply was executed or refused, and left the state that its reply has.
-abbrev pub Edits : {T : Type 0} → State → Command → Result T Refusal → State → Type 0
-Edits state command result after = IsReplyTo (reply_to state command) (want_of state command) (reply_of result after) × (after ≡ state_after state (reply_of result after))
+-- The command was executed or refused, whatever was written: it got an allowed reply, ended in this way, and left this
+-- state.
+pub record IsExecuted (state : State) (command : Command) (ended : Result (Unit {0}) Refusal) (after : State) : Type 0 where
+  pub reply : Result Reply Refusal
+  pub fits : Replies state command reply
+  pub is : ended ≡ ended_by reply
+  pub effect : after ≡ state_after state reply
 
 -- ---- lines
+
+-- the outcome of a line whose command ended in this way
+abbrev pub step_by : Result (Unit {0}) Refusal → Step
+step_by (Ok done) = Accepted
+step_by (Err refusal) = Refused
+
+abbrev pub outcome_of : {E : Type 0} → Result (Result (Unit {0}) Refusal) E → Result Step E
+outcome_of (Ok ended) = Ok (step_by ended)
+outcome_of (Err error) = Err error
 
 -- The outcome of a parsed line, its answer, and the state after it.
 abbrev pub AnswersParsed : State → Result (Option Command) SyntaxFault → Step → List ℕ → State → Type 0

@@ -1,6 +1,7 @@
 pub mod State
 pub mod Found
 pub mod Told
+pub mod Help
 pub mod Tally
 pub mod Erase
 pub mod Grades

@@ -1,5 +1,5 @@
 -- The targets of `text` and `more`, and what the two commands do to the text there.
-use Rattle.std.specs.Prelude.{ℕ, Bool, true, List, [], ◌∷◌, ◌++◌}
+use Rattle.std.specs.Prelude.{◌≡◌, ℕ, Bool, true, false, List, [], ◌∷◌, ◌++◌, is_some}
 use Rattle.xw_grid.specs.Grid.{Grid, is_inside}
 use Rattle.xw_grid.specs.Clue.{clue_at, with_clue}
 use Rattle.xw_grid.specs.Puzzle.{TextsShown}
@@ -11,6 +11,7 @@ use Rattle.xw_commands.specs.declared.command.TextMode.{TextMode}
 use Rattle.xw_commands.specs.declared.command.TextMode.TheVariants.{Instead, Behind}
 use Rattle.xw_session.specs.declared.session.putting.Target.{Target}
 use Rattle.xw_session.specs.declared.session.putting.Target.TheVariants as targets
+use Rattle.xw_answers.specs.Escape.{text_spelled, has_nul}
 use Rattle.xw_session.specs.State.{State, cell_of, with_text_in}
 
 -- the target that a field of a command names
@@ -44,3 +45,10 @@ abbrev pub with_piece : State → TextMode → Target → List ℕ → State
 with_piece state Instead target text = with_text_at state target text
 with_piece state Behind target [] = state
 with_piece state Behind target (byte ∷ bytes) = with_text_at state target (text_at state target ++ byte ∷ bytes)
+
+-- a spelling may be put at the target that a field names in a grid
+pub record CanPut (grid : Grid) (field : Field) (spelling : List ℕ) (target : Target) : Type 0 where
+  pub named : target ≡ target_of field
+  pub there : has_target grid (target_of field) ≡ true
+  pub whole : is_some (text_spelled spelling) ≡ true
+  pub plain : has_nul spelling ≡ false

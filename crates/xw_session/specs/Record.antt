@@ -2,8 +2,8 @@
 use Rattle.std.specs.Prelude.{ℕ, List, [], ◌∷◌, flat_map}
 use Rattle.xw_grid.specs.declared.cell.Direction.TheVariants.{Across, Down}
 use Rattle.xw_grid.specs.declared.cell.Side.TheVariants.{Right, Below}
-use Rattle.xw_commands.specs.declared.command.Command.{Command}
-use Rattle.xw_commands.specs.declared.command.Command.TheVariants.{Size, Symmetry as Turn, Watch}
+use Rattle.xw_commands.specs.declared.change.Change.{Change}
+use Rattle.xw_commands.specs.declared.change.Change.TheVariants.{Size, Symmetry as Turn, Watch}
 use Rattle.xw_commands.specs.declared.command.Field.TheVariants as fields
 use Rattle.xw_commands.specs.declared.command.TextField.TheVariants.{Title, Author, Copyright, Notes}
 use Rattle.xw_answers.specs.declared.record.Part.TheVariants as parts
@@ -13,7 +13,7 @@ use Rattle.xw_session.specs.declared.session.recording.Section.TheVariants as se
 use Rattle.xw_session.specs.Put.{text_of_field}
 use Rattle.xw_session.specs.State.{State}
 
-abbrev pub section_commands : State → Section → List Command
+abbrev pub section_commands : State → Section → List Change
 section_commands state sections.Words = word_commands state.begun state.engine.words
 section_commands state sections.Size = Size state.engine.grid.width state.engine.grid.height ∷ []
 section_commands state (sections.Cells part) = part_commands state.engine.grid state.clues state.circles part
@@ -42,7 +42,7 @@ record_sections =
     ∷ sections.Watch
     ∷ []
 
-abbrev pub record_commands : State → List Command
+abbrev pub record_commands : State → List Change
 record_commands state = flat_map (section_commands state) record_sections
 
 abbrev pub record_lines : State → List ℕ

@@ -1,55 +1,60 @@
--- Lines whose answers do not depend on the engine, which a replay executes with one update of it.
-use Rattle.std.specs.Prelude.{◌≡◌, ℕ, ◌+◌, ◌≤◌, Bool, true, false, List, [], ◌++◌, length, option_map, Option, Some, None, Ok}
-use Rattle.xw_letters.specs.Letter.{letter_of}
+-- Lines that a replay executes over a copy of the grid, with one update of the engine.
+use Rattle.std.specs.Prelude.{◌≡◌, ℕ, ◌+◌, ◌≤◌, Bool, true, false, List, ◌++◌, length, Option, Result, Ok, Err}
 use Rattle.xw_grid.specs.Grid.{Grid}
-use Rattle.xw_feas.specs.State.{Action, grid_after, letter_set, cell_cleared, word_placed, block_toggled, bar_toggled, symmetry_chosen}
+use Rattle.xw_feas.specs.declared.edit.Refusal.{Refusal as EditRefusal}
+use Rattle.xw_feas.specs.State.{Action, grid_after, word_added, word_struck, least_chosen}
 use Rattle.xw_lines.specs.Cut.{lines_of}
 use Rattle.xw_commands.specs.declared.command.Command.{Command}
 use Rattle.xw_commands.specs.declared.command.Command.TheVariants as commands
-use Rattle.xw_session.specs.State.{State, cell_of}
-use Rattle.xw_session.specs.Reply.{name_of_light}
-use Rattle.xw_session.specs.Answer.{IsDue}
-use Rattle.xw_session.specs.Resuming.{AreDone, command_fault}
+use Rattle.xw_commands.specs.declared.query.Query.TheVariants as queries
+use Rattle.xw_answers.specs.declared.refusal.Refusal.{Refusal}
+use Rattle.xw_session.specs.State.{State}
+use Rattle.xw_session.specs.Resuming.{AreDone, IsDone, count, is_memory, refused_line, told_of}
 
--- the edit of a command that edits nothing but the grid
-abbrev pub grid_action : Command → Option Action
-grid_action (commands.Symmetry kind) = Some (symmetry_chosen kind)
-grid_action (commands.Set spot letter) = option_map (letter_set (cell_of spot)) (letter_of letter)
-grid_action (commands.Clear spot) = Some (cell_cleared (cell_of spot))
-grid_action (commands.Place named word) = Some (word_placed (name_of_light named) word)
-grid_action (commands.Block spot) = Some (block_toggled (cell_of spot))
-grid_action (commands.Bar spot side) = Some (bar_toggled (cell_of spot) side)
-grid_action other = None
+-- whether an edit is one of the grid, and not of the dictionary
+abbrev pub is_of_grid : Action → Bool
+is_of_grid (word_added word grade) = false
+is_of_grid (word_struck word) = false
+is_of_grid (least_chosen grade) = false
+is_of_grid other = true
 
--- the command is such an edit, is accepted, and turns the first grid into the second
-pub record Redraws (command : Command) (old new : Grid) : Type 0 where
-  pub action : Action
-  pub is : grid_action command ≡ Some action
-  pub made : grid_after old action ≡ Ok new
+-- the edit was made or refused, and turned the first grid into the second
+abbrev pub IsMade : Grid → Action → Result (Unit {0}) EditRefusal → Grid → Type 0
+IsMade old action (Ok done) new = (is_of_grid action ≡ true) × (grid_after old action ≡ Ok new)
+IsMade old action (Err refusal) new = (is_of_grid action ≡ true) × (grid_after old action ≡ Err refusal) × (new ≡ old)
 
 -- whether the command is a query that is accepted in every state
 abbrev pub is_shown : Command → Bool
-is_shown commands.Circles = true
-is_shown commands.Show = true
-is_shown commands.Lights = true
-is_shown commands.Duplicates = true
-is_shown commands.Unlisted = true
-is_shown commands.Unmatched = true
-is_shown commands.Suggest = true
-is_shown (commands.Tell telling) = true
+is_shown (commands.Ask queries.Circles) = true
+is_shown (commands.Ask queries.Show) = true
+is_shown (commands.Ask queries.Lights) = true
+is_shown (commands.Ask queries.Duplicates) = true
+is_shown (commands.Ask queries.Unlisted) = true
+is_shown (commands.Ask queries.Unmatched) = true
+is_shown (commands.Ask queries.Suggest) = true
+is_shown (commands.Ask (queries.Tell telling)) = true
 is_shown other = false
 
--- the command is accepted with these lines, and leaves this state
-pub record IsQuiet (state : State) (command : Command) (after : State) : Type 0 where
-  pub lines : List ℕ
-  pub due : IsDue state command (Ok (record { lines = lines; state = after }))
-  pub whole : command_fault (Some command) ≡ None
+-- What the line with this number reports was appended, if it ended in this way: `refused` is 1 if it was refused, not for
+-- a failed allocation, and otherwise 0.
+abbrev pub IsNoted : List ℕ → ℕ → Result (Unit {0}) Refusal → ℕ → List ℕ → List ℕ → Type 0
+IsNoted file number (Ok done) refused old new = (refused ≡ 0) × (new ≡ old)
+IsNoted file number (Err refusal) refused old new = (is_memory refusal ≡ false) × (refused ≡ 1) × (new ≡ old ++ refused_line file number refusal)
 
--- the first `taken` lines of a text may be executed without a refusal and leave the state `end`; `rest` is the text
--- after them
-pub record IsRedrawn (text : List ℕ) (start : State) (taken : ℕ) (rest : List ℕ) (end : State) : Type 0 where
+-- the line with this number was executed, and what it reports was appended: `refused` is 1 if it was refused, and
+-- otherwise 0
+pub record IsDrawn (file : List ℕ) (number : ℕ) (state : State) (line : List ℕ) (refused : ℕ) (after : State) (old new : List ℕ) : Type 0 where
+  pub refusal : Option Refusal
+  pub done : IsDone state line refusal after
+  pub counted : refused ≡ count refusal
+  pub told : new ≡ old ++ told_of file number refusal
+
+-- The first `taken` lines of a text, which come after `before` lines of a file, may be executed one after another, with
+-- these reports of refused lines and this number of them, and leave the state `end`. `rest` is the text after them.
+pub record IsRedrawn (file : List ℕ) (before : ℕ) (text : List ℕ) (start : State) (taken refused : ℕ) (reports rest : List ℕ) (end : State) : Type 0 where
   pub lines : List (List ℕ)
   pub parts : lines_of text ≡ lines ++ lines_of rest
   pub counted : taken ≡ length lines
-  pub done : (file : List ℕ) (number : ℕ) → AreDone file number start lines [] 0 end
+  pub done : AreDone file (before + 1) start lines reports refused end
+  pub few : refused ≤ taken
   pub shorter : taken + length rest ≤ length text

@@ -1,6 +1,6 @@
 -- How a session replies to each command.
-use Rattle.std.specs.Prelude.{ℕ, Bool, true, false, not, List, [], ◌∷◌, map, take, length, flat_map, codes, option_map, Option, Some, None, is_some, Result, Ok, Err, if◌then◌else◌, nat_eq, nat_lt}
-use Rattle.std.specs.List.{list_any, list_all}
+use Rattle.std.specs.Prelude.{ℕ, Bool, true, false, not, List, [], ◌∷◌, map, take, length, flat_map, codes, option_map, Option, Some, None, is_some, Result, Ok, Err, if◌then◌else◌, nat_lt}
+use Rattle.std.specs.List.{list_all}
 use Rattle.xw_words.specs.declared.fault.WordFault.{WordFault}
 use Rattle.xw_words.specs.declared.fault.WordFault.TheVariants as words
 use Rattle.xw_letters.specs.Letter.{letter_of}
@@ -28,11 +28,17 @@ use Rattle.xw_commands.specs.declared.command.LightArg.{LightArg}
 use Rattle.xw_commands.specs.declared.command.TextField.{TextField}
 use Rattle.xw_commands.specs.declared.command.Command.{Command}
 use Rattle.xw_commands.specs.declared.command.Command.TheVariants as commands
+use Rattle.xw_commands.specs.declared.command.SyntaxFault.TheVariants as faults
+use Rattle.xw_commands.specs.Command.{form_named}
+use Rattle.xw_commands.specs.declared.query.Query.{Query}
+use Rattle.xw_commands.specs.declared.query.Query.TheVariants as queries
+use Rattle.xw_commands.specs.declared.change.Change.{Change}
+use Rattle.xw_commands.specs.declared.change.Change.TheVariants as changes
+use Rattle.xw_commands.specs.declared.search.Search.{Search}
+use Rattle.xw_commands.specs.declared.search.Search.TheVariants as searches
 use Rattle.xw_answers.specs.declared.refusal.Refusal.{Refusal}
 use Rattle.xw_answers.specs.declared.refusal.Refusal.TheVariants as refusals
 use Rattle.xw_answers.specs.Refusal.{refusal_of}
-use Rattle.xw_commands.specs.declared.command.Report.{Report}
-use Rattle.xw_commands.specs.declared.command.Report.TheVariants.{Cells, Counts, Texts, Stats, Record}
 use Rattle.xw_commands.specs.declared.command.TextMode.{TextMode}
 use Rattle.xw_commands.specs.declared.command.Field.{Field}
 use Rattle.xw_session.specs.State.{State, with_text_in}
@@ -43,9 +49,8 @@ use Rattle.xw_session.specs.Erase.{erased_cells, emptied}
 use Rattle.xw_session.specs.Grades.{grade_lines}
 use Rattle.xw_session.specs.Unmatched.{unmatched_lines}
 use Rattle.xw_session.specs.Choices.{first_index, choice_lines}
-use Rattle.xw_session.specs.Told.{cell_lines, count_lines, text_lines}
-use Rattle.xw_answers.specs.Stats.{stat_lines}
-use Rattle.xw_session.specs.Record.{record_lines}
+use Rattle.xw_session.specs.Help.{all_forms}
+use Rattle.xw_session.specs.Told.{told_lines}
 use Rattle.xw_session.specs.Put.{target_of, has_target, with_piece}
 use Rattle.xw_answers.specs.Text.{word_line, light_lines, circle_lines, change_line, letters_line, counted_lines, light_of, spelled_line}
 use Rattle.xw_session.specs.Found.{duplicate_line, suggestion_line}
@@ -65,7 +70,7 @@ name_of_light named = record { number = named.number; direction = named.directio
 abbrev pub edited : State → Result Reply Refusal
 edited state = Ok (record { lines = []; state = state })
 
--- a query, which leaves the state unchanged
+-- lines, and the state unchanged
 abbrev pub shown : State → List ℕ → Result Reply Refusal
 shown state lines = Ok (record { lines = lines; state = state })
 
@@ -94,8 +99,8 @@ abbrev pub resized : State → Result Grid GridFault → Result Reply Refusal
 resized state (Ok grid) = edited (record state { engine = record { grid = grid; words = state.engine.words }; clues = no_clues; circles = [] })
 resized state (Err fault) = Err (refusals.Grid fault)
 
-abbrev pub matched : State → Result (List (List ℕ)) WordFault → Result Reply Refusal
-matched state (Ok found) = shown state (flat_map word_line found)
+abbrev pub matched : State → Result (List (List ℕ)) WordFault → Result (List ℕ) Refusal
+matched state (Ok found) = Ok (flat_map word_line found)
 matched state (Err fault) = Err (refusals.Word fault)
 
 -- the light that a command names
@@ -124,14 +129,6 @@ put state putting field (Some text) =
     else if has_nul text then Err refusals.NulByte
     else edited (with_piece state putting (target_of field) text)
 
--- the report on the whole puzzle
-abbrev pub told_lines : State → Report → List ℕ
-told_lines state Cells = cell_lines state.engine
-told_lines state Counts = count_lines state.engine
-told_lines state Texts = text_lines state
-told_lines state Stats = stat_lines state.engine.grid
-told_lines state Record = record_lines state
-
 -- the circle of an open cell is set, or removed if it was there
 abbrev pub circle_toggled : State → Cell → Result Reply Refusal
 circle_toggled state cell =
@@ -145,18 +142,18 @@ first_words None found = found
 first_words (Some most) found = take most found
 
 -- the number of feasible words of a light, and the words that the command asks for
-abbrev pub worded : State → Option ℕ → Option ℕ → Result Reply Refusal
+abbrev pub worded : State → Option ℕ → Option ℕ → Result (List ℕ) Refusal
 worded state None most = Err refusals.NoLight
 worded state (Some light) most =
-    shown state (counted_lines (length (feasible_words state.engine light)) (first_words most (feasible_words state.engine light)))
+    Ok (counted_lines (length (feasible_words state.engine light)) (first_words most (feasible_words state.engine light)))
 
 -- the first feasible words of a light, from an index on, with what each leaves
-abbrev pub weighed_from : State → ℕ → ℕ → Result (Option ℕ) Refusal → Result Reply Refusal
-weighed_from state light most (Ok from) = shown state (choice_lines state.engine light from most)
+abbrev pub weighed_from : State → ℕ → ℕ → Result (Option ℕ) Refusal → Result (List ℕ) Refusal
+weighed_from state light most (Ok from) = Ok (choice_lines state.engine light from most)
 weighed_from state light most (Err refusal) = Err refusal
 
 -- the first feasible words of a light, from a named word on, with what each leaves
-abbrev pub weighed : State → Option ℕ → ℕ → Option (List ℕ) → Result Reply Refusal
+abbrev pub weighed : State → Option ℕ → ℕ → Option (List ℕ) → Result (List ℕ) Refusal
 weighed state None most first = Err refusals.NoLight
 weighed state (Some light) most first = weighed_from state light most (first_index state.engine light first)
 
@@ -165,22 +162,32 @@ abbrev pub are_lights : Grid → List LightName → Bool
 are_lights grid names = list_all (λ name. is_some (index_named (lights_of grid) name)) names
 
 -- the grades of the words of the named lights, or of all wholly entered lights if none is named
-abbrev pub graded : State → List LightName → Result Reply Refusal
-graded state names = if are_lights state.engine.grid names then shown state (grade_lines state.engine names) else Err refusals.NoLight
+abbrev pub graded : State → List LightName → Result (List ℕ) Refusal
+graded state names = if are_lights state.engine.grid names then Ok (grade_lines state.engine names) else Err refusals.NoLight
 
 -- the feasible letters of an open cell
-abbrev pub lettered : State → Cell → Result Reply Refusal
+abbrev pub lettered : State → Cell → Result (List ℕ) Refusal
 lettered state cell =
     if not (is_inside state.engine.grid cell) then Err (refusals.Grid grids.OutOfGrid)
     else if is_block state.engine.grid cell then Err (refusals.Grid grids.OnBlock)
-    else shown state (letters_line (feasible_letters state.engine (index_of state.engine.grid cell)))
+    else Ok (letters_line (feasible_letters state.engine (index_of state.engine.grid cell)))
 
 -- for each feasible letter of an open cell the counts of its lights
-abbrev pub tallied : State → Cell → Result Reply Refusal
+abbrev pub tallied : State → Cell → Result (List ℕ) Refusal
 tallied state cell =
     if not (is_inside state.engine.grid cell) then Err (refusals.Grid grids.OutOfGrid)
     else if is_block state.engine.grid cell then Err (refusals.Grid grids.OnBlock)
-    else shown state (tally_lines state.engine cell)
+    else Ok (tally_lines state.engine cell)
+
+-- the form of a command, if there is one
+abbrev pub form_shown : Option (List ℕ) → Result (List ℕ) Refusal
+form_shown None = Err (refusals.Syntax faults.Command)
+form_shown (Some form) = Ok (word_line form)
+
+-- the form of the command with this word, or the forms of all commands if no word is given
+abbrev pub helped : Option (List ℕ) → Result (List ℕ) Refusal
+helped None = Ok all_forms
+helped (Some word) = form_shown (form_named word)
 
 abbrev pub filling_name : Filling → List ℕ
 filling_name fillings.Filled = codes "filled"
@@ -194,47 +201,55 @@ fill_tried state limit =
     else if found state.engine then Ok (record { lines = word_line (filling_name fillings.Filled); state = record state { engine = filled_in state.engine (end state.engine).board.entries } })
     else shown state (word_line (filling_name fillings.NoFill))
 
--- ---- the reply to each command if no allocation fails
+-- ---- queries
 
--- The one reply to a command, or None for a search that may get one of several: `IsDue` of `Answer.antt` has a row for
--- each of these.
-abbrev pub reply_to : State → Command → Option (Result Reply Refusal)
-reply_to state (commands.Size width height) = Some (resized state (new_grid width height))
-reply_to state (commands.Symmetry kind) = Some (moved state (after state.engine (symmetry_chosen kind)))
-reply_to state (commands.Add word grade) = Some (moved state (after state.engine (word_added word grade)))
-reply_to state (commands.Strike word) = Some (moved state (after state.engine (word_struck word)))
-reply_to state (commands.Least grade) = Some (moved state (after state.engine (least_chosen grade)))
-reply_to state (commands.Match pattern) = Some (matched state (matching_answer state.engine.words pattern))
-reply_to state (commands.Set spot letter) = Some (with_letter state spot (letter_of letter))
-reply_to state (commands.Clear spot) = Some (moved state (after state.engine (cell_cleared (cell_of spot))))
-reply_to state (commands.Place named word) = Some (moved state (after state.engine (word_placed (name_of_light named) word)))
-reply_to state (commands.Erase named) = Some (erased state (light_named state.engine.grid named))
-reply_to state (commands.Block spot) = Some (moved state (after state.engine (block_toggled (cell_of spot))))
-reply_to state (commands.Bar spot side) = Some (moved state (after state.engine (bar_toggled (cell_of spot) side)))
-reply_to state (commands.Clue named text) = Some (with_clue_of state (light_named state.engine.grid named) text)
-reply_to state (commands.Write field text) = Some (written state field text)
-reply_to state (commands.Circle spot) = Some (circle_toggled state (cell_of spot))
-reply_to state commands.Circles = Some (shown state (circle_lines state.engine.grid state.circles))
-reply_to state commands.Show = Some (shown state (show_lines state.engine.grid))
-reply_to state commands.Lights = Some (shown state (light_lines state.engine.grid))
-reply_to state (commands.Words named most) = Some (worded state (index_named (lights_of state.engine.grid) (name_of_light named)) most)
-reply_to state (commands.Choices named most first) = Some (weighed state (index_named (lights_of state.engine.grid) (name_of_light named)) most first)
-reply_to state (commands.Letters spot) = Some (lettered state (cell_of spot))
-reply_to state (commands.Tally spot) = Some (tallied state (cell_of spot))
-reply_to state commands.Duplicates = Some (shown state (flat_map (duplicate_line state.engine.grid) (duplicates_of state.engine)))
-reply_to state commands.Unlisted = Some (shown state (flat_map (spelled_line state.engine.grid) (unlisted_of state.engine)))
-reply_to state (commands.Grades lights) = Some (graded state (map name_of_light lights))
-reply_to state commands.Unmatched = Some (shown state (unmatched_lines state.engine))
-reply_to state commands.Suggest = Some (shown state (suggestion_line state.engine (suggestion state.engine)))
-reply_to state (commands.Why named) = None
-reply_to state (commands.Fill limit) = Some (fill_tried state limit)
-reply_to state (commands.Autofill limit seed lights) = None
-reply_to state (commands.Best limit seed lights) = None
-reply_to state (commands.Watch is_on) = Some (edited (record state { is_watched = is_on }))
-reply_to state (commands.Tell telling) = Some (shown state (told_lines state telling))
-reply_to state (commands.Put putting field spelling) = Some (put state putting field (text_spelled spelling))
+-- The one answer to a query if no allocation fails, or None for a query that may get one of several: `IsOneOf` of
+-- `Answer.antt` has a row for each of these.
+abbrev pub answer_of : State → Query → Option (Result (List ℕ) Refusal)
+answer_of state (queries.Match pattern) = Some (matched state (matching_answer state.engine.words pattern))
+answer_of state queries.Circles = Some (Ok (circle_lines state.engine.grid state.circles))
+answer_of state queries.Show = Some (Ok (show_lines state.engine.grid))
+answer_of state queries.Lights = Some (Ok (light_lines state.engine.grid))
+answer_of state (queries.Words named most) = Some (worded state (index_named (lights_of state.engine.grid) (name_of_light named)) most)
+answer_of state (queries.Choices named most first) = Some (weighed state (index_named (lights_of state.engine.grid) (name_of_light named)) most first)
+answer_of state (queries.Letters spot) = Some (lettered state (cell_of spot))
+answer_of state (queries.Tally spot) = Some (tallied state (cell_of spot))
+answer_of state queries.Duplicates = Some (Ok (flat_map (duplicate_line state.engine.grid) (duplicates_of state.engine)))
+answer_of state queries.Unlisted = Some (Ok (flat_map (spelled_line state.engine.grid) (unlisted_of state.engine)))
+answer_of state (queries.Grades lights) = Some (graded state (map name_of_light lights))
+answer_of state queries.Unmatched = Some (Ok (unmatched_lines state.engine))
+answer_of state queries.Suggest = Some (Ok (suggestion_line state.engine (suggestion state.engine)))
+answer_of state (queries.Why named) = None
+answer_of state (queries.Help word) = Some (helped word)
+answer_of state (queries.Tell report) = Some (Ok (told_lines state report))
 
--- ---- failed allocations
+-- whether a query allocates, and so may be refused for memory
+abbrev pub allocates : Query → Bool
+allocates queries.Duplicates = true
+allocates queries.Unlisted = true
+allocates (queries.Why named) = true
+allocates other = false
+
+-- ---- changes
+
+-- the reply to a change if no allocation fails
+abbrev pub changed : State → Change → Result Reply Refusal
+changed state (changes.Size width height) = resized state (new_grid width height)
+changed state (changes.Symmetry kind) = moved state (after state.engine (symmetry_chosen kind))
+changed state (changes.Add word grade) = moved state (after state.engine (word_added word grade))
+changed state (changes.Strike word) = moved state (after state.engine (word_struck word))
+changed state (changes.Least grade) = moved state (after state.engine (least_chosen grade))
+changed state (changes.Set spot letter) = with_letter state spot (letter_of letter)
+changed state (changes.Clear spot) = moved state (after state.engine (cell_cleared (cell_of spot)))
+changed state (changes.Place named word) = moved state (after state.engine (word_placed (name_of_light named) word))
+changed state (changes.Erase named) = erased state (light_named state.engine.grid named)
+changed state (changes.Block spot) = moved state (after state.engine (block_toggled (cell_of spot)))
+changed state (changes.Bar spot side) = moved state (after state.engine (bar_toggled (cell_of spot) side))
+changed state (changes.Clue named text) = with_clue_of state (light_named state.engine.grid named) text
+changed state (changes.Write field text) = written state field text
+changed state (changes.Circle spot) = circle_toggled state (cell_of spot)
+changed state (changes.Watch is_on) = edited (record state { is_watched = is_on })
+changed state (changes.Put putting field spelling) = put state putting field (text_spelled spelling)
 
 abbrev pub grid_memory : Refusal
 grid_memory = refusals.Grid grids.Memory
@@ -247,20 +262,40 @@ want_of_text (byte ∷ bytes) = Some grid_memory
 abbrev pub want_of_action : State → Action → Option Refusal
 want_of_action state action = option_map refusal_of (want_of_edit state.engine action)
 
+-- the refusal that a failed allocation gives, if the change may allocate
+abbrev pub want_of_change : State → Change → Option Refusal
+want_of_change state (changes.Size width height) = Some grid_memory
+want_of_change state (changes.Add word grade) = want_of_action state (word_added word grade)
+want_of_change state (changes.Block spot) = Some grid_memory
+want_of_change state (changes.Bar spot side) = Some grid_memory
+want_of_change state (changes.Clue named text) = want_of_text text
+want_of_change state (changes.Write field text) = want_of_text text
+want_of_change state (changes.Circle spot) = if is_circled state.circles (cell_of spot) then None else Some grid_memory
+want_of_change state (changes.Put putting field spelling) = want_of_text spelling
+want_of_change state other = None
+
+-- ---- all commands
+
+-- The one reply to a search if no allocation fails, or None for a search that may get one of several: `IsFound` of
+-- `Answer.antt` has a row for each of these.
+abbrev pub searched : State → Search → Option (Result Reply Refusal)
+searched state (searches.Fill limit) = Some (fill_tried state limit)
+searched state (searches.Autofill limit seed lights) = None
+searched state (searches.Best limit seed lights) = None
+
+-- the answer to a query as a reply: the state stays as it was
+abbrev pub asked : State → Result (List ℕ) Refusal → Result Reply Refusal
+asked state (Ok lines) = shown state lines
+asked state (Err refusal) = Err refusal
+
+-- the one reply to a command if no allocation fails, or None if the command may get one of several
+abbrev pub reply_to : State → Command → Option (Result Reply Refusal)
+reply_to state (commands.Ask query) = option_map (asked state) (answer_of state query)
+reply_to state (commands.Change change) = Some (changed state change)
+reply_to state (commands.Search search) = searched state search
+
 -- the refusal that a failed allocation gives, if the command may allocate
 abbrev pub want_of : State → Command → Option Refusal
-want_of state (commands.Size width height) = Some grid_memory
-want_of state (commands.Add word grade) = want_of_action state (word_added word grade)
-want_of state (commands.Block spot) = Some grid_memory
-want_of state (commands.Bar spot side) = Some grid_memory
-want_of state (commands.Clue named text) = want_of_text text
-want_of state (commands.Write field text) = want_of_text text
-want_of state (commands.Circle spot) = if is_circled state.circles (cell_of spot) then None else Some grid_memory
-want_of state commands.Duplicates = Some grid_memory
-want_of state commands.Unlisted = Some grid_memory
-want_of state (commands.Why named) = Some grid_memory
-want_of state (commands.Fill limit) = Some grid_memory
-want_of state (commands.Autofill limit seed lights) = Some grid_memory
-want_of state (commands.Best limit seed lights) = Some grid_memory
-want_of state (commands.Put putting field spelling) = want_of_text spelling
-want_of state other = None
+want_of state (commands.Ask query) = if allocates query then Some grid_memory else None
+want_of state (commands.Change change) = want_of_change state change
+want_of state (commands.Search search) = Some grid_memory

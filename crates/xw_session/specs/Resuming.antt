@@ -8,6 +8,7 @@ use Rattle.xw_lines.specs.declared.outcome.Step.TheVariants.{Refused}
 use Rattle.xw_commands.specs.Command.{command_of}
 use Rattle.xw_commands.specs.declared.command.Command.{Command}
 use Rattle.xw_commands.specs.declared.command.Command.TheVariants as commands
+use Rattle.xw_commands.specs.declared.change.Change.TheVariants as changes
 use Rattle.xw_commands.specs.declared.command.SyntaxFault.{SyntaxFault}
 use Rattle.xw_answers.specs.declared.refusal.Refusal.{Refusal}
 use Rattle.xw_answers.specs.declared.refusal.Refusal.TheVariants as refusals
@@ -22,7 +23,7 @@ use Rattle.xw_answers.specs.Text.{name_of, refused, word_line}
 
 -- why a parsed line is still not a command: the text of `text` or `more` has a wrong escape
 abbrev pub command_fault : Option Command → Option Refusal
-command_fault (Some (commands.Put putting field spelling)) = if is_some (text_spelled spelling) then None else Some refusals.Escape
+command_fault (Some (commands.Change (changes.Put putting field spelling))) = if is_some (text_spelled spelling) then None else Some refusals.Escape
 command_fault other = None
 
 abbrev pub parsed_fault : Result (Option Command) SyntaxFault → Option Refusal
@@ -40,16 +41,11 @@ is_memory (refusals.Word words.Memory) = true
 is_memory (refusals.Grid grids.Memory) = true
 is_memory other = false
 
--- In a state the line may be executed and leave this state. It is refused with this answer or, if None, not refused.
-abbrev pub IsAnswered : State → List ℕ → Option (List ℕ) → State → Type 0
-IsAnswered state line None after = (step : Step) × (answer : List ℕ) × Answers state line step answer after × (step ≢ Refused)
-IsAnswered state line (Some answer) after = Answers state line Refused answer after
-
--- In a state the command may be executed and leave this state. It is refused for this reason, which is not a failed
+-- In a state the line may be executed and leave this state. It is refused for this reason, which is not a failed
 -- allocation, or, if None, not refused.
 abbrev pub IsDone : State → List ℕ → Option Refusal → State → Type 0
-IsDone state line None after = (line_fault line ≡ None) × IsAnswered state line None after
-IsDone state line (Some refusal) after = (line_fault line ≡ None) × IsAnswered state line (Some (refused refusal)) after × (is_memory refusal ≡ false)
+IsDone state line None after = (line_fault line ≡ None) × (step : Step) × (answer : List ℕ) × Answers state line step answer after × (step ≢ Refused)
+IsDone state line (Some refusal) after = (line_fault line ≡ None) × Answers state line Refused (refused refusal) after × (is_memory refusal ≡ false)
 
 -- in a state the line may be executed and leave this state, whatever its answer
 abbrev pub MayBeDone : State → List ℕ → State → Type 0

@@ -1,22 +1,22 @@
 //! Replays the lines of a session file into a session.
-ghost use Rattle.std.specs.Prelude.{◌≡◌, ℕ, ◌≤◌, List, IfOk, OnOk, OnErr, option_map};
+ghost use Rattle.std.specs.Prelude.{◌≡◌, ℕ, ◌≤◌, ◌+◌, List, Result, Some, None, Ok, false, IfOk, IfErr, OnOk, OnErr};
 ghost use Rattle.xw_lines.specs.Cut.{lines_of};
-ghost use Rattle.xw_answers.specs.Text.{refused, word_line, name_of};
-ghost use Rattle.xw_answers.specs.declared.refusal.Refusal.{Refusal};
-ghost use Rattle.xw_session.specs.Resuming.{line_fault as fault_of_line, is_memory as is_want_of_memory, refused_line, IsAnswered, MayBeDone, ResumesLine, Resumes, Tells};
+ghost use Rattle.xw_commands.specs.Command.{command_of};
+ghost use Rattle.xw_answers.specs.declared.refusal.Refusal.{Refusal as AnyRefusal};
+ghost use Rattle.xw_session.specs.Answer.{IsExecuted};
+ghost use Rattle.xw_session.specs.Resuming.{line_fault, is_memory as is_want_of_memory, refused_line, ResumesLine, Resumes, Tells};
 
-use crate::session::Session;
+use crate::session::{Ended, Session};
 use crate::vec_sink::VecSink;
 use std::alloc::{AllocError, Global};
 use xw_answers::escape::is_spelling;
-use xw_answers::refusal::Refusal;
-use xw_commands::command::{self, Command};
+use xw_answers::refusal::{self, Refusal};
+use xw_commands::{Change, Command, command};
 use xw_feas::searchable::Searchable;
-use xw_lines::{Sink, Step, device};
+use xw_grid::GridFault;
+use xw_lines::{Sink, device};
 use xw_text::lines::first_line;
-
-/// The length of `no `, which precedes the name in the answer to a refused line.
-const BEFORE_NAME: usize = 3;
+use xw_words::WordFault;
 
 /// Why a replay stops before the last line.
 #[derive(Clone, Copy, Debug, PartialEq, Eq)]
@@ -38,46 +38,59 @@ impl From<AllocError> for Stop {
     }
 }
 
-/// Returns why a line is not a command in any session, or `None` if it is one.
-fn line_fault(line: &[u8]) -> Option<Refusal>
-    ensures { result ≡ fault_of_line line.now }
+/// Returns the command of a line, or why the line is not a command in any session.
+pub(crate) fn command_in(line: &[u8]) -> Result<Option<Command<'_>>, Refusal>
+    ensures ok { IfOk result (λ command. (command_of line.now ≡ Ok command) × (line_fault line.now ≡ None)) }
+    ensures err { IfErr result (λ refusal. line_fault line.now ≡ Some refusal) }
 {
     match command::parse(line) {
-        Ok(Some(Command::Put(_, _, spelling))) if !is_spelling(spelling.bytes()) => {
-            Some(Refusal::Escape)
+        Ok(Some(Command::Change(Change::Put(putting, field, spelling)))) => {
+            if is_spelling(spelling.bytes()) {
+                Ok(Some(Command::Change(Change::Put(putting, field, spelling))))
+            } else {
+                Err(Refusal::Escape)
+            }
         }
-        Ok(_) => None,
-        Err(fault) => Some(Refusal::Syntax(fault)),
+        Ok(command) => Ok(command),
+        Err(fault) => Err(Refusal::Syntax(fault)),
     }
 }
 
-/// Returns the name and LF of a refusal's answer.
-fn name_line(answer: &[u8]) -> &[u8]
-    ensures { (refusal : Refusal) → answer.now ≡ refused refusal → result.now ≡ word_line (name_of refusal) }
+/// Whether a refusal says that an allocation failed.
+pub(crate) fn is_memory(refusal: Refusal) -> bool
+    ensures { result ≡ is_want_of_memory refusal }
 {
-    &answer[answer.len().min(BEFORE_NAME)..]
+    matches!(
+        refusal,
+        Refusal::Word(WordFault::Memory) | Refusal::Grid(GridFault::Memory)
+    )
 }
 
-/// Whether a refusal's answer says that an allocation failed.
-fn is_memory(answer: &[u8]) -> bool
-    ensures { (refusal : Refusal) → answer.now ≡ refused refusal → result ≡ is_want_of_memory refusal }
+/// Returns the report of a refused line of a file.
+pub(crate) fn report(
+    alloc: Global,
+    file: &str,
+    number: usize,
+    refusal: Refusal,
+) -> Result<String, AllocError>
+    ensures { IfOk result (λ text. text.bytes.items ≡ refused_line file.now number refusal) }
 {
-    name_line(answer) == b"Memory\n".as_slice()
+    let name = refusal::name(refusal);
+    Ok(format!(in alloc; "xw: {file}: line {number}: {name}\n")?)
 }
 
-/// Executes a line, and returns its answer if the line was refused.
+/// Executes a command. Its answer is dropped.
 fn redo<F: Searchable>(
     alloc: Global,
     session: &mut Session<F>,
-    line: &[u8],
-) -> Result<Option<Vec<u8>>, AllocError>
-    ensures done { IfOk result (λ answer. IsAnswered session.old line.now (option_map (λ bytes. bytes.items) answer) session.new) }
-    ensures memory { OnErr result (MayBeDone session.old line.now session.new) }
+    command: Command<'_>,
+) -> Result<Ended, AllocError>
+    ensures done { IfOk result (λ ended. IsExecuted session.old command.entry ended session.new) }
+    ensures memory { OnErr result ((ended : Result (Unit {0}) AnyRefusal) × IsExecuted session.old command.entry ended session.new) }
 {
     let mut answer = VecSink::new(alloc);
-    match session.step(line, &mut answer) {
-        Ok(Step::Refused) => Ok(Some(answer.into_bytes())),
-        Ok(Step::Silent | Step::Accepted) => Ok(None),
+    match session.answer(command, &mut answer) {
+        Ok(ended) => Ok(ended),
         Err(_) => Err(AllocError),
     }
 }
@@ -89,21 +102,48 @@ pub fn tell<E: Sink>(errors: &mut E, text: &[u8])
     let _ = device::write_all(errors, text);
 }
 
-/// Reports a refused line of a file. Write errors are ignored.
-fn tell_refused<E: Sink>(
+/// Reports a refused line of a file. Returns 1. Fails with `Memory`, and writes nothing, if the refusal or an allocation
+/// for the report says that memory is short.
+fn report_refusal<E: Sink>(
     alloc: Global,
-    errors: &mut E,
     file: &str,
     number: usize,
-    answer: &[u8],
-) -> Result<(), AllocError>
-    ensures transcript { (refusal : Refusal) → answer.now ≡ refused refusal → OnOk result (Tells E.transcript E.failures errors.old errors.new (refused_line file.now number refusal)) }
-    ensures untold { OnErr result (errors.new ≡ errors.old) }
+    refusal: Refusal,
+    errors: &mut E,
+) -> Result<usize, Stop>
+    ensures told { IfOk result (λ refused. (refused ≡ 1) × (is_want_of_memory refusal ≡ false) × Tells E.transcript E.failures errors.old errors.new (refused_line file.now number refusal)) }
+    ensures untold { IfErr result (λ stop. (stop ≡ Stop.Memory) × (errors.new ≡ errors.old)) }
 {
-    let location = format!(in alloc; "xw: {file}: line {number}: ")?;
-    tell(errors, location.as_bytes());
-    tell(errors, name_line(answer));
-    Ok(())
+    if is_memory(refusal) {
+        return Err(Stop::Memory);
+    }
+    match report(alloc, file, number, refusal) {
+        Ok(text) => {
+            tell(errors, text.as_bytes());
+            Ok(1)
+        }
+        Err(AllocError) => Err(Stop::Memory),
+    }
+}
+
+/// Executes the command of a line, and reports the line if the session refuses it. Returns 1 if it was refused, 0
+/// otherwise. Fails if an allocation fails.
+fn resume_command<F: Searchable, E: Sink>(
+    alloc: Global,
+    session: &mut Session<F>,
+    file: &str,
+    number: usize,
+    command: Command<'_>,
+    errors: &mut E,
+) -> Result<usize, Stop>
+    ensures done { (line : List ℕ) → command_of line ≡ Ok (Some command.entry) → line_fault line ≡ None → ResumesLine E.transcript E.failures file.now number session.old line result session.new errors.old errors.new }
+    ensures once { IfOk result (λ refused. refused ≤ 1) }
+{
+    match redo(alloc, session, command) {
+        Ok(Ok(())) => Ok(0),
+        Ok(Err(refusal)) => report_refusal(alloc, file, number, refusal, errors),
+        Err(AllocError) => Err(Stop::Memory),
+    }
 }
 
 /// Executes a line of a file, and reports it if the session refuses it. Returns 1 if it was refused, 0 otherwise.
@@ -119,23 +159,17 @@ fn resume_line<F: Searchable, E: Sink>(
     ensures done { ResumesLine E.transcript E.failures file.now number session.old line.now result session.new errors.old errors.new }
     ensures once { IfOk result (λ refused. refused ≤ 1) }
 {
-    if let Some(refusal) = line_fault(line) {
-        return Err(Stop::NoCommand { number, refusal });
-    }
-    match redo(alloc, session, line)? {
-        None => Ok(0),
-        Some(answer) if is_memory(answer.as_slice()) => Err(Stop::Memory),
-        Some(answer) => {
-            tell_refused(alloc, errors, file, number, answer.as_slice())?;
-            Ok(1)
-        }
+    match command_in(line) {
+        Ok(Some(command)) => resume_command(alloc, session, file, number, command, errors),
+        Ok(None) => Ok(0),
+        Err(refusal) => Err(Stop::NoCommand { number, refusal }),
     }
 }
 
 /// Executes the lines of a session file without writing their answers. Reports each refused line on `errors`, in the
 /// form `xw: FILE: line N: NAME`. Returns the number of refused lines. Stops at the first line that is not a command,
-/// and if an allocation fails. Lines in a row that are not refused, and that neither ask the engine nor edit the
-/// dictionary, update the engine once.
+/// and if an allocation fails. Lines in a row that neither ask the engine nor edit the dictionary update the engine
+/// once.
 pub fn resume<F: Searchable, E: Sink>(
     alloc: Global,
     session: &mut Session<F>,
@@ -150,9 +184,11 @@ pub fn resume<F: Searchable, E: Sink>(
     let mut refused = 0;
     let mut singly = 0;
     while !rest.is_empty() {
-        if let Some((taken, after)) = session.redraw_if_many(rest, &mut singly) {
-            number += taken;
-            rest = after;
+        if let Some(drawn) = session.redraw_if_many(file, number, rest, &mut singly) {
+            tell(errors, drawn.reports.as_slice());
+            number += drawn.taken;
+            refused += drawn.refused;
+            rest = drawn.rest;
             continue;
         }
         let (line, after) = first_line(rest);

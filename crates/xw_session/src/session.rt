@@ -6,6 +6,7 @@ mod changing;
 mod choosing;
 mod erasing;
 mod grading;
+mod helping;
 mod matching;
 mod putting;
 mod queries;
@@ -24,17 +25,18 @@ ghost use Rattle.xw_lines.specs.Sends.{Sends};
 ghost use Rattle.xw_lines.specs.Spoken.{NeverStops};
 ghost use Rattle.xw_session.specs.State.{State};
 ghost use Rattle.xw_answers.specs.Record.{known_counts};
-ghost use Rattle.xw_commands.specs.Kind.{kind_of, answers_lines};
 ghost use Rattle.xw_session.specs.Reply.{cell_of};
-ghost use Rattle.xw_session.specs.Answer.{AnswersTo, AnswersParsedBy, AnswersLine, Answers, reply_of, text_of, step_of};
+ghost use Rattle.xw_session.specs.Answer.{AnswersTo, AnswersQuery, AnswersChange, AnswersSearch, AnswersParsedBy, AnswersLine, Answers, reply_of, text_of, ended_by, outcome_of};
 
+use crate::session::asking::{bar, block, clear, place, set};
 use std::alloc::Global;
 use std::marker::Model;
 use xw_answers::record::{LENGTHS, known_words};
 use xw_answers::refusal::Refusal;
 use xw_answers::text;
-use xw_commands::command::{self, CellArg, Command, Kind, SyntaxFault};
-use xw_feas::edit::Refusal as EditRefusal;
+use xw_commands::command::{self, CellArg, SyntaxFault};
+use xw_commands::{Change, Command, Query, Search};
+use xw_feas::edit::{Edit, Refusal as EditRefusal};
 use xw_feas::feasible::Feasible;
 use xw_feas::searchable::Searchable;
 use xw_fill::best::BestHint;
@@ -107,32 +109,42 @@ impl<E: Feasible> Model for Session<E> {
     } };
 }
 
-/// Whether a command changes at most entries and the least grade.
-fn keeps_words_and_lights(command: &Command<'_>) -> bool {
+/// How a command ended: it was accepted, or refused.
+pub(crate) type Ended = Result<(), Refusal>;
+
+/// Whether a change changes at most entries and the least grade.
+fn keeps_words_and_lights(change: &Change<'_>) -> bool {
     matches!(
-        command,
-        Command::Set(..)
-            | Command::Clear(_)
-            | Command::Place(..)
-            | Command::Erase(_)
-            | Command::Least(_)
+        change,
+        Change::Set(..) | Change::Clear(_) | Change::Place(..) | Change::Erase(_) | Change::Least(_)
     )
 }
 
 /// Writes the end of an answer: `ok`, or the refusal.
-fn end_answer<W: Sink>(sink: &mut W, done: Result<(), Refusal>) -> Result<Step, WriteFailed>
-    ensures sends { (state : State) → Sends W.transcript W.failures sink.old sink.new result (text_of (reply_of done state)) }
-    ensures step { (state : State) → IfOk result (λ step. step ≡ step_of (reply_of done state)) }
+fn end_answer<W: Sink>(sink: &mut W, ended: Ended) -> Result<Ended, WriteFailed>
+    ensures sends { (state : State) → Sends W.transcript W.failures sink.old sink.new result (text_of (reply_of ended state)) }
+    ensures step { (state : State) → IfOk result (λ answered. answered ≡ ended_by (reply_of ended state)) }
 {
-    match done {
+    match ended {
         Ok(()) => {
             text::write_accepted(sink)?;
-            Ok(Step::Accepted)
+            Ok(Ok(()))
         }
         Err(refusal) => {
             text::write_refused(sink, refusal)?;
-            Ok(Step::Refused)
+            Ok(Err(refusal))
         }
+    }
+}
+
+/// Returns the outcome of a line whose command was answered.
+fn outcome(answered: Result<Ended, WriteFailed>) -> Result<Step, WriteFailed>
+    ensures { result ≡ outcome_of answered }
+{
+    match answered {
+        Ok(Ok(())) => Ok(Step::Accepted),
+        Ok(Err(_)) => Ok(Step::Refused),
+        Err(failed) => Err(failed),
     }
 }
 
@@ -166,8 +178,6 @@ pub(crate) fn cell_in(grid: &Grid, spot: CellArg) -> Result<Cell, Refusal>
 }
 
 impl<E: Feasible> Session<E> {
-    ghost use Rattle.xw_commands.specs.declared.command.Command.TheVariants as commands;
-
     /// Starts a session over an engine, with empty texts, no clues, no circles, and the watch off.
     pub fn new(alloc: Global, engine: E) -> Session<E>
         ensures { result ≡ record {
@@ -263,86 +273,107 @@ impl<E: Feasible> Session<E> {
 }
 
 impl<E: Searchable> Session<E> {
-    ghost use Rattle.xw_commands.specs.declared.command.Command.TheVariants as commands;
-
-    /// Executes a command and writes its answer. A change that is not refused ends the search that `autofill` could
-    /// continue. It also ends that of `best` if it changes more than entries and the least grade.
-    fn answer<W: Sink>(&mut self, command: Command<'_>, sink: &mut W) -> Result<Step, WriteFailed>
-        ensures { AnswersTo W.transcript W.failures self.old command.entry result self.new sink.old sink.new }
+    /// Answers a query. The session stays as it was.
+    pub fn ask<W: Sink>(&mut self, query: Query<'_>, sink: &mut W) -> Result<Ended, WriteFailed>
+        ensures answer { AnswersQuery W.transcript W.failures self.old query.entry result sink.old sink.new }
+        ensures unchanged { self.new ≡ self.old }
     {
-        let is_change = command.kind() == Kind::Change;
-        let may_go_on = keeps_words_and_lights(&command);
-        let step = self.answer_any(command, sink);
-        let has_changed = is_change && !matches!(step, Ok(Step::Refused));
-        self.hints.end_autofill_if(has_changed);
-        self.hints.forget_if(has_changed && !may_go_on);
-        step
-    }
-
-    /// Executes a command and writes its answer.
-    fn answer_any<W: Sink>(
-        &mut self,
-        command: Command<'_>,
-        sink: &mut W,
-    ) -> Result<Step, WriteFailed>
-        ensures { AnswersTo W.transcript W.failures self.old command.entry result self.new sink.old sink.new }
-    {
-        match command {
-            Command::Size(width, height) => end_answer(sink, self.resize(width, height)),
-            Command::Symmetry(kind) => self.edit(&self.symmetry(kind), sink),
-            Command::Add(word, grade) => self.edit(&self.add(word.bytes(), grade), sink),
-            Command::Strike(word) => self.edit(&self.strike(word.bytes()), sink),
-            Command::Least(grade) => self.edit(&self.least(grade), sink),
-            Command::Set(spot, letter) => self.edit(&self.set(spot, letter), sink),
-            Command::Clear(spot) => self.edit(&self.clear(spot), sink),
-            Command::Place(named, word) => self.edit(&self.place(named, word.bytes()), sink),
-            Command::Erase(named) => self.answer_erase(named, sink),
-            Command::Block(spot) => self.edit(&self.block(spot), sink),
-            Command::Bar(spot, side) => self.edit(&self.bar(spot, side), sink),
-            Command::Clue(named, text) => end_answer(sink, self.set_clue(named, text.bytes())),
-            Command::Write(field, text) => end_answer(sink, self.write(field, text.bytes())),
-            Command::Circle(spot) => end_answer(sink, self.toggle_circle(spot)),
-            Command::Watch(is_on) => end_answer(sink, self.watch(is_on)),
-            Command::Put(putting, field, text) => {
-                end_answer(sink, self.put(putting, field, text.bytes()))
-            }
-            asked => self.answer_with_lines(asked, sink),
+        match query {
+            Query::Match(pattern) => self.answer_match(pattern.bytes(), sink),
+            Query::Circles => self.answer_circles(sink),
+            Query::Show => self.answer_show(sink),
+            Query::Lights => self.answer_lights(sink),
+            Query::Words(named, most) => self.answer_words(named, most, sink),
+            Query::Choices(named, most, first) => self.answer_choices(named, most, &first, sink),
+            Query::Letters(spot) => self.answer_letters(spot, sink),
+            Query::Tally(spot) => self.answer_tally(spot, sink),
+            Query::Duplicates => self.answer_duplicates(sink),
+            Query::Unlisted => self.answer_unlisted(sink),
+            Query::Grades(lights) => self.answer_grades(lights, sink),
+            Query::Unmatched => self.answer_unmatched(sink),
+            Query::Suggest => self.answer_suggestion(sink),
+            Query::Why(named) => self.answer_why(named, sink),
+            Query::Help(word) => self.answer_help(&word, sink),
+            Query::Tell(report) => self.tell(report, sink),
         }
     }
 
-    /// Executes a command whose answer has lines before `ok`, and writes the answer.
-    fn answer_with_lines<W: Sink>(
+    /// Makes a change and writes its answer.
+    fn answer_change<W: Sink>(
+        &mut self,
+        change: Change<'_>,
+        sink: &mut W,
+    ) -> Result<Ended, WriteFailed>
+        ensures { AnswersChange W.transcript W.failures self.old change.entry result self.new sink.old sink.new }
+    {
+        match change {
+            Change::Size(width, height) => end_answer(sink, self.resize(width, height)),
+            Change::Symmetry(kind) => self.edit(&Ok(Edit::Symmetry(kind)), sink),
+            Change::Add(word, grade) => self.edit(&Ok(Edit::Add(word.bytes(), grade)), sink),
+            Change::Strike(word) => self.edit(&Ok(Edit::Strike(word.bytes())), sink),
+            Change::Least(grade) => self.edit(&Ok(Edit::Least(grade)), sink),
+            Change::Set(spot, letter) => self.edit(&set(self.grid(), spot, letter), sink),
+            Change::Clear(spot) => self.edit(&clear(self.grid(), spot), sink),
+            Change::Place(named, word) => self.edit(&place(self.grid(), named, word.bytes()), sink),
+            Change::Erase(named) => self.answer_erase(named, sink),
+            Change::Block(spot) => self.edit(&block(self.grid(), spot), sink),
+            Change::Bar(spot, side) => self.edit(&bar(self.grid(), spot, side), sink),
+            Change::Clue(named, text) => end_answer(sink, self.set_clue(named, text.bytes())),
+            Change::Write(field, text) => end_answer(sink, self.write(field, text.bytes())),
+            Change::Circle(spot) => end_answer(sink, self.toggle_circle(spot)),
+            Change::Watch(is_on) => end_answer(sink, self.watch(is_on)),
+            Change::Put(putting, field, text) => {
+                end_answer(sink, self.put(putting, field, text.bytes()))
+            }
+        }
+    }
+
+    /// Makes a change and writes its answer. A change that is not refused ends the search that `autofill` could
+    /// continue. It also ends that of `best` if it changes more than entries and the least grade.
+    pub fn change<W: Sink>(
+        &mut self,
+        change: Change<'_>,
+        sink: &mut W,
+    ) -> Result<Ended, WriteFailed>
+        ensures { AnswersChange W.transcript W.failures self.old change.entry result self.new sink.old sink.new }
+    {
+        let may_go_on = keeps_words_and_lights(&change);
+        let answered = self.answer_change(change, sink);
+        let has_changed = !matches!(answered, Ok(Err(_)));
+        self.hints.end_autofill_if(has_changed);
+        self.hints.forget_if(has_changed && !may_go_on);
+        answered
+    }
+
+    /// Searches and answers how the search ended.
+    pub fn search<W: Sink>(
+        &mut self,
+        search: Search<'_>,
+        sink: &mut W,
+    ) -> Result<Ended, WriteFailed>
+        ensures { AnswersSearch W.transcript W.failures self.old search.entry result self.new sink.old sink.new }
+    {
+        match search {
+            Search::Fill(limit) => self.answer_fill(limit, sink),
+            Search::Autofill(limit, seed, lights) => {
+                self.answer_autofill(limit, seed, lights, sink)
+            }
+            Search::Best(limit, seed, lights) => self.answer_best(limit, seed, lights, sink),
+        }
+    }
+
+    /// Executes a command and writes its answer.
+    pub(crate) fn answer<W: Sink>(
         &mut self,
         command: Command<'_>,
         sink: &mut W,
-    ) -> Result<Step, WriteFailed>
-        requires { answers_lines (kind_of command) ≡ true }
+    ) -> Result<Ended, WriteFailed>
         ensures { AnswersTo W.transcript W.failures self.old command.entry result self.new sink.old sink.new }
     {
         match command {
-            Command::Match(pattern) => self.answer_match(pattern.bytes(), sink),
-            Command::Circles => self.answer_circles(sink),
-            Command::Show => self.answer_show(sink),
-            Command::Lights => self.answer_lights(sink),
-            Command::Words(named, most) => self.answer_words(named, most, sink),
-            Command::Choices(named, most, first) => {
-                self.answer_choices(named, most, &first, sink)
-            }
-            Command::Letters(spot) => self.answer_letters(spot, sink),
-            Command::Tally(spot) => self.answer_tally(spot, sink),
-            Command::Duplicates => self.answer_duplicates(sink),
-            Command::Unlisted => self.answer_unlisted(sink),
-            Command::Grades(lights) => self.answer_grades(lights, sink),
-            Command::Unmatched => self.answer_unmatched(sink),
-            Command::Suggest => self.answer_suggestion(sink),
-            Command::Why(named) => self.answer_why(named, sink),
-            Command::Fill(limit) => self.answer_fill(limit, sink),
-            Command::Autofill(limit, seed, lights) => {
-                self.answer_autofill(limit, seed, lights, sink)
-            }
-            Command::Best(limit, seed, lights) => self.answer_best(limit, seed, lights, sink),
-            Command::Tell(telling) => self.tell(telling, sink),
-            _ => unreachable!(),
+            Command::Ask(query) => self.ask(query, sink),
+            Command::Change(change) => self.change(change, sink),
+            Command::Search(search) => self.search(search, sink),
         }
     }
 
@@ -358,8 +389,8 @@ impl<E: Searchable> Session<E> {
     {
         match parsed {
             Ok(None) => Ok(Step::Silent),
-            Ok(Some(command)) => self.answer(command, sink),
-            Err(fault) => end_answer(sink, Err(Refusal::Syntax(fault))),
+            Ok(Some(command)) => outcome(self.answer(command, sink)),
+            Err(fault) => outcome(end_answer(sink, Err(Refusal::Syntax(fault)))),
         }
     }
 

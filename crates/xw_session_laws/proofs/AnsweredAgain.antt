@@ -1,7 +1,7 @@
 -- The lines of a record, as a session answers them.
-use Rattle.std.proofs.Common.{◌≡◌, ℕ, List, [], ◌∷◌, ◌++◌, Some, None, refl, sym, ◌∙◌, ap, subst, inl, inr, arith}
+use Rattle.std.proofs.Common.{◌≡◌, ℕ, true, List, [], ◌∷◌, ◌++◌, Some, None, refl, sym, ◌∙◌, ap, subst, inl, inr, arith}
 use Rattle.std.specs.Prelude.{Option, Result, Ok, Err}
-use Rattle.std.specs.Option.{option_and_then, unwrap_or}
+use Rattle.std.specs.Option.{option_and_then, option_map, is_some, unwrap_or}
 use Rattle.xw_commands.specs.declared.command.Command.{Command}
 use Rattle.xw_commands.specs.declared.command.Command.TheVariants as commands
 use Rattle.xw_commands.specs.declared.command.SyntaxFault.{SyntaxFault}
@@ -10,49 +10,31 @@ use Rattle.xw_lines.specs.declared.outcome.Step.TheVariants.{Silent, Refused}
 use Rattle.xw_answers.specs.declared.refusal.Refusal.{Refusal}
 use Rattle.xw_session.specs.State.{State}
 use Rattle.xw_commands.specs.Command.{command_of}
-use Rattle.xw_session.specs.Reply.{Reply, reply_to, want_of}
-use Rattle.xw_session.specs.Answer.{IsReply, IsDue, Replies, text_of, step_of, state_after, AnswersParsed, Answers}
+use Rattle.xw_session.specs.Reply.{Reply, answer_of, asked, searched, reply_to, want_of}
+use Rattle.xw_session.specs.Answer.{IsReply, IsOnlyOr, IsOneOf, IsFound, IsDue, Replies, text_of, step_of, state_after, AnswersParsed, Answers}
 use Rattle.xw_lines.specs.Spoken.{Spoken, refusals}
 use Rattle.xw_session_laws.specs.Replay.{state_left, left_by, left_by_line, replayed_lines, WantsMemory}
 
 -- ---- a command that leaves one state
 
+left_there : (found : Option (Result Reply Refusal)) (left : State) → left_by found ≡ Some left → is_some found ≡ true
+left_there None left e = cc
+left_there (Some reply) left e = refl
+
+answer_there : (state : State) (found : Option (Result (List ℕ) Refusal)) (left : State) → left_by (option_map (asked state) found) ≡ Some left → is_some found ≡ true
+answer_there state None left e = cc
+answer_there state (Some answer) left e = refl
+
+only_one : {T : Type 0} (found : Option T) (several : Type 0) (due : T) → is_some found ≡ true → IsOnlyOr found several due → found ≡ Some due
+only_one None several due there is = cc
+only_one (Some only) several due there is = ap Some is
+
 -- the reply of a command that can be replayed is the only one due
 determined : (state : State) (command : Command) (due : Result Reply Refusal) (left : State) → left_by (reply_to state command) ≡ Some left → IsDue state command due → reply_to state command ≡ Some due
-determined state (commands.Size width height) due left e owed = ap Some owed
-determined state (commands.Symmetry kind) due left e owed = ap Some owed
-determined state (commands.Add word grade) due left e owed = ap Some owed
-determined state (commands.Strike word) due left e owed = ap Some owed
-determined state (commands.Least grade) due left e owed = ap Some owed
-determined state (commands.Match pattern) due left e owed = ap Some owed
-determined state (commands.Set spot letter) due left e owed = ap Some owed
-determined state (commands.Clear spot) due left e owed = ap Some owed
-determined state (commands.Place named word) due left e owed = ap Some owed
-determined state (commands.Erase named) due left e owed = ap Some owed
-determined state (commands.Block spot) due left e owed = ap Some owed
-determined state (commands.Bar spot side) due left e owed = ap Some owed
-determined state (commands.Clue named text) due left e owed = ap Some owed
-determined state (commands.Write field text) due left e owed = ap Some owed
-determined state (commands.Circle spot) due left e owed = ap Some owed
-determined state commands.Circles due left e owed = ap Some owed
-determined state commands.Show due left e owed = ap Some owed
-determined state commands.Lights due left e owed = ap Some owed
-determined state (commands.Words named most) due left e owed = ap Some owed
-determined state (commands.Choices named most first) due left e owed = ap Some owed
-determined state (commands.Letters spot) due left e owed = ap Some owed
-determined state (commands.Tally spot) due left e owed = ap Some owed
-determined state commands.Duplicates due left e owed = ap Some owed
-determined state commands.Unlisted due left e owed = ap Some owed
-determined state (commands.Grades lights) due left e owed = ap Some owed
-determined state commands.Unmatched due left e owed = ap Some owed
-determined state commands.Suggest due left e owed = ap Some owed
-determined state (commands.Why named) due left e owed = cc
-determined state (commands.Fill limit) due left e owed = ap Some owed
-determined state (commands.Autofill limit seed lights) due left e owed = cc
-determined state (commands.Best limit seed lights) due left e owed = cc
-determined state (commands.Watch is_on) due left e owed = ap Some owed
-determined state (commands.Tell telling) due left e owed = ap Some owed
-determined state (commands.Put putting field spelling) due left e owed = ap Some owed
+determined state (commands.Ask query) due left e (answer, is, same) =
+    ap (option_map (asked state)) (only_one (answer_of state query) (IsOneOf state query answer) answer (answer_there state (answer_of state query) left e) is) ∙ ap Some (sym same)
+determined state (commands.Change change) due left e owed = ap Some owed
+determined state (commands.Search search) due left e owed = only_one (searched state search) (IsFound state search due) due (left_there (searched state search) left e) owed
 
 pub some_left : {X : Type 0} (left : Option X) (f : X → Option State) (last : State) → option_and_then f left ≡ Some last → (next : X) × (left ≡ Some next)
 some_left None f last e = cc

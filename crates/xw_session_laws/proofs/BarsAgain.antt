@@ -15,7 +15,7 @@ use Rattle.xw_grid.specs.Clue.{ClueMap}
 use Rattle.xw_grid.proofs.EdgeLemmas.{is_between-IsEdgeBetween}
 use Rattle.xw_grid.proofs.GridLemmas.{cell_at-inside, index_of-cell_at, same_cell-cell_at, get_set, length-cells, get_or-map-cells}
 use Rattle.xw_feas.specs.State.{with_grid as with_edited, by_fault}
-use Rattle.xw_commands.specs.declared.command.Command.TheVariants as commands
+use Rattle.xw_commands.specs.declared.change.Change.TheVariants as changes
 use Rattle.xw_answers.specs.declared.record.Part.TheVariants as parts
 use Rattle.xw_session.specs.State.{State}
 use Rattle.xw_session.specs.Reply.{moved}
@@ -118,7 +118,7 @@ module _ (state : State) (made : Grid) (is : IsGrid made) (only : BarsAreOnEdges
       none_at : get_or none k false ≡ false
       none_at = get_or-replicate (made.width * made.height) k false false here
 
-      right_step : (b : Bool) → is_barred made (cell_at made k) Right ≡ b → replayed (with_grid state (righted k)) (if b then commands.Bar (spot_of (cell_at made k)) Right ∷ [] else []) ≡ Some (with_grid state (righted (k + 1)))
+      right_step : (b : Bool) → is_barred made (cell_at made k) Right ≡ b → replayed (with_grid state (righted k)) (if b then changes.Bar (spot_of (cell_at made k)) Right ∷ [] else []) ≡ Some (with_grid state (righted (k + 1)))
       right_step false e =
           ap (λ bits. Some (with_grid state (record made { squares = squares; right = bits; below = rest; symmetry = kinds.None })))
           (sym (mixed_same made.right none right_long k false (omega (arith, here, is.right)) (none_at ∙ sym (sym (bit_at Right k here) ∙ e))))
@@ -129,12 +129,12 @@ module _ (state : State) (made : Grid) (is : IsGrid made) (only : BarsAreOnEdges
           let long : length now.right ≡ made.width * made.height = length-mixed made.right none right_long k false within ∙ is.right in
           let edge : is_edge made cell Right ≡ true = edge_of (is_edge made cell Right) _ e in
           let more : set now.right k true ≡ mixed made.right none (k + 1) = ap (set now.right k) (sym (sym (bit_at Right k here) ∙ e)) ∙ sym (mixed_more made.right none right_long k false within) in
-          next_done (with_grid state now) (with_grid state (righted (k + 1))) (commands.Bar (spot_of cell) Right) []
+          next_done (with_grid state now) (with_grid state (righted (k + 1))) (changes.Bar (spot_of cell) Right) []
           (barred_edge (with_grid state now) (is_inside made cell) (is_edge made cell Right) (is_barred now cell Right) (with_edges now cell Right) in_grid edge (free_at now.right k (is_edge made cell Right) edge (mixed_next made.right none right_long k false within ∙ none_at))
           ∙ ap (λ bits. Some (with_grid state (record now { right = bits; below = bars_with now cell Right true Below }))) (bar_set now k Right Right refl in_grid long refl ∙ more)
           ∙ ap (λ bits. Some (with_grid state (record now { right = mixed made.right none (k + 1); below = bits }))) (bars_kept now k Right Below refl in_grid rest_long refl))
 
-      below_step : (b : Bool) → is_barred made (cell_at made k) Below ≡ b → replayed (with_grid state (lowered k)) (if b then commands.Bar (spot_of (cell_at made k)) Below ∷ [] else []) ≡ Some (with_grid state (lowered (k + 1)))
+      below_step : (b : Bool) → is_barred made (cell_at made k) Below ≡ b → replayed (with_grid state (lowered k)) (if b then changes.Bar (spot_of (cell_at made k)) Below ∷ [] else []) ≡ Some (with_grid state (lowered (k + 1)))
       below_step false e =
           ap (λ bits. Some (with_grid state (record made { squares = squares; right = rest; below = bits; symmetry = kinds.None })))
           (sym (mixed_same made.below none below_long k false (omega (arith, here, is.below)) (none_at ∙ sym (sym (bit_at Below k here) ∙ e))))
@@ -145,7 +145,7 @@ module _ (state : State) (made : Grid) (is : IsGrid made) (only : BarsAreOnEdges
           let long : length now.below ≡ made.width * made.height = length-mixed made.below none below_long k false within ∙ is.below in
           let edge : is_edge made cell Below ≡ true = edge_of (is_edge made cell Below) _ e in
           let more : set now.below k true ≡ mixed made.below none (k + 1) = ap (set now.below k) (sym (sym (bit_at Below k here) ∙ e)) ∙ sym (mixed_more made.below none below_long k false within) in
-          next_done (with_grid state now) (with_grid state (lowered (k + 1))) (commands.Bar (spot_of cell) Below) []
+          next_done (with_grid state now) (with_grid state (lowered (k + 1))) (changes.Bar (spot_of cell) Below) []
           (barred_edge (with_grid state now) (is_inside made cell) (is_edge made cell Below) (is_barred now cell Below) (with_edges now cell Below) in_grid edge (free_at now.below k (is_edge made cell Below) edge (mixed_next made.below none below_long k false within ∙ none_at))
           ∙ ap (λ bits. Some (with_grid state (record now { right = bars_with now cell Below true Right; below = bits }))) (bar_set now k Below Below refl in_grid long refl ∙ more)
           ∙ ap (λ bits. Some (with_grid state (record now { right = bits; below = mixed made.below none (k + 1) }))) (bars_kept now k Below Right refl in_grid rest_long refl))

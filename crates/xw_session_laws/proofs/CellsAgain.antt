@@ -20,8 +20,8 @@ use Rattle.xw_grid.specs.Orbit.{moved_by, moved as moved_cell, is_in_orbit}
 use Rattle.xw_grid.specs.Clue.{ClueMap}
 use Rattle.xw_feas.specs.State.{with_grid as with_edited, by_fault}
 use Rattle.xw_grid.proofs.GridLemmas.{cell_at-inside, index_of-cell_at, same_cell-cell_at, get_set, length-cells, get_or-map-cells}
-use Rattle.xw_commands.specs.declared.command.Command.{Command}
-use Rattle.xw_commands.specs.declared.command.Command.TheVariants as commands
+use Rattle.xw_commands.specs.declared.change.Change.{Change}
+use Rattle.xw_commands.specs.declared.change.Change.TheVariants as changes
 use Rattle.xw_answers.specs.declared.record.Part.TheVariants.{Letters, Blocks}
 use Rattle.xw_session.specs.State.{State}
 use Rattle.xw_session.specs.Reply.{moved, with_letter}
@@ -32,7 +32,7 @@ use Rattle.xw_session_laws.proofs.Replaying.{replayed_both, next_done}
 -- ---- one cell after another
 
 -- if the commands of each cell lead from one state to the next, all of them lead from the first to the last
-cells_from : (grid : Grid) (made : Cell → List Command) (after : ℕ → State) (k n : ℕ)
+cells_from : (grid : Grid) (made : Cell → List Change) (after : ℕ → State) (k n : ℕ)
     → ((i : ℕ) → i < k + n → replayed (after i) (made (cell_at grid i)) ≡ Some (after (i + 1)))
     → replayed (after k) (flat_map made (map (cell_at grid) (range_with_len k n))) ≡ Some (after (k + n))
 cells_from grid made after k zero step = let same : k ≡ k + 0 = omega arith in ap (λ i. Some (after i)) same
@@ -44,7 +44,7 @@ cells_from grid made after k (suc n) step =
     ∙ cells_from grid made after (k + 1) n (λ i within. step i (omega (arith, within)))
     ∙ ap (λ i. Some (after i)) last
 
-pub each_cell_again : (grid : Grid) (made : Cell → List Command) (after : ℕ → State)
+pub each_cell_again : (grid : Grid) (made : Cell → List Change) (after : ℕ → State)
     → ((i : ℕ) → i < grid.width * grid.height → replayed (after i) (made (cell_at grid i)) ≡ Some (after (i + 1)))
     → replayed (after 0) (flat_map made (cells grid)) ≡ Some (after (grid.width * grid.height))
 each_cell_again grid made after step =
@@ -154,7 +154,7 @@ module _ (state : State) (grid : Grid) (is : IsGrid grid) where
         let open_now : square_at now cell ≡ Some (Open None) = square_is now k inside there ∙ ap Some (mixed_next grid.squares bare as_long k Block within ∙ bare_at ∙ ap bared e) in
         let more : set squares (index_of grid cell) (Open (Some letter)) ≡ mixed grid.squares bare (k + 1) =
         ap (λ n. set squares n (Open (Some letter))) (index_of-cell_at grid k) ∙ ap (set squares k) (sym e) ∙ sym (mixed_more grid.squares bare as_long k Block within) in
-        next_done (lettered k) (lettered (k + 1)) (commands.Set (spot_of cell) letter) []
+        next_done (lettered k) (lettered (k + 1)) (changes.Set (spot_of cell) letter) []
         (ap (λ found. state_left (with_letter (lettered k) (spot_of cell) found)) (letter_is letter good)
         ∙ entered (lettered k) (is_inside grid cell) (is_block now cell) (with_entry now cell (Some letter)) inside (ap is_block_square open_now)
         ∙ ap (λ squares. Some (with_squares state grid squares)) more)
@@ -230,7 +230,7 @@ module _ (state : State) (grid : Grid) (is : IsGrid grid) where
     free_at : get_or free k Block ≡ Open None
     free_at = get_or-replicate (grid.width * grid.height) k (Open None) Block below
 
-    block_step : (square : Square) → get_or grid.squares k Block ≡ square → replayed (with_grid state (standing k)) (if is_block_square (Some square) then commands.Block (spot_of (cell_at grid k)) ∷ [] else []) ≡ Some (with_grid state (standing (k + 1)))
+    block_step : (square : Square) → get_or grid.squares k Block ≡ square → replayed (with_grid state (standing k)) (if is_block_square (Some square) then changes.Block (spot_of (cell_at grid k)) ∷ [] else []) ≡ Some (with_grid state (standing (k + 1)))
     block_step (Open entered) e =
         ap (λ squares. Some (with_squares state (record grid { symmetry = kinds.None }) squares)) (sym (mixed_same (map bared grid.squares) free free_long k Block there (free_at ∙ sym (target_at ∙ ap bared e))))
     block_step Block e =
@@ -241,13 +241,13 @@ module _ (state : State) (grid : Grid) (is : IsGrid grid) where
         let vacant : is_occupied now cell ≡ false = ap (λ square. let t = is_some (letter_in square) in t || (t || (t || (t || false)))) open_now in
         let more : set now.squares k Block ≡ mixed (map bared grid.squares) free (k + 1) =
         ap (set now.squares k) (sym (target_at ∙ ap bared e)) ∙ sym (mixed_more (map bared grid.squares) free free_long k Block there) in
-        next_done (with_grid state now) (with_grid state (standing (k + 1))) (commands.Block (spot_of cell)) []
+        next_done (with_grid state now) (with_grid state (standing (k + 1))) (changes.Block (spot_of cell)) []
         (toggled (with_grid state now) (is_inside grid cell) (is_block now cell) (is_occupied now cell) (with_orbit now cell) cell_inside (ap is_block_square open_now) vacant
         ∙ ap (λ squares. Some (with_squares state (record grid { symmetry = kinds.None }) squares)) (block_alone now k refl cell_inside long ∙ more))
 
     blocks_at : replayed (with_grid state (standing k)) (block_commands grid (cell_at grid k)) ≡ Some (with_grid state (standing (k + 1)))
     blocks_at =
-        ap (λ square. replayed (with_grid state (standing k)) (if is_block_square square then commands.Block (spot_of (cell_at grid k)) ∷ [] else [])) (square_is grid k cell_inside (omega (arith, below, is.squares)))
+        ap (λ square. replayed (with_grid state (standing k)) (if is_block_square square then changes.Block (spot_of (cell_at grid k)) ∷ [] else [])) (square_is grid k cell_inside (omega (arith, below, is.squares)))
         ∙ block_step (get_or grid.squares k Block) refl
 
   pub blocks_again : (clues : ClueMap) (circles : List Cell)

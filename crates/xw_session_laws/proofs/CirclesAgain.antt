@@ -19,7 +19,7 @@ use Rattle.xw_grid.specs.Edit.{blank}
 use Rattle.xw_grid.specs.Clue.{ClueMap, is_circled, with_circle}
 use Rattle.xw_grid.proofs.ClueLemmas.{same_at}
 use Rattle.xw_grid.proofs.GridLemmas.{cell_at-inside, take-cells, all-cells}
-use Rattle.xw_commands.specs.declared.command.Command.TheVariants as commands
+use Rattle.xw_commands.specs.declared.change.Change.TheVariants as changes
 use Rattle.xw_answers.specs.declared.record.Part.TheVariants.{Circles}
 use Rattle.xw_answers.specs.declared.refusal.Refusal.TheVariants as refusals
 use Rattle.xw_session.specs.State.{State}
@@ -106,7 +106,7 @@ module _ (state : State) (grid : Grid) (is : IsGrid grid) (circles : List Cell) 
         ap (filter (is_circled circles)) (take-cells grid k below) ∙ filter-append (is_circled circles) (take k (cells grid)) (here ∷ [])
         ∙ ap (λ b. some_cells k ++ (if b then here ∷ [] else [])) e
 
-    circle_step : (b : Bool) → is_circled circles here ≡ b → replayed (after_some k) (if b then commands.Circle (spot_of here) ∷ [] else []) ≡ Some (after_some (k + 1))
+    circle_step : (b : Bool) → is_circled circles here ≡ b → replayed (after_some k) (if b then changes.Circle (spot_of here) ∷ [] else []) ≡ Some (after_some (k + 1))
     circle_step false e = ap (λ cs. Some (record (with_grid state (blank grid.width grid.height)) { circles = cs })) (sym (one_more false e ∙ append-nil (some_cells k)))
     circle_step true e =
         let inside : is_inside grid here ≡ true = cell_at-inside grid k is below in
@@ -115,7 +115,7 @@ module _ (state : State) (grid : Grid) (is : IsGrid grid) (circles : List Cell) 
         ap is_open_square (square_is (blank grid.width grid.height) k inside (omega (arith, below, long)) ∙ ap Some (get_or-replicate (grid.width * grid.height) k (Open None) Block below)) in
         let made : with_circle (some_cells k) here (not (is_circled (some_cells k) here)) ≡ some_cells (k + 1) =
         ap (λ b. with_circle (some_cells k) here (not b)) (not_circled (some_cells k) here comes_after) ∙ inserted_last (some_cells k) here comes_after ∙ sym (one_more true e) in
-        next_done (after_some k) (after_some (k + 1)) (commands.Circle (spot_of here)) []
+        next_done (after_some k) (after_some (k + 1)) (changes.Circle (spot_of here)) []
         (circled state (is_inside grid here) (is_open (blank grid.width grid.height) here) (record (after_some k) { circles = with_circle (some_cells k) here (not (is_circled (some_cells k) here)) }) inside opened
         ∙ ap (λ cs. Some (record (with_grid state (blank grid.width grid.height)) { circles = cs })) made)
 

@@ -13,8 +13,9 @@ use Rattle.xw_grid.specs.declared.cell.Side.{Side}
 use Rattle.xw_grid.specs.declared.cell.Side.TheVariants.{Right, Below}
 use Rattle.xw_grid.specs.declared.cell.Symmetry.{Symmetry}
 use Rattle.xw_grid.specs.declared.cell.Symmetry.TheVariants as kinds
-use Rattle.xw_commands.specs.declared.command.Command.{Command}
 use Rattle.xw_commands.specs.declared.command.Command.TheVariants as commands
+use Rattle.xw_commands.specs.declared.change.Change.{Change}
+use Rattle.xw_commands.specs.declared.change.Change.TheVariants as changes
 use Rattle.xw_commands.specs.declared.command.Field.{Field}
 use Rattle.xw_commands.specs.declared.command.Field.TheVariants as fields
 use Rattle.xw_commands.specs.declared.command.TextMode.TheVariants.{Instead, Behind}
@@ -22,11 +23,14 @@ use Rattle.xw_commands.specs.declared.command.CellArg.{CellArg}
 use Rattle.xw_commands.specs.declared.command.SyntaxFault.TheVariants as faults
 use Rattle.xw_commands.specs.declared.command.TextField.{TextField}
 use Rattle.xw_commands.specs.declared.command.TextField.TheVariants.{Title, Author, Copyright, Notes}
-use Rattle.xw_commands.specs.Command.{command_named, command_in, command_of, whole}
+use Rattle.xw_commands.specs.Query.{queries}
+use Rattle.xw_commands.specs.Change.{changes as change_table, change_named}
+use Rattle.xw_commands.specs.Search.{searches}
+use Rattle.xw_commands.specs.Command.{command_named, reading_of, command_in, command_of, whole}
 use Rattle.xw_lines.specs.Cut.{HasNoLf}
 use Rattle.xw_answers.specs.Escape.{letter_for, escaped, is_end, spelled_at, escaped_text}
 use Rattle.xw_commands.specs.Line.{without_cr, first_word, trimmed_start, trimmed_end, trimmed}
-use Rattle.xw_commands.specs.Reading.{◌>>=◌, given, number, grade, grade_if_any, byte, word, text, side, direction, switch, symmetry, spot, text_name, field_named, field}
+use Rattle.xw_commands.specs.Reading.{Reading, ◌>>=◌, given, then_others, lookup, reading_if_any, number, grade, grade_if_any, byte, word, text, side, direction, switch, symmetry, spot, text_name, field_named, field}
 use Rattle.xw_commands.specs.Names.{direction_name, side_name, symmetry_name, switch_name, field_name, clue_name, text_fields}
 use Rattle.xw_answers.specs.Spelling.{in_field, command_words, command_line}
 use Rattle.xw_answers.specs.Text.{line_of}
@@ -89,15 +93,24 @@ number_fit number m ws small fit = high_fit 3 m (decimal number) ws (high_number
 
 -- ---- the line of a command, from its words
 
-abbrev pub IsReadAs : List ℕ → Command → Type 0
-IsReadAs line command = HasNoLf line × (command_of line ≡ Ok (Some command))
+abbrev pub IsReadAs : List ℕ → Change → Type 0
+IsReadAs line change = HasNoLf line × (command_of line ≡ Ok (Some (commands.Change change)))
+
+-- a change that is read is the command
+as_command : (name rest : List ℕ) (change : Change) (found : Option (Reading Change)) → lookup queries name ≡ None → lookup change_table name ≡ found → reading_if_any found rest ≡ Ok (change, [])
+    → command_named name rest ≡ Ok (commands.Change change, [])
+as_command name rest change None no_query is e = cc
+as_command name rest change (Some reading) no_query is e =
+    ap (λ query. reading_of query (lookup change_table name) (lookup searches name) rest) no_query
+    ∙ ap (λ found. reading_of None found (lookup searches name) rest) is
+    ∙ ap (λ found. then_others found (λ change. given (commands.Change change))) e
 
 short_line : (line : List ℕ) → length line ≤ 4096 → nat_lt 4096 (length line) ≡ false
 short_line line h = grind (arith, nat_tests, h)
 
-line_read : (name : List ℕ) (ws : List (List ℕ)) (command : Command) (n m : ℕ) → IsHigh name → length name ≤ n → Fit m ws → n + m ≤ 4096
-    → command_named name (spaced ws) ≡ Ok (command, []) → IsReadAs (name ++ spaced ws) command
-line_read name ws command n m high short fit room reads =
+line_read : (name : List ℕ) (ws : List (List ℕ)) (command : Change) (n m : ℕ) → IsHigh name → length name ≤ n → Fit m ws → n + m ≤ 4096
+    → lookup queries name ≡ None → change_named name (spaced ws) ≡ Ok (command, []) → IsReadAs (name ++ spaced ws) command
+line_read name ws command n m high short fit room no_query reads =
     let line = name ++ spaced ws in
     let plain : list_all stands line ≡ true = all_joined stands name (spaced ws) (each_weaker is_high stands high_stands name high.1) fit.0 in
     let few : nat_lt 4096 (length line) ≡ false = short_line line (omega (arith, length-append name (spaced ws), short, fit.1, room)) in
@@ -107,7 +120,7 @@ line_read name ws command n m high short fit room reads =
           ∙ ap (λ l. command_in (first_word l)) (no_cr line plain)
           ∙ ap command_in (first_read name ws (high_word name high))
           ∙ ap (λ t. if t then Ok None else whole (command_named name (spaced ws))) no_note
-          ∙ ap whole reads,
+          ∙ ap whole (as_command name (spaced ws) command (lookup change_table name) no_query refl reads),
     )
   where
     first_high : (w : List ℕ) → IsHigh w → 48 ≤ slice_index w 0
@@ -229,41 +242,23 @@ abbrev pub IsSmallGrade : Option ℕ → Type 0
 IsSmallGrade None = Unit {0}
 IsSmallGrade (Some grade) = grade ≤ 100
 
-abbrev pub IsRecorded : Command → Type 0
-IsRecorded (commands.Size width height) = (width ≤ 255) × (height ≤ 255)
-IsRecorded (commands.Symmetry kind) = Unit {0}
-IsRecorded (commands.Add letters grade) = IsKnownWord letters × IsSmallGrade grade
-IsRecorded (commands.Strike letters) = IsKnownWord letters
-IsRecorded (commands.Least grade) = grade ≤ 100
-IsRecorded (commands.Match pattern) = ⊥
-IsRecorded (commands.Set at letter) = IsSmallSpot at × IsLetter letter
-IsRecorded (commands.Clear at) = ⊥
-IsRecorded (commands.Place named letters) = ⊥
-IsRecorded (commands.Erase named) = ⊥
-IsRecorded (commands.Block at) = IsSmallSpot at
-IsRecorded (commands.Bar at which) = IsSmallSpot at
-IsRecorded (commands.Clue named bytes) = ⊥
-IsRecorded (commands.Write name bytes) = ⊥
-IsRecorded (commands.Circle at) = IsSmallSpot at
-IsRecorded commands.Circles = ⊥
-IsRecorded commands.Show = ⊥
-IsRecorded commands.Lights = ⊥
-IsRecorded (commands.Words named most) = ⊥
-IsRecorded (commands.Choices named most first) = ⊥
-IsRecorded (commands.Letters at) = ⊥
-IsRecorded (commands.Tally at) = ⊥
-IsRecorded commands.Duplicates = ⊥
-IsRecorded commands.Unlisted = ⊥
-IsRecorded (commands.Grades lights) = ⊥
-IsRecorded commands.Unmatched = ⊥
-IsRecorded commands.Suggest = ⊥
-IsRecorded (commands.Why named) = ⊥
-IsRecorded (commands.Fill limit) = ⊥
-IsRecorded (commands.Autofill limit seed lights) = ⊥
-IsRecorded (commands.Best limit seed lights) = ⊥
-IsRecorded (commands.Watch is_on) = Unit {0}
-IsRecorded (commands.Tell telling) = ⊥
-IsRecorded (commands.Put putting where_put spelling) = IsSmallField where_put × (piece : List ℕ) × (spelling ≡ escaped_text piece) × (length piece ≤ 2000)
+abbrev pub IsRecorded : Change → Type 0
+IsRecorded (changes.Size width height) = (width ≤ 255) × (height ≤ 255)
+IsRecorded (changes.Symmetry kind) = Unit {0}
+IsRecorded (changes.Add letters grade) = IsKnownWord letters × IsSmallGrade grade
+IsRecorded (changes.Strike letters) = IsKnownWord letters
+IsRecorded (changes.Least grade) = grade ≤ 100
+IsRecorded (changes.Set at letter) = IsSmallSpot at × IsLetter letter
+IsRecorded (changes.Clear at) = ⊥
+IsRecorded (changes.Place named letters) = ⊥
+IsRecorded (changes.Erase named) = ⊥
+IsRecorded (changes.Block at) = IsSmallSpot at
+IsRecorded (changes.Bar at which) = IsSmallSpot at
+IsRecorded (changes.Clue named bytes) = ⊥
+IsRecorded (changes.Write name bytes) = ⊥
+IsRecorded (changes.Circle at) = IsSmallSpot at
+IsRecorded (changes.Watch is_on) = Unit {0}
+IsRecorded (changes.Put putting where_put spelling) = IsSmallField where_put × (piece : List ℕ) × (spelling ≡ escaped_text piece) × (length piece ≤ 2000)
 
 -- the words with a space between them
 abbrev words_line : List (List ℕ) → List ℕ
@@ -271,13 +266,13 @@ words_line [] = []
 words_line (w ∷ ws) = w ++ spaced ws
 
 -- the line of a command without its LF
-abbrev pub line_without_lf : Command → List ℕ
+abbrev pub line_without_lf : Change → List ℕ
 line_without_lf command = words_line (command_words command)
 
-abbrev IsRead : Command → Type 0
-IsRead command = (command_line command ≡ line_without_lf command ++ 10 ∷ []) × HasNoLf (line_without_lf command) × (command_of (line_without_lf command) ≡ Ok (Some command))
+abbrev IsRead : Change → Type 0
+IsRead command = (command_line command ≡ line_without_lf command ++ 10 ∷ []) × HasNoLf (line_without_lf command) × (command_of (line_without_lf command) ≡ Ok (Some (commands.Change command)))
 
-made_of : (name : List ℕ) (ws : List (List ℕ)) (command : Command) → command_words command ≡ name ∷ ws → IsReadAs (name ++ spaced ws) command → IsRead command
+made_of : (name : List ℕ) (ws : List (List ℕ)) (command : Change) → command_words command ≡ name ∷ ws → IsReadAs (name ++ spaced ws) command → IsRead command
 made_of name ws command is read = (
   ap line_of is ∙ line_parts name ws ∙ ap (λ xs. words_line xs ++ 10 ∷ []) (sym is),
   subst (λ xs. HasNoLf (words_line xs)) (sym is) read.0,
@@ -290,102 +285,84 @@ letters_high letters is = (omega (arith, is.1), each_high letters (λ k within. 
   each_high [] good = refl
   each_high (x ∷ xs) good = list_all_both is_high x xs (le-leb 48 x (omega (arith, (good 0 (omega arith)).0))) (each_high xs (λ k within. good (suc k) (omega (arith, within))))
 
-cell_name : (name : List ℕ) (command : Command) (at : CellArg) (ws : List (List ℕ)) (m : ℕ) → IsHigh name → length name ≤ 10 → IsSmallSpot at → Fit m ws → m ≤ 100
-    → command_words command ≡ name ∷ decimal at.row ∷ decimal at.col ∷ ws → command_named name (spaced (decimal at.row ∷ decimal at.col ∷ ws)) ≡ Ok (command, []) → IsRead command
-cell_name name command at ws m high short small fit few is reads =
+cell_name : (name : List ℕ) (command : Change) (at : CellArg) (ws : List (List ℕ)) (m : ℕ) → IsHigh name → length name ≤ 10 → IsSmallSpot at → Fit m ws → m ≤ 100
+    → command_words command ≡ name ∷ decimal at.row ∷ decimal at.col ∷ ws → lookup queries name ≡ None → change_named name (spaced (decimal at.row ∷ decimal at.col ∷ ws)) ≡ Ok (command, []) → IsRead command
+cell_name name command at ws m high short small fit few is no_query reads =
     made_of name (decimal at.row ∷ decimal at.col ∷ ws) command is
-    (line_read name (decimal at.row ∷ decimal at.col ∷ ws) command 10 (1 + 3 + (1 + 3 + m)) high short (spot_fit at m ws small fit) (omega (arith, few)) reads)
+    (line_read name (decimal at.row ∷ decimal at.col ∷ ws) command 10 (1 + 3 + (1 + 3 + m)) high short (spot_fit at m ws small fit) (omega (arith, few)) no_query reads)
 
-pub read_again : (command : Command) → IsRecorded command → IsRead command
-read_again (commands.Size width height) is =
-    made_of (codes "size") (decimal width ∷ decimal height ∷ []) (commands.Size width height) refl
-    (line_read (codes "size") (decimal width ∷ decimal height ∷ []) (commands.Size width height) 4 (1 + 3 + (1 + 3 + 0)) (omega arith, refl) (omega arith)
-    (number_fit width (1 + 3 + 0) (decimal height ∷ []) is.0 (number_fit height 0 [] is.1 none_fit)) (omega arith)
-    (then_read number (λ width. number >>= (λ height. given (commands.Size width height))) (spaced (decimal width ∷ decimal height ∷ [])) (spaced (decimal height ∷ [])) width (reads_number width is.0 (decimal height ∷ []))
-    ∙ then_read number (λ height. given (commands.Size width height)) (spaced (decimal height ∷ [])) [] height (reads_number height is.1 [])))
-read_again (commands.Symmetry kind) is =
-    made_of (codes "sym") (symmetry_name kind ∷ []) (commands.Symmetry kind) refl
-    (line_read (codes "sym") (symmetry_name kind ∷ []) (commands.Symmetry kind) 3 (1 + 9 + 0) (omega arith, refl) (omega arith) (symmetry_fit kind) (omega arith)
-    (then_read symmetry (λ kind. given (commands.Symmetry kind)) (spaced (symmetry_name kind ∷ [])) [] kind (reads_symmetry kind [])))
-read_again (commands.Add letters None) is =
+pub read_again : (command : Change) → IsRecorded command → IsRead command
+read_again (changes.Size width height) is =
+    made_of (codes "size") (decimal width ∷ decimal height ∷ []) (changes.Size width height) refl
+    (line_read (codes "size") (decimal width ∷ decimal height ∷ []) (changes.Size width height) 4 (1 + 3 + (1 + 3 + 0)) (omega arith, refl) (omega arith)
+    (number_fit width (1 + 3 + 0) (decimal height ∷ []) is.0 (number_fit height 0 [] is.1 none_fit)) (omega arith) refl
+    (then_read number (λ width. number >>= (λ height. given (changes.Size width height))) (spaced (decimal width ∷ decimal height ∷ [])) (spaced (decimal height ∷ [])) width (reads_number width is.0 (decimal height ∷ []))
+    ∙ then_read number (λ height. given (changes.Size width height)) (spaced (decimal height ∷ [])) [] height (reads_number height is.1 [])))
+read_again (changes.Symmetry kind) is =
+    made_of (codes "sym") (symmetry_name kind ∷ []) (changes.Symmetry kind) refl
+    (line_read (codes "sym") (symmetry_name kind ∷ []) (changes.Symmetry kind) 3 (1 + 9 + 0) (omega arith, refl) (omega arith) (symmetry_fit kind) (omega arith) refl
+    (then_read symmetry (λ kind. given (changes.Symmetry kind)) (spaced (symmetry_name kind ∷ [])) [] kind (reads_symmetry kind [])))
+read_again (changes.Add letters None) is =
     let known = is.0 in
-    made_of (codes "add") (letters ∷ []) (commands.Add letters None) refl
-    (line_read (codes "add") (letters ∷ []) (commands.Add letters None) 3 (1 + 255 + 0) (omega arith, refl) (omega arith) (high_fit 255 0 letters [] (letters_high letters known) known.2 none_fit) (omega arith)
-    (then_read word (λ letters. grade_if_any >>= (λ grade. given (commands.Add letters grade))) (spaced (letters ∷ [])) [] letters (reads_word letters [] (high_word letters (letters_high letters known)))
-    ∙ then_read grade_if_any (λ grade. given (commands.Add letters grade)) [] [] None reads_no_grade))
-read_again (commands.Add letters (Some number)) is =
+    made_of (codes "add") (letters ∷ []) (changes.Add letters None) refl
+    (line_read (codes "add") (letters ∷ []) (changes.Add letters None) 3 (1 + 255 + 0) (omega arith, refl) (omega arith) (high_fit 255 0 letters [] (letters_high letters known) known.2 none_fit) (omega arith) refl
+    (then_read word (λ letters. grade_if_any >>= (λ grade. given (changes.Add letters grade))) (spaced (letters ∷ [])) [] letters (reads_word letters [] (high_word letters (letters_high letters known)))
+    ∙ then_read grade_if_any (λ grade. given (changes.Add letters grade)) [] [] None reads_no_grade))
+read_again (changes.Add letters (Some number)) is =
     let known = is.0 in
     let short : number ≤ 255 = omega (arith, is.1) in
-    made_of (codes "add") (letters ∷ decimal number ∷ []) (commands.Add letters (Some number)) refl
-    (line_read (codes "add") (letters ∷ decimal number ∷ []) (commands.Add letters (Some number)) 3 (1 + 255 + (1 + 3 + 0)) (omega arith, refl) (omega arith)
-    (high_fit 255 (1 + 3 + 0) letters (decimal number ∷ []) (letters_high letters known) known.2 (number_fit number 0 [] short none_fit)) (omega arith)
-    (then_read word (λ letters. grade_if_any >>= (λ grade. given (commands.Add letters grade))) (spaced (letters ∷ decimal number ∷ [])) (spaced (decimal number ∷ [])) letters (reads_word letters (decimal number ∷ []) (high_word letters (letters_high letters known)))
-    ∙ then_read grade_if_any (λ grade. given (commands.Add letters grade)) (spaced (decimal number ∷ [])) [] (Some number) (reads_some_grade number is.1)))
-read_again (commands.Strike letters) is =
-    made_of (codes "strike") (letters ∷ []) (commands.Strike letters) refl
-    (line_read (codes "strike") (letters ∷ []) (commands.Strike letters) 6 (1 + 255 + 0) (omega arith, refl) (omega arith) (high_fit 255 0 letters [] (letters_high letters is) is.2 none_fit) (omega arith)
-    (then_read word (λ letters. given (commands.Strike letters)) (spaced (letters ∷ [])) [] letters (reads_word letters [] (high_word letters (letters_high letters is)))))
-read_again (commands.Least number) is =
+    made_of (codes "add") (letters ∷ decimal number ∷ []) (changes.Add letters (Some number)) refl
+    (line_read (codes "add") (letters ∷ decimal number ∷ []) (changes.Add letters (Some number)) 3 (1 + 255 + (1 + 3 + 0)) (omega arith, refl) (omega arith)
+    (high_fit 255 (1 + 3 + 0) letters (decimal number ∷ []) (letters_high letters known) known.2 (number_fit number 0 [] short none_fit)) (omega arith) refl
+    (then_read word (λ letters. grade_if_any >>= (λ grade. given (changes.Add letters grade))) (spaced (letters ∷ decimal number ∷ [])) (spaced (decimal number ∷ [])) letters (reads_word letters (decimal number ∷ []) (high_word letters (letters_high letters known)))
+    ∙ then_read grade_if_any (λ grade. given (changes.Add letters grade)) (spaced (decimal number ∷ [])) [] (Some number) (reads_some_grade number is.1)))
+read_again (changes.Strike letters) is =
+    made_of (codes "strike") (letters ∷ []) (changes.Strike letters) refl
+    (line_read (codes "strike") (letters ∷ []) (changes.Strike letters) 6 (1 + 255 + 0) (omega arith, refl) (omega arith) (high_fit 255 0 letters [] (letters_high letters is) is.2 none_fit) (omega arith) refl
+    (then_read word (λ letters. given (changes.Strike letters)) (spaced (letters ∷ [])) [] letters (reads_word letters [] (high_word letters (letters_high letters is)))))
+read_again (changes.Least number) is =
     let short : number ≤ 255 = omega (arith, is) in
-    made_of (codes "least") (decimal number ∷ []) (commands.Least number) refl
-    (line_read (codes "least") (decimal number ∷ []) (commands.Least number) 5 (1 + 3 + 0) (omega arith, refl) (omega arith) (number_fit number 0 [] short none_fit) (omega arith)
-    (then_read grade (λ grade. given (commands.Least grade)) (spaced (decimal number ∷ [])) [] number (reads_grade number [] is)))
-read_again (commands.Set at letter) is =
+    made_of (codes "least") (decimal number ∷ []) (changes.Least number) refl
+    (line_read (codes "least") (decimal number ∷ []) (changes.Least number) 5 (1 + 3 + 0) (omega arith, refl) (omega arith) (number_fit number 0 [] short none_fit) (omega arith) refl
+    (then_read grade (λ grade. given (changes.Least grade)) (spaced (decimal number ∷ [])) [] number (reads_grade number [] is)))
+read_again (changes.Set at letter) is =
     let high : 48 ≤ letter = omega (arith, is.1.0) in
     let as_word : IsHigh (letter ∷ []) = (omega arith, list_all_both is_high letter [] (le-leb 48 letter high) refl) in
-    cell_name (codes "set") (commands.Set at letter) at ((letter ∷ []) ∷ []) (1 + 1 + 0) (omega arith, refl) (omega arith) is.0 (high_fit 1 0 (letter ∷ []) [] as_word (omega arith) none_fit) (omega arith) refl
-    (then_read spot (λ at. byte >>= (λ letter. given (commands.Set at letter))) (spaced (decimal at.row ∷ decimal at.col ∷ (letter ∷ []) ∷ [])) (spaced ((letter ∷ []) ∷ [])) at (reads_spot at ((letter ∷ []) ∷ []) is.0.0 is.0.1)
-    ∙ then_read byte (λ letter. given (commands.Set at letter)) (spaced ((letter ∷ []) ∷ [])) [] letter (reads_byte letter [] high))
-read_again (commands.Block at) is =
-    cell_name (codes "block") (commands.Block at) at [] 0 (omega arith, refl) (omega arith) is none_fit (omega arith) refl
-    (then_read spot (λ at. given (commands.Block at)) (spaced (decimal at.row ∷ decimal at.col ∷ [])) [] at (reads_spot at [] is.0 is.1))
-read_again (commands.Bar at which) is =
-    cell_name (codes "bar") (commands.Bar at which) at (side_name which ∷ []) (1 + 5 + 0) (omega arith, refl) (omega arith) is (side_fit which) (omega arith) refl
-    (then_read spot (λ at. side >>= (λ which. given (commands.Bar at which))) (spaced (decimal at.row ∷ decimal at.col ∷ side_name which ∷ [])) (spaced (side_name which ∷ [])) at (reads_spot at (side_name which ∷ []) is.0 is.1)
-    ∙ then_read side (λ which. given (commands.Bar at which)) (spaced (side_name which ∷ [])) [] which (reads_side which []))
-read_again (commands.Circle at) is =
-    cell_name (codes "circle") (commands.Circle at) at [] 0 (omega arith, refl) (omega arith) is none_fit (omega arith) refl
-    (then_read spot (λ at. given (commands.Circle at)) (spaced (decimal at.row ∷ decimal at.col ∷ [])) [] at (reads_spot at [] is.0 is.1))
-read_again (commands.Watch is_on) is =
-    made_of (codes "watch") (switch_name is_on ∷ []) (commands.Watch is_on) refl
-    (line_read (codes "watch") (switch_name is_on ∷ []) (commands.Watch is_on) 5 (1 + 3 + 0) (omega arith, refl) (omega arith) (switch_fit is_on) (omega arith)
-    (then_read switch (λ is_on. given (commands.Watch is_on)) (spaced (switch_name is_on ∷ [])) [] is_on (reads_switch is_on [])))
-read_again (commands.Put Instead where_put spelling) is =
-    subst (λ spelling. IsRead (commands.Put Instead where_put spelling)) (sym is.2)
+    cell_name (codes "set") (changes.Set at letter) at ((letter ∷ []) ∷ []) (1 + 1 + 0) (omega arith, refl) (omega arith) is.0 (high_fit 1 0 (letter ∷ []) [] as_word (omega arith) none_fit) (omega arith) refl refl
+    (then_read spot (λ at. byte >>= (λ letter. given (changes.Set at letter))) (spaced (decimal at.row ∷ decimal at.col ∷ (letter ∷ []) ∷ [])) (spaced ((letter ∷ []) ∷ [])) at (reads_spot at ((letter ∷ []) ∷ []) is.0.0 is.0.1)
+    ∙ then_read byte (λ letter. given (changes.Set at letter)) (spaced ((letter ∷ []) ∷ [])) [] letter (reads_byte letter [] high))
+read_again (changes.Block at) is =
+    cell_name (codes "block") (changes.Block at) at [] 0 (omega arith, refl) (omega arith) is none_fit (omega arith) refl refl
+    (then_read spot (λ at. given (changes.Block at)) (spaced (decimal at.row ∷ decimal at.col ∷ [])) [] at (reads_spot at [] is.0 is.1))
+read_again (changes.Bar at which) is =
+    cell_name (codes "bar") (changes.Bar at which) at (side_name which ∷ []) (1 + 5 + 0) (omega arith, refl) (omega arith) is (side_fit which) (omega arith) refl refl
+    (then_read spot (λ at. side >>= (λ which. given (changes.Bar at which))) (spaced (decimal at.row ∷ decimal at.col ∷ side_name which ∷ [])) (spaced (side_name which ∷ [])) at (reads_spot at (side_name which ∷ []) is.0 is.1)
+    ∙ then_read side (λ which. given (changes.Bar at which)) (spaced (side_name which ∷ [])) [] which (reads_side which []))
+read_again (changes.Circle at) is =
+    cell_name (codes "circle") (changes.Circle at) at [] 0 (omega arith, refl) (omega arith) is none_fit (omega arith) refl refl
+    (then_read spot (λ at. given (changes.Circle at)) (spaced (decimal at.row ∷ decimal at.col ∷ [])) [] at (reads_spot at [] is.0 is.1))
+read_again (changes.Watch is_on) is =
+    made_of (codes "watch") (switch_name is_on ∷ []) (changes.Watch is_on) refl
+    (line_read (codes "watch") (switch_name is_on ∷ []) (changes.Watch is_on) 5 (1 + 3 + 0) (omega arith, refl) (omega arith) (switch_fit is_on) (omega arith) refl
+    (then_read switch (λ is_on. given (changes.Watch is_on)) (spaced (switch_name is_on ∷ [])) [] is_on (reads_switch is_on [])))
+read_again (changes.Put Instead where_put spelling) is =
+    subst (λ spelling. IsRead (changes.Put Instead where_put spelling)) (sym is.2)
     (let piece = is.1 in
     let ws = in_field where_put (escaped_text piece ∷ []) in
-    made_of (codes "text") ws (commands.Put Instead where_put (escaped_text piece)) refl
-    (line_read (codes "text") ws (commands.Put Instead where_put (escaped_text piece)) 4 4030 (omega arith, refl) (omega arith) (field_fit where_put (escaped_text piece ∷ []) is.0 (text_fit piece is.3)) (omega arith)
-    (then_read field (λ where_put. text >>= (λ spelling. given (commands.Put Instead where_put spelling))) (spaced ws) (spaced (escaped_text piece ∷ [])) where_put (reads_field where_put (escaped_text piece ∷ []) is.0)
-    ∙ then_read text (λ spelling. given (commands.Put Instead where_put spelling)) (spaced (escaped_text piece ∷ [])) [] (escaped_text piece) (reads_text piece))))
-read_again (commands.Put Behind where_put spelling) is =
-    subst (λ spelling. IsRead (commands.Put Behind where_put spelling)) (sym is.2)
+    made_of (codes "text") ws (changes.Put Instead where_put (escaped_text piece)) refl
+    (line_read (codes "text") ws (changes.Put Instead where_put (escaped_text piece)) 4 4030 (omega arith, refl) (omega arith) (field_fit where_put (escaped_text piece ∷ []) is.0 (text_fit piece is.3)) (omega arith) refl
+    (then_read field (λ where_put. text >>= (λ spelling. given (changes.Put Instead where_put spelling))) (spaced ws) (spaced (escaped_text piece ∷ [])) where_put (reads_field where_put (escaped_text piece ∷ []) is.0)
+    ∙ then_read text (λ spelling. given (changes.Put Instead where_put spelling)) (spaced (escaped_text piece ∷ [])) [] (escaped_text piece) (reads_text piece))))
+read_again (changes.Put Behind where_put spelling) is =
+    subst (λ spelling. IsRead (changes.Put Behind where_put spelling)) (sym is.2)
     (let piece = is.1 in
     let ws = in_field where_put (escaped_text piece ∷ []) in
-    made_of (codes "more") ws (commands.Put Behind where_put (escaped_text piece)) refl
-    (line_read (codes "more") ws (commands.Put Behind where_put (escaped_text piece)) 4 4030 (omega arith, refl) (omega arith) (field_fit where_put (escaped_text piece ∷ []) is.0 (text_fit piece is.3)) (omega arith)
-    (then_read field (λ where_put. text >>= (λ spelling. given (commands.Put Behind where_put spelling))) (spaced ws) (spaced (escaped_text piece ∷ [])) where_put (reads_field where_put (escaped_text piece ∷ []) is.0)
-    ∙ then_read text (λ spelling. given (commands.Put Behind where_put spelling)) (spaced (escaped_text piece ∷ [])) [] (escaped_text piece) (reads_text piece))))
-read_again (commands.Match pattern) is = absurd is
-read_again (commands.Clear at) is = absurd is
-read_again (commands.Place named letters) is = absurd is
-read_again (commands.Erase named) is = absurd is
-read_again (commands.Clue named bytes) is = absurd is
-read_again (commands.Write name bytes) is = absurd is
-read_again commands.Circles is = absurd is
-read_again commands.Show is = absurd is
-read_again commands.Lights is = absurd is
-read_again (commands.Words named most) is = absurd is
-read_again (commands.Choices named most first) is = absurd is
-read_again (commands.Letters at) is = absurd is
-read_again (commands.Tally at) is = absurd is
-read_again commands.Duplicates is = absurd is
-read_again commands.Unlisted is = absurd is
-read_again (commands.Grades lights) is = absurd is
-read_again commands.Unmatched is = absurd is
-read_again commands.Suggest is = absurd is
-read_again (commands.Why named) is = absurd is
-read_again (commands.Fill limit) is = absurd is
-read_again (commands.Autofill limit seed lights) is = absurd is
-read_again (commands.Best limit seed lights) is = absurd is
-read_again (commands.Tell telling) is = absurd is
+    made_of (codes "more") ws (changes.Put Behind where_put (escaped_text piece)) refl
+    (line_read (codes "more") ws (changes.Put Behind where_put (escaped_text piece)) 4 4030 (omega arith, refl) (omega arith) (field_fit where_put (escaped_text piece ∷ []) is.0 (text_fit piece is.3)) (omega arith) refl
+    (then_read field (λ where_put. text >>= (λ spelling. given (changes.Put Behind where_put spelling))) (spaced ws) (spaced (escaped_text piece ∷ [])) where_put (reads_field where_put (escaped_text piece ∷ []) is.0)
+    ∙ then_read text (λ spelling. given (changes.Put Behind where_put spelling)) (spaced (escaped_text piece ∷ [])) [] (escaped_text piece) (reads_text piece))))
+read_again (changes.Clear at) is = absurd is
+read_again (changes.Place named letters) is = absurd is
+read_again (changes.Erase named) is = absurd is
+read_again (changes.Clue named bytes) is = absurd is
+read_again (changes.Write name bytes) is = absurd is

@@ -18,7 +18,7 @@ use Rattle.xw_lines.specs.declared.outcome.Step.TheVariants.{Accepted, Refused}
 use Rattle.xw_journal.specs.File.{form_of, kept_lines}
 use Rattle.xw_journal.specs.Journal.{journal_text, taken}
 use Rattle.xw_journal.specs.declared.file.Form.TheVariants.{Begun, Named, Whole, Cut}
-use Rattle.xw_commands.specs.declared.command.Kind.TheVariants.{Change}
+use Rattle.xw_journal.specs.declared.journal.Written.TheVariants.{Line}
 use Rattle.xw_session_laws.specs.Replay.{replayed, replayed_lines}
 use Rattle.xw_session_laws.specs.Journals.{IsJournaled, without_flushes}
 
@@ -130,7 +130,7 @@ forms : map form_of ([] ∷ codes "# xw se" ∷ codes "# xw session 1\nset" ∷ 
 forms = refl
 
 -- the flush after a line is no byte of the journal
-flush_left_out : without_flushes (taken Change (codes "watch on\n") ++ taken Change (codes "watch off\n")) ≡ codes "watch on\nwatch off\n"
+flush_left_out : without_flushes (taken Line (codes "watch on\n") ++ taken Line (codes "watch off\n")) ≡ codes "watch on\nwatch off\n"
 flush_left_out = refl
 
 -- a session that is told to watch, and then refuses a line, may have this journal

@@ -11,7 +11,9 @@ use Rattle.xw_lines.specs.Cut.{Cut, cut, lines_of, ended_lines, last_piece, last
 use Rattle.xw_lines.proofs.Cuts.{cut-with_lfs, cut-whole}
 use Rattle.xw_commands.specs.Command.{command_of}
 use Rattle.xw_commands.specs.declared.command.Command.{Command}
-use Rattle.xw_commands.specs.declared.command.Command.TheVariants as commands
+use Rattle.xw_commands.specs.declared.command.Command.TheVariants as all_commands
+use Rattle.xw_commands.specs.declared.change.Change.{Change}
+use Rattle.xw_commands.specs.declared.change.Change.TheVariants as changes
 use Rattle.xw_commands.specs.declared.command.CellArg.{CellArg}
 use Rattle.xw_session.specs.State.{State}
 use Rattle.xw_session.specs.Answer.{Answers}
@@ -83,14 +85,14 @@ alone line plain = ap (λ (c : Cut). c.ended ++ last_line c.rest) (cut-with_lfs 
 
 -- ---- letters that were entered
 
-abbrev pub IsSet : Command → Type 0
-IsSet command = (at : CellArg) × (letter : ℕ) × (command ≡ commands.Set at letter)
+abbrev pub IsSet : Change → Type 0
+IsSet change = (at : CellArg) × (letter : ℕ) × (change ≡ changes.Set at letter)
 
-abbrev pub AreSets : List Command → Type 0
+abbrev pub AreSets : List Change → Type 0
 AreSets [] = Unit {0}
 AreSets (command ∷ rest) = IsSet command × AreSets rest
 
-both_sets : (front rest : List Command) → AreSets front → AreSets rest → AreSets (front ++ rest)
+both_sets : (front rest : List Change) → AreSets front → AreSets rest → AreSets (front ++ rest)
 both_sets [] rest a b = b
 both_sets (command ∷ front) rest a b = (a.0, both_sets front rest a.1 b)
 
@@ -129,7 +131,7 @@ no_tail : (first tail : List (List ℕ)) → [] ≡ first ++ tail → tail ≡ [
 no_tail [] tail e = sym e
 no_tail (line ∷ first) tail e = cc
 
-no_end : (commands : List Command) (first : List (List ℕ)) (tail : List (List ℕ)) → AreRecorded commands → map line_without_lf commands ++ end_line ∷ [] ≡ first ++ tail
+no_end : (commands : List Change) (first : List (List ℕ)) (tail : List (List ℕ)) → AreRecorded commands → map line_without_lf commands ++ end_line ∷ [] ≡ first ++ tail
     → (tail ≡ [] → ⊥) → list_any ends_group first ≡ false
 no_end commands [] tail recorded e behind = refl
 no_end [] (line ∷ first) tail recorded e behind =
@@ -137,7 +139,7 @@ no_end [] (line ∷ first) tail recorded e behind =
 no_end (command ∷ commands) (line ∷ first) tail recorded e behind =
     let head : line_without_lf command ≡ line = cc in
     let rest : map line_without_lf commands ++ end_line ∷ [] ≡ first ++ tail = cc in
-    let other : ends_group line ≡ false = ap ends_group (sym head) ∙ ends_none (line_without_lf command) command (read_again command recorded.0).2 in
+    let other : ends_group line ≡ false = ap ends_group (sym head) ∙ ends_none (line_without_lf command) (all_commands.Change command) (read_again command recorded.0).2 in
     ap (λ t. t || list_any ends_group first) other ∙ no_end commands first tail recorded.1 rest behind
 
 -- ---- the first lines of a journal
@@ -162,17 +164,17 @@ nothing_done start end lines journal done = record {
 }
 
 -- the lines of a group, and first lines of them
-group_closed : (commands : List Command) → IsClosed (group_lines commands)
+group_closed : (commands : List Change) → IsClosed (group_lines commands)
 group_closed commands = ended_closed (begin_line ∷ map line_without_lf commands)
 
-group_begun : (commands : List Command) → AreRecorded commands → (first tail : List (List ℕ)) (next : List ℕ) → group_lines commands ≡ first ++ next ∷ tail → complete first ≡ []
+group_begun : (commands : List Change) → AreRecorded commands → (first tail : List (List ℕ)) (next : List ℕ) → group_lines commands ≡ first ++ next ∷ tail → complete first ≡ []
 group_begun commands recorded [] tail next e = refl
 group_begun commands recorded (line ∷ first) tail next e =
     let head : begin_line ≡ line = cc in
     let rest : map line_without_lf commands ++ end_line ∷ [] ≡ first ++ next ∷ tail = cc in
     ap (λ l. complete (l ∷ first)) (sym head) ∙ open_dropped [] first none_closed (no_end commands first (next ∷ tail) recorded rest (λ none. cc))
 
-grouped_lines : (command : Command) (commands : List Command) → AreRecorded (command ∷ commands) → lines_of (grouped (command ∷ commands)) ≡ group_lines (command ∷ commands)
+grouped_lines : (command : Change) (commands : List Change) → AreRecorded (command ∷ commands) → lines_of (grouped (command ∷ commands)) ≡ group_lines (command ∷ commands)
 grouped_lines command commands recorded =
     let lines = group_lines (command ∷ commands) in
     ap lines_of (group_apart command commands recorded) ∙ ap (λ (c : Cut). c.ended ++ last_line c.rest) (cut-with_lfs lines [] (group_plain (command ∷ commands) recorded) tt) ∙ append-nil lines
@@ -191,7 +193,7 @@ line_unit line plain command read = record {
   begun = λ first tail next e. ap complete (only_front line next first tail (sym (alone line plain) ∙ e));
 }
 
-group_unit : (commands : List Command) → AreRecorded commands → IsUnit (grouped commands)
+group_unit : (commands : List Change) → AreRecorded commands → IsUnit (grouped commands)
 group_unit [] recorded = no_unit
 group_unit (command ∷ commands) recorded = record {
   closed = subst IsClosed (sym (grouped_lines command commands recorded)) (group_closed (command ∷ commands));

@@ -10,6 +10,9 @@ use Rattle.xw_lines.specs.declared.outcome.Step.TheVariants.{Accepted}
 use Rattle.xw_lines.specs.Cut.{Cut, cut, lines_of, last_piece, last_line, with_lfs, HasNoLf, AllHaveNoLf}
 use Rattle.xw_lines.proofs.Cuts.{cut-with_lfs}
 use Rattle.xw_commands.specs.declared.command.Command.{Command}
+use Rattle.xw_commands.specs.declared.command.Command.TheVariants as commands
+use Rattle.xw_commands.specs.declared.change.Change.{Change}
+use Rattle.xw_commands.specs.declared.search.Search.{Search}
 use Rattle.xw_commands.specs.declared.command.SyntaxFault.{SyntaxFault}
 use Rattle.xw_commands.specs.Command.{command_of}
 use Rattle.xw_answers.specs.declared.refusal.Refusal.{Refusal}
@@ -17,11 +20,8 @@ use Rattle.xw_session.specs.State.{State}
 use Rattle.xw_session.specs.Reply.{Reply}
 use Rattle.xw_session.specs.Answer.{IsDue, Replies, step_of, state_after, AnswersParsed, Answers}
 use Rattle.xw_journal.specs.Group.{begin_line, end_line, grouped}
-use Rattle.xw_commands.specs.declared.command.Kind.{Kind}
-use Rattle.xw_commands.specs.declared.command.Kind.TheVariants.{Query, Change, Search}
-use Rattle.xw_commands.specs.Kind.{kind_of}
-use Rattle.xw_journal.specs.Journal.{entered_commands, text_of_kind, text_of_parsed, journal_text}
-use Rattle.xw_session_laws.specs.Replay.{left_by, replayed, left_by_line, replayed_lines}
+use Rattle.xw_journal.specs.Journal.{entered_commands, written_of, text_of, journal_text}
+use Rattle.xw_session_laws.specs.Replay.{state_left, replayed, left_by_line, replayed_lines}
 use Rattle.xw_session_laws.proofs.AnsweredAgain.{both_replayed}
 use Rattle.xw_session_laws.proofs.CommandsRead.{line_without_lf}
 use Rattle.xw_session_laws.proofs.RecordRead.{AreRecorded, lines_apart, no_lf_in, replayed_as_read}
@@ -44,9 +44,8 @@ IsChange state line text next = (text ≡ line ++ 10 ∷ []) × (left_by_line st
 
 -- the line is a search, whose letters make its change again and are written
 pub record Enters (state : State) (line text : List ℕ) (next : State) : Type 0 where
-  pub command : Command
-  pub is : command_of line ≡ Ok (Some command)
-  pub searches : kind_of command ≡ Search
+  pub search : Search
+  pub is : command_of line ≡ Ok (Some (commands.Search search))
   pub answer : List ℕ
   pub answers : Answers state line Accepted answer next
   pub text-is : text ≡ grouped (entered_commands state.engine.grid next.engine.grid)
@@ -73,41 +72,40 @@ module _ (state : State) (is : IsGrid state.engine.grid) where
     abbrev text : List ℕ
     text = journal_text state.engine.grid line outcome next.engine.grid
 
-    module _ (command : Command) (read : command_of line ≡ Ok (Some command)) (reply : Reply) (step : outcome ≡ Accepted) (same : next ≡ reply.state) where
-      text_is : text ≡ text_of_kind (kind_of command) line state.engine.grid next.engine.grid
-      text_is =
+    module _ (reply : Reply) (step : outcome ≡ Accepted) (same : next ≡ reply.state) where
+      text_is : (command : Command) → command_of line ≡ Ok (Some command) → text ≡ text_of (written_of (Ok (Some command))) line state.engine.grid next.engine.grid
+      text_is command read =
           ap (λ step. journal_text state.engine.grid line step next.engine.grid) step
-          ∙ ap (λ found. text_of_parsed found line state.engine.grid next.engine.grid) read
+          ∙ ap (λ found. text_of (written_of found) line state.engine.grid next.engine.grid) read
 
-      by_letters : kind_of command ≡ Search → AreRecorded (entered_commands state.engine.grid next.engine.grid) → replayed state (entered_commands state.engine.grid next.engine.grid) ≡ Some next → Leaves state line text next
-      by_letters effect recorded done = inr (inr (record {
-        command = command;
+      by_letters : (search : Search) → command_of line ≡ Ok (Some (commands.Search search)) → AreRecorded (entered_commands state.engine.grid next.engine.grid) → replayed state (entered_commands state.engine.grid next.engine.grid) ≡ Some next → Leaves state line text next
+      by_letters search read recorded done = inr (inr (record {
+        search = search;
         is = read;
-        searches = effect;
         answer = answer;
         answers = subst (λ step. Answers state line step answer next) step said;
-        text-is = text_is ∙ ap (λ effect. text_of_kind effect line state.engine.grid next.engine.grid) effect;
+        text-is = text_is (commands.Search search) read;
         recorded = recorded;
         done = done;
       }))
 
-      by_effect : (effect : Kind) → kind_of command ≡ effect → HasEffect effect state command reply → Leaves state line text next
-      by_effect Query effect left = inl (text_is ∙ ap (λ effect. text_of_kind effect line state.engine.grid next.engine.grid) effect, same ∙ left)
-      by_effect Change effect left =
-          inr (inl (text_is ∙ ap (λ effect. text_of_kind effect line state.engine.grid next.engine.grid) effect, ap (left_by_line state) read ∙ ap left_by left ∙ ap Some (sym same), (command, read)))
-      by_effect Search effect (inl left) =
+      by_effect : (command : Command) → command_of line ≡ Ok (Some command) → HasEffect state command reply → Leaves state line text next
+      by_effect (commands.Ask query) read left = inl (text_is (commands.Ask query) read, same ∙ left)
+      by_effect (commands.Change change) read left =
+          inr (inl (text_is (commands.Change change) read, ap (left_by_line state) read ∙ ap state_left left ∙ ap Some (sym same), (commands.Change change, read)))
+      by_effect (commands.Search search) read (inl left) =
           let stays : state ≡ next = sym (same ∙ left) in
-          by_letters effect
+          by_letters search read
           (subst (λ (s : State). AreRecorded (entered_commands state.engine.grid s.engine.grid)) stays none_recorded)
           (subst (λ (s : State). replayed state (entered_commands state.engine.grid s.engine.grid) ≡ Some s) stays none_again)
-      by_effect Search effect (inr (engine, left, done)) =
+      by_effect (commands.Search search) read (inr (engine, left, done)) =
           let moves : record state { engine = engine } ≡ next = sym (same ∙ left) in
-          by_letters effect
+          by_letters search read
           (subst (λ (s : State). AreRecorded (entered_commands state.engine.grid s.engine.grid)) moves (search_recorded state is engine done))
           (subst (λ (s : State). replayed state (entered_commands state.engine.grid s.engine.grid) ≡ Some s) moves (search_again state is engine done))
 
     by_reply : (command : Command) → command_of line ≡ Ok (Some command) → (reply : Result Reply Refusal) → Replies state command reply → outcome ≡ step_of reply → next ≡ state_after state reply → Leaves state line text next
-    by_reply command read (Ok reply) (due, owed, fits) step same = by_effect command read reply step same (kind_of command) refl (effected state is reply command (subst (IsDue state command) fits owed))
+    by_reply command read (Ok reply) (due, owed, fits) step same = by_effect reply step same command read (effected state is reply command (subst (IsDue state command) fits owed))
     by_reply command read (Err refusal) replies step same = inl (ap (λ step. journal_text state.engine.grid line step next.engine.grid) step, same)
 
     by_parsed : (found : Result (Option Command) SyntaxFault) → command_of line ≡ found → AnswersParsed state found outcome answer next → Leaves state line text next
@@ -163,15 +161,15 @@ after_comment : (state : State) (line : List ℕ) (lines : List (List ℕ)) → 
 after_comment state line lines e = ap (λ found. option_and_then (λ next. replayed_lines next lines) (left_by_line state found)) e
 
 -- the lines of a group of commands
-abbrev pub group_lines : List Command → List (List ℕ)
+abbrev pub group_lines : List Change → List (List ℕ)
 group_lines commands = begin_line ∷ (map line_without_lf commands ++ end_line ∷ [])
 
-pub group_apart : (command : Command) (commands : List Command) → AreRecorded (command ∷ commands) → grouped (command ∷ commands) ≡ with_lfs (group_lines (command ∷ commands)) []
+pub group_apart : (command : Change) (commands : List Change) → AreRecorded (command ∷ commands) → grouped (command ∷ commands) ≡ with_lfs (group_lines (command ∷ commands)) []
 group_apart command commands recorded =
     ap (λ xs. codes "# xw begin\n" ++ (xs ++ codes "# xw end\n")) (lines_apart (command ∷ commands) recorded)
     ∙ ap (λ xs. codes "# xw begin\n" ++ xs) (lfs_joined (map line_without_lf (command ∷ commands)) (end_line ∷ []) [])
 
-pub group_plain : (commands : List Command) → AreRecorded commands → AllHaveNoLf (group_lines commands)
+pub group_plain : (commands : List Change) → AreRecorded commands → AllHaveNoLf (group_lines commands)
 group_plain commands recorded =
     (begin_plain, plain_joined (map line_without_lf commands) (end_line ∷ []) (no_lf_in commands recorded) (end_plain, tt)) where
       begin_plain : HasNoLf begin_line
@@ -180,14 +178,14 @@ group_plain commands recorded =
       end_plain : HasNoLf end_line
       end_plain = (λ z. cc, (λ z. cc, (λ z. cc, (λ z. cc, (λ z. cc, (λ z. cc, (λ z. cc, (λ z. cc, tt))))))))
 
-group_done : (state next : State) (commands : List Command) → AreRecorded commands → replayed state commands ≡ Some next → replayed_lines state (group_lines commands) ≡ Some next
+group_done : (state next : State) (commands : List Change) → AreRecorded commands → replayed state commands ≡ Some next → replayed_lines state (group_lines commands) ≡ Some next
 group_done state next commands recorded done =
     after_comment state begin_line (map line_without_lf commands ++ end_line ∷ []) refl
     ∙ both_replayed state (map line_without_lf commands) (end_line ∷ [])
     ∙ ap (option_and_then (λ mid. replayed_lines mid (end_line ∷ []))) (replayed_as_read state commands recorded ∙ done)
     ∙ after_comment next end_line [] refl
 
-group_replays : (state next : State) (commands : List Command) → AreRecorded commands → replayed state commands ≡ Some next → Replays state (grouped commands) next
+group_replays : (state next : State) (commands : List Change) → AreRecorded commands → replayed state commands ≡ Some next → Replays state (grouped commands) next
 group_replays state next [] recorded done = record { lines = []; whole = refl; plain = tt; done = done }
 group_replays state next (command ∷ commands) recorded done = record {
   lines = group_lines (command ∷ commands);

@@ -1,6 +1,6 @@
 -- The journal of a run.
 use Rattle.std.proofs.Common.{◌≡◌, ℕ, ◌<◌, ◌≤◌, ◌^◌, not, List, [], ◌∷◌, ◌++◌, get_or, codes, Some, refl, sym, ◌∙◌, ap, subst, inl, inr, append_assoc, append-nil, lit<, arith}
-use Rattle.std.specs.Prelude.{All, nat_eq, decimal, Option, None, Result, Ok, Err, if◌then◌else◌}
+use Rattle.std.specs.Prelude.{All, nat_eq, decimal, if◌then◌else◌}
 use Rattle.std.proofs.lemmas.Bool.{ne_eqb}
 use Rattle.std.proofs.lemmas.Fmt.{IsAscii-decimal}
 use Rattle.std.proofs.lemmas.Str.Ascii.{All-from_ascii}
@@ -14,23 +14,21 @@ use Rattle.xw_lines.specs.Spoken.{Spoken, BreaksOff}
 use Rattle.xw_lines.specs.Run.{StopsIn}
 use Rattle.xw_lines.specs.declared.outcome.Step.TheVariants.{Silent, Accepted, Refused}
 use Rattle.xw_commands.specs.Command.{command_of}
-use Rattle.xw_commands.specs.declared.command.SyntaxFault.{SyntaxFault}
 use Rattle.xw_session_laws.specs.Replay.{replayed_lines}
 use Rattle.xw_lines.specs.declared.outcome.Step.{Step}
-use Rattle.xw_commands.specs.declared.command.Command.{Command}
-use Rattle.xw_commands.specs.declared.command.Command.TheVariants as commands
+use Rattle.xw_commands.specs.declared.change.Change.{Change}
+use Rattle.xw_commands.specs.declared.change.Change.TheVariants as changes
 use Rattle.xw_commands.specs.declared.command.CellArg.{CellArg}
 use Rattle.xw_session.specs.State.{State}
 use Rattle.xw_session.specs.Answer.{Answers}
 use Rattle.xw_answers.specs.Record.{command_lines}
 use Rattle.xw_answers.specs.Spelling.{command_line}
 use Rattle.xw_journal.specs.Group.{complete, grouped}
-use Rattle.xw_commands.specs.Kind.{kind_of}
-use Rattle.xw_journal.specs.Journal.{entered_commands, text_of_kind, text_of_parsed, journal_text, taken, events_of_parsed, journal_events, JournaledState, AnswersJournaled, IsUnjournaled, IsUnkept, IsCause, StopsAtJournal}
+use Rattle.xw_journal.specs.Journal.{entered_commands, written_of, text_of, journal_text, taken, events_of, journal_events, JournaledState, AnswersJournaled, IsUnjournaled, IsUnkept, IsCause, StopsAtJournal}
 use Rattle.xw_journal.specs.declared.cause.Cause.{Cause}
 use Rattle.xw_journal.specs.declared.cause.Cause.TheVariants.{Journal, Memory}
-use Rattle.xw_commands.specs.declared.command.Kind.{Kind}
-use Rattle.xw_commands.specs.declared.command.Kind.TheVariants.{Query, Change, Search}
+use Rattle.xw_journal.specs.declared.journal.Written.{Written}
+use Rattle.xw_journal.specs.declared.journal.Written.TheVariants.{Nothing, Line, Letters}
 use Rattle.xw_session_laws.specs.Journals.{IsJournaled, AreFirstLines, without_flushes, AreBytes, HasJournaled, HasBegunJournal}
 use Rattle.xw_session_laws.proofs.CommandsRead.{IsSmallSpot, IsRecorded}
 use Rattle.xw_session_laws.proofs.RecordRead.{AreRecorded}
@@ -65,20 +63,20 @@ number_unmarked n small =
 letter_unmarked : (letter : ℕ) → IsLetter letter → IsUnmarked (letter ∷ [])
 letter_unmarked letter is = bytes_unmarked (letter ∷ []) (All-cons (λ byte. byte < 256) letter [] (omega (arith, is.1)) (All-nil (λ byte. byte < 256)))
 
-set_unmarked : (at : CellArg) (letter : ℕ) → IsSmallSpot at → IsLetter letter → IsUnmarked (command_line (commands.Set at letter))
+set_unmarked : (at : CellArg) (letter : ℕ) → IsSmallSpot at → IsLetter letter → IsUnmarked (command_line (changes.Set at letter))
 set_unmarked at letter small good =
     let fourth = joined (letter ∷ []) (codes "\n") (letter_unmarked letter good) refl in
     let third = joined (decimal at.col ++ codes " ") _ (joined (decimal at.col) (codes " ") (number_unmarked at.col small.1) refl) fourth in
     let second = joined (decimal at.row ++ codes " ") _ (joined (decimal at.row) (codes " ") (number_unmarked at.row small.0) refl) third in
     joined (codes "set" ++ codes " ") _ refl second
 
-letters_unmarked : (letters : List Command) → AreRecorded letters → AreSets letters → IsUnmarked (command_lines letters)
+letters_unmarked : (letters : List Change) → AreRecorded letters → AreSets letters → IsUnmarked (command_lines letters)
 letters_unmarked [] recorded sets = refl
 letters_unmarked (command ∷ letters) recorded ((at, letter, is), sets) =
-    let good : IsRecorded (commands.Set at letter) = subst IsRecorded is recorded.0 in
+    let good : IsRecorded (changes.Set at letter) = subst IsRecorded is recorded.0 in
     joined (command_line command) (command_lines letters) (subst (λ command. IsUnmarked (command_line command)) (sym is) (set_unmarked at letter good.0 good.1)) (letters_unmarked letters recorded.1 sets)
 
-group_unmarked : (letters : List Command) → AreRecorded letters → AreSets letters → IsUnmarked (grouped letters)
+group_unmarked : (letters : List Change) → AreRecorded letters → AreSets letters → IsUnmarked (grouped letters)
 group_unmarked [] recorded sets = refl
 group_unmarked (command ∷ letters) recorded sets =
     joined (codes "# xw begin\n") (command_lines (command ∷ letters) ++ codes "# xw end\n") refl
@@ -91,22 +89,16 @@ text_unmarked state line text next are (inr (inr enters)) =
     subst IsUnmarked (sym enters.text-is)
     (group_unmarked (entered_commands state.engine.grid next.engine.grid) enters.recorded (entered_sets state.engine.grid next.engine.grid (cells next.engine.grid)))
 
-taken_unmarked : (effect : Kind) (text : List ℕ) → (effect ≡ Query → text ≡ []) → IsUnmarked text → without_flushes (taken effect text) ≡ text
-taken_unmarked Query text none plain = sym (none refl)
-taken_unmarked Change text none plain = flushes_joined text (flushed ∷ []) ∙ append-nil (without_flushes text) ∙ plain
-taken_unmarked Search text none plain = flushes_joined text (flushed ∷ []) ∙ append-nil (without_flushes text) ∙ plain
+taken_unmarked : (written : Written) (text : List ℕ) → (written ≡ Nothing → text ≡ []) → IsUnmarked text → without_flushes (taken written text) ≡ text
+taken_unmarked Nothing text none plain = sym (none refl)
+taken_unmarked Line text none plain = flushes_joined text (flushed ∷ []) ∙ append-nil (without_flushes text) ∙ plain
+taken_unmarked Letters text none plain = flushes_joined text (flushed ∷ []) ∙ append-nil (without_flushes text) ∙ plain
 
-nothing_written : (effect : Kind) (line : List ℕ) (before after : Grid) → effect ≡ Query → text_of_kind effect line before after ≡ []
-nothing_written effect line before after is = ap (λ effect. text_of_kind effect line before after) is
-
-parsed_unmarked : (parsed : Result (Option Command) SyntaxFault) (line : List ℕ) (before after : Grid) → IsUnmarked (text_of_parsed parsed line before after)
-    → without_flushes (events_of_parsed parsed line before after) ≡ text_of_parsed parsed line before after
-parsed_unmarked (Ok (Some command)) line before after plain = taken_unmarked (kind_of command) (text_of_kind (kind_of command) line before after) (nothing_written (kind_of command) line before after) plain
-parsed_unmarked (Ok None) line before after plain = refl
-parsed_unmarked (Err fault) line before after plain = refl
+written_unmarked : (written : Written) (line : List ℕ) (before after : Grid) → IsUnmarked (text_of written line before after) → without_flushes (events_of written line before after) ≡ text_of written line before after
+written_unmarked written line before after plain = taken_unmarked written (text_of written line before after) (λ is. ap (λ written. text_of written line before after) is) plain
 
 events_unmarked : (step : Step) (line : List ℕ) (before after : Grid) → IsUnmarked (journal_text before line step after) → without_flushes (journal_events before line step after) ≡ journal_text before line step after
-events_unmarked Accepted line before after plain = parsed_unmarked (command_of line) line before after plain
+events_unmarked Accepted line before after plain = written_unmarked (written_of (command_of line)) line before after plain
 events_unmarked Silent line before after plain = refl
 events_unmarked Refused line before after plain = refl
 

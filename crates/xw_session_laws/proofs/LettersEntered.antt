@@ -13,8 +13,8 @@ use Rattle.xw_grid.proofs.GridLemmas.{cell_at-inside, index_of-cell_at, inside_s
 use Rattle.xw_feas.specs.Board.{board_of, square_entry}
 use Rattle.xw_feas.specs.State.{State as EngineState}
 use Rattle.xw_fill.specs.Position.{square_with, squares_with}
-use Rattle.xw_commands.specs.declared.command.Command.{Command}
-use Rattle.xw_commands.specs.declared.command.Command.TheVariants as commands
+use Rattle.xw_commands.specs.declared.change.Change.{Change}
+use Rattle.xw_commands.specs.declared.change.Change.TheVariants as changes
 use Rattle.xw_session.specs.State.{State}
 use Rattle.xw_session.specs.Reply.{with_letter}
 use Rattle.xw_answers.specs.Record.{spot_of, letter_commands}
@@ -46,7 +46,7 @@ module _ (state : State) (grid : Grid) (is : IsGrid grid) (now : List Square) (l
   abbrev reached : ℕ → State
   reached k = with_squares state grid (mixed now grid.squares k)
 
-  abbrev commands_of : Cell → Square → Square → List Command
+  abbrev commands_of : Cell → Square → Square → List Change
   commands_of cell old new = if is_same_entry (letter_in (Some old)) (letter_in (Some new)) then [] else letter_commands cell (letter_in (Some new))
 
   module _ (k : ℕ) (below : k < grid.width * grid.height) where
@@ -86,7 +86,7 @@ module _ (state : State) (grid : Grid) (is : IsGrid grid) (now : List Square) (l
         let open_now : square_at current here ≡ Some (Open None) = square_is current k inside open_there ∙ ap Some (mixed_next now grid.squares long k Block there ∙ e) in
         let more : set squares (index_of grid here) (Open (Some letter)) ≡ mixed now grid.squares (k + 1) =
         ap (λ n. set squares n (Open (Some letter))) (index_of-cell_at grid k) ∙ ap (set squares k) (sym f) ∙ sym (mixed_more now grid.squares long k Block there) in
-        next_done (reached k) (reached (k + 1)) (commands.Set (spot_of here) letter) []
+        next_done (reached k) (reached (k + 1)) (changes.Set (spot_of here) letter) []
         (ap (λ found. state_left (with_letter (reached k) (spot_of here) found)) (letter_is letter good)
         ∙ entered (reached k) (is_inside grid here) (is_block current here) (with_entry current here (Some letter)) inside (ap is_block_square open_now)
         ∙ ap (λ squares. Some (with_squares state grid squares)) more)

@@ -1,18 +1,16 @@
 -- What an accepted command leaves: by its effect, and always a grid.
-use Rattle.std.proofs.Common.{◌≡◌, ℕ, zero, suc, Bool, true, false, not, ◌&&◌, List, [], ◌∷◌, ◌++◌, length, map, get_or, flat_map, Some, None, refl, sym, ◌∙◌, ap, subst, inl, inr}
+use Rattle.std.proofs.Common.{◌≡◌, ℕ, zero, suc, Bool, true, false, not, ◌&&◌, List, [], ◌∷◌, ◌++◌, map, get_or, Some, None, refl, sym, ◌∙◌, ap, subst, inl, inr}
 use Rattle.std.specs.Prelude.{Option, Result, Ok, Err, ◌⊎◌, nat_le, nat_lt, if◌then◌else◌}
 use Rattle.xw_letters.specs.Letter.{IsLetter, letter_of}
-use Rattle.xw_words.specs.Dictionary.{matching_answer, with_least}
-use Rattle.xw_words.specs.declared.fault.WordFault.{WordFault}
+use Rattle.xw_words.specs.Dictionary.{with_least}
 use Rattle.xw_words.specs.declared.fault.WordFault.TheVariants as faults
 use Rattle.xw_grid.specs.declared.cell.Cell.{Cell}
-use Rattle.xw_grid.specs.declared.cell.LightName.{LightName}
 use Rattle.xw_grid.specs.declared.cell.Square.{Square}
 use Rattle.xw_grid.specs.declared.cell.Square.TheVariants as squares
 use Rattle.xw_grid.specs.declared.fault.GridFault.{GridFault}
 use Rattle.xw_grid.specs.declared.fault.GridFault.TheVariants as grids
 use Rattle.xw_grid.specs.declared.lights.Light.{Light}
-use Rattle.xw_grid.specs.Grid.{Grid, IsGrid, IsSquare, is_inside, is_open, is_block, index_of, letter_in}
+use Rattle.xw_grid.specs.Grid.{Grid, IsGrid, IsSquare, is_inside, is_open, letter_in}
 use Rattle.xw_grid.specs.Edit.{blank, new_grid}
 use Rattle.xw_grid.specs.Clue.{no_clues, with_clue, with_circle, is_circled}
 use Rattle.xw_grid.specs.Light.{lights_of, index_named}
@@ -25,10 +23,6 @@ use Rattle.xw_fill.specs.Position.{position_of, filled_in}
 use Rattle.xw_fill.specs.Search.{unentered_count, found, due, end}
 use Rattle.xw_fill.proofs.Shaped.{shaped}
 use Rattle.xw_fill.proofs.FillLemmas.{found_is_fill, reached-start}
-use Rattle.xw_fill.specs.Suggesting.{suggestion}
-use Rattle.xw_fill.specs.Listing.{duplicates_of, unlisted_of}
-use Rattle.xw_fill.specs.FeasibleLetters.{feasible_letters}
-use Rattle.xw_fill.specs.FeasibleWords.{feasible_words}
 use Rattle.xw_fill.specs.declared.search.Filling.{Filling}
 use Rattle.xw_fill.specs.declared.search.Filling.TheVariants as fillings
 use Rattle.xw_fill.specs.NamedFill.{IsAutofilled, is_named}
@@ -37,6 +31,10 @@ use Rattle.xw_fill.specs.declared.best.Best.TheVariants as bests
 use Rattle.xw_fill.specs.Best.{IsBest}
 use Rattle.xw_commands.specs.declared.command.Command.{Command}
 use Rattle.xw_commands.specs.declared.command.Command.TheVariants as commands
+use Rattle.xw_commands.specs.declared.change.Change.{Change}
+use Rattle.xw_commands.specs.declared.change.Change.TheVariants as changes
+use Rattle.xw_commands.specs.declared.search.Search.{Search}
+use Rattle.xw_commands.specs.declared.search.Search.TheVariants as searches
 use Rattle.xw_commands.specs.declared.command.CellArg.{CellArg}
 use Rattle.xw_commands.specs.declared.command.Field.{Field}
 use Rattle.xw_commands.specs.declared.command.TextField.{TextField}
@@ -48,22 +46,13 @@ use Rattle.xw_session.specs.declared.session.putting.Target.TheVariants as targe
 use Rattle.xw_commands.specs.declared.command.TextMode.TheVariants.{Instead, Behind}
 use Rattle.xw_answers.specs.Refusal.{refusal_of}
 use Rattle.xw_session.specs.Autofill.{names_of}
-use Rattle.xw_session.specs.Tally.{tally_lines}
 use Rattle.xw_session.specs.Erase.{erased_cells, emptied}
-use Rattle.xw_session.specs.Grades.{grade_lines}
-use Rattle.xw_session.specs.Unmatched.{unmatched_lines}
-use Rattle.xw_session.specs.Choices.{first_index, choice_lines}
 use Rattle.xw_session.specs.Answer.{IsDue}
 use Rattle.xw_answers.specs.Escape.{text_spelled, has_nul}
 use Rattle.xw_session.specs.State.{State, with_text_in, cell_of}
 use Rattle.xw_session.specs.Put.{target_of, has_target, text_at, with_text_at, with_piece}
-use Rattle.xw_answers.specs.Show.{show_lines}
-use Rattle.xw_answers.specs.Text.{word_line, light_lines, circle_lines, letters_line, counted_lines, spelled_line}
-use Rattle.xw_session.specs.Found.{duplicate_line, suggestion_line}
-use Rattle.xw_session.specs.Reply.{Reply, reply_to, edited, shown, moved, watch_lines, with_letter, resized, matched, with_clue_of, erased, written, circle_toggled, worded, are_lights, graded, weighed, weighed_from, put, light_named, name_of_light, told_lines, first_words, filling_name}
-use Rattle.xw_commands.specs.declared.command.Kind.{Kind}
-use Rattle.xw_commands.specs.declared.command.Kind.TheVariants.{Query, Change, Search}
-use Rattle.xw_commands.specs.Kind.{kind_of}
+use Rattle.xw_answers.specs.Text.{word_line}
+use Rattle.xw_session.specs.Reply.{Reply, asked, changed, edited, shown, moved, watch_lines, with_letter, resized, with_clue_of, erased, written, circle_toggled, put, light_named, name_of_light, filling_name}
 use Rattle.xw_session_laws.proofs.SessionKept.{ok_state}
 use Rattle.xw_session_laws.proofs.GridsKept.{blank_good, letter_good, with_words_good, with_letter_good, with_word_good, emptied_good, with_orbit_good, with_bar_good, with_symmetry_good, square_good, filled_good}
 
@@ -105,12 +94,13 @@ end_is_fill engine is there =
       is = ap (λ board. filled_in engine board.board.entries) done.1;
     }
 
--- ---- what a reply leaves, by the effect of its command
+-- ---- what a reply leaves, by its command
 
-abbrev pub HasEffect : Kind → State → Command → Reply → Type 0
-HasEffect Query state command reply = reply.state ≡ state
-HasEffect Change state command reply = reply_to state command ≡ Some (Ok reply)
-HasEffect Search state command reply = (reply.state ≡ state) ⊎ ((next : EngineState) × (reply.state ≡ record state { engine = next }) × IsSearched state.engine next)
+-- a query leaves the state as it was, a change leaves its own, and a search may enter letters
+abbrev pub HasEffect : State → Command → Reply → Type 0
+HasEffect state (commands.Ask query) reply = reply.state ≡ state
+HasEffect state (commands.Change change) reply = changed state change ≡ Ok reply
+HasEffect state (commands.Search search) reply = (reply.state ≡ state) ⊎ ((next : EngineState) × (reply.state ≡ record state { engine = next }) × IsSearched state.engine next)
 
 module _ (state : State) (is : IsGrid state.engine.grid) (reply : Reply) where
   by_test : (P : Type 0) (b : Bool) (x y : Result Reply Refusal) → (x ≡ Ok reply → P) → (b ≡ false → y ≡ Ok reply → P) → (if b then x else y) ≡ Ok reply → P
@@ -128,30 +118,9 @@ module _ (state : State) (is : IsGrid state.engine.grid) (reply : Reply) where
   when_shown : (lines : List ℕ) → shown state lines ≡ Ok reply → Stays
   when_shown lines e = sym (ok_state (record { lines = lines; state = state }) reply e)
 
-  of_words : (result : Result (List (List ℕ)) WordFault) → matched state result ≡ Ok reply → Stays
-  of_words (Ok matches) e = when_shown (flat_map word_line matches) e
-  of_words (Err fault) e = refused_not Stays (refusals.Word fault) e
-
-  of_light : (light most : Option ℕ) → worded state light most ≡ Ok reply → Stays
-  of_light None most e = refused_not Stays refusals.NoLight e
-  of_light (Some light) most e = when_shown (counted_lines (length (feasible_words (position_of state.engine) light)) (first_words most (feasible_words (position_of state.engine) light))) e
-
-  of_choices_from : (light most : ℕ) (from : Result (Option ℕ) Refusal) → weighed_from state light most from ≡ Ok reply → Stays
-  of_choices_from light most (Ok from) e = when_shown (choice_lines state.engine light from most) e
-  of_choices_from light most (Err refusal) e = refused_not Stays refusal e
-
-  of_choices : (light : Option ℕ) (most : ℕ) (first : Option (List ℕ)) → weighed state light most first ≡ Ok reply → Stays
-  of_choices None most first e = refused_not Stays refusals.NoLight e
-  of_choices (Some light) most first e = of_choices_from light most (first_index state.engine light first) e
-
-  of_grades : (names : List LightName) → graded state names ≡ Ok reply → Stays
-  of_grades names e =
-      by_test Stays (are_lights state.engine.grid names) (shown state (grade_lines state.engine names)) (Err refusals.NoLight) (when_shown (grade_lines state.engine names)) (λ _ e. refused_not Stays refusals.NoLight e) e
-
-  of_cell : (cell : Cell) (lines : List ℕ) → (if not (is_inside state.engine.grid cell) then Err (refusals.Grid grids.OutOfGrid) else if is_block state.engine.grid cell then Err (refusals.Grid grids.OnBlock) else shown state lines) ≡ Ok reply → Stays
-  of_cell cell lines e =
-      by_test Stays (not (is_inside state.engine.grid cell)) (Err (refusals.Grid grids.OutOfGrid)) (if is_block state.engine.grid cell then Err (refusals.Grid grids.OnBlock) else shown state lines) (refused_not Stays (refusals.Grid grids.OutOfGrid))
-      (λ _ e. by_test Stays (is_block state.engine.grid cell) (Err (refusals.Grid grids.OnBlock)) (shown state lines) (refused_not Stays (refusals.Grid grids.OnBlock)) (λ _ e. when_shown lines e) e) e
+  of_answer : (answer : Result (List ℕ) Refusal) → ◌≡◌ {A = Result Reply Refusal} (Ok reply) (asked state answer) → Stays
+  of_answer (Ok lines) e = when_shown lines (sym e)
+  of_answer (Err refusal) e = refused_not Stays refusal (sym e)
 
   -- ---- searches
 
@@ -176,44 +145,18 @@ module _ (state : State) (is : IsGrid state.engine.grid) (reply : Reply) where
   by_best named bests.NoFill engine told (none, same) = inl (told ∙ ap (λ (p : EngineState). record state { engine = p }) same)
   by_best named (bests.Limit bound) engine told (above, proved, same) = inl (told ∙ ap (λ (p : EngineState). record state { engine = p }) same)
 
+  searched_so : (search : Search) → IsDue state (commands.Search search) (Ok reply) → Searched
+  searched_so (searches.Fill limit) e =
+      by_fill (nat_lt limit (due (position_of state.engine))) (found (position_of state.engine)) (word_line (filling_name fillings.Limit)) (word_line (filling_name fillings.Filled)) (word_line (filling_name fillings.NoFill)) refl e
+  searched_so (searches.Autofill limit seed lights) e = by_end (is_named state.engine (names_of lights)) e.filling e.engine (ap (λ (reply : Reply). reply.state) e.is) e.done
+  searched_so (searches.Best limit seed lights) e = by_best (is_named state.engine (names_of lights)) e.best e.engine (ap (λ (reply : Reply). reply.state) e.is) e.done
+
   -- ---- all commands
 
-  pub effected : (command : Command) → IsDue state command (Ok reply) → HasEffect (kind_of command) state command reply
-  effected (commands.Size width height) e = ap Some e
-  effected (commands.Symmetry kind) e = ap Some e
-  effected (commands.Add word grade) e = ap Some e
-  effected (commands.Strike word) e = ap Some e
-  effected (commands.Least grade) e = ap Some e
-  effected (commands.Match pattern) e = of_words (matching_answer state.engine.words pattern) e
-  effected (commands.Set at letter) e = ap Some e
-  effected (commands.Clear at) e = ap Some e
-  effected (commands.Place named word) e = ap Some e
-  effected (commands.Erase named) e = ap Some e
-  effected (commands.Block at) e = ap Some e
-  effected (commands.Bar at side) e = ap Some e
-  effected (commands.Clue named text) e = ap Some e
-  effected (commands.Write field text) e = ap Some e
-  effected (commands.Circle at) e = ap Some e
-  effected commands.Circles e = when_shown (circle_lines state.engine.grid state.circles) e
-  effected commands.Show e = when_shown (show_lines state.engine.grid) e
-  effected commands.Lights e = when_shown (light_lines state.engine.grid) e
-  effected (commands.Words named most) e = of_light (index_named (lights_of state.engine.grid) (name_of_light named)) most e
-  effected (commands.Choices named most first) e = of_choices (index_named (lights_of state.engine.grid) (name_of_light named)) most first e
-  effected (commands.Letters at) e = of_cell (cell_of at) (letters_line (feasible_letters (position_of state.engine) (index_of state.engine.grid (cell_of at)))) e
-  effected (commands.Tally at) e = of_cell (cell_of at) (tally_lines state.engine (cell_of at)) e
-  effected commands.Duplicates e = when_shown (flat_map (duplicate_line state.engine.grid) (duplicates_of state.engine)) e
-  effected commands.Unlisted e = when_shown (flat_map (spelled_line state.engine.grid) (unlisted_of state.engine)) e
-  effected (commands.Grades lights) e = of_grades (map name_of_light lights) e
-  effected commands.Unmatched e = when_shown (unmatched_lines state.engine) e
-  effected commands.Suggest e = when_shown (suggestion_line state.engine (suggestion state.engine)) e
-  effected (commands.Why named) e = ap (λ (reply : Reply). reply.state) e.is
-  effected (commands.Fill limit) e =
-      by_fill (nat_lt limit (due (position_of state.engine))) (found (position_of state.engine)) (word_line (filling_name fillings.Limit)) (word_line (filling_name fillings.Filled)) (word_line (filling_name fillings.NoFill)) refl e
-  effected (commands.Autofill limit seed lights) e = by_end (is_named state.engine (names_of lights)) e.filling e.engine (ap (λ (reply : Reply). reply.state) e.is) e.done
-  effected (commands.Best limit seed lights) e = by_best (is_named state.engine (names_of lights)) e.best e.engine (ap (λ (reply : Reply). reply.state) e.is) e.done
-  effected (commands.Watch is_on) e = ap Some e
-  effected (commands.Tell telling) e = when_shown (told_lines state telling) e
-  effected (commands.Put putting field spelling) e = ap Some e
+  pub effected : (command : Command) → IsDue state command (Ok reply) → HasEffect state command reply
+  effected (commands.Ask query) (answer, is_answer, same) = of_answer answer same
+  effected (commands.Change change) e = e
+  effected (commands.Search search) e = searched_so search e
 
   -- ---- the grid after a reply
 
@@ -294,40 +237,27 @@ module _ (state : State) (is : IsGrid state.engine.grid) (reply : Reply) where
         | false ↦ λ sizes e. cc
       ] refl e
 
+  grid_changed : (change : Change) → changed state change ≡ Ok reply → Good
+  grid_changed (changes.Size width height) e = good_size (new_grid width height) (size_good width height) e
+  grid_changed (changes.Symmetry kind) e = good_moved (after state.engine (symmetry_chosen kind)) (λ next. with_symmetry_good state.engine next is kind) e
+  grid_changed (changes.Add word grade) e = good_moved (after state.engine (word_added word grade)) (λ next. with_words_good state.engine next is _) e
+  grid_changed (changes.Strike word) e = good_moved (after state.engine (word_struck word)) (λ next. with_words_good state.engine next is _) e
+  grid_changed (changes.Least grade) e = good_moved (after state.engine (least_chosen grade)) (λ next. with_words_good state.engine next is (Ok (with_least grade state.engine.words))) e
+  grid_changed (changes.Set at letter) e = good_letter at letter (letter_of letter) refl e
+  grid_changed (changes.Clear at) e = good_moved (after state.engine (cell_cleared (cell_of at))) (λ next. with_letter_good state.engine next is (cell_of at) None tt) e
+  grid_changed (changes.Place named word) e =
+      good_moved (after state.engine (word_placed (name_of_light named) word)) (λ next. with_word_good state.engine next is (index_named (lights_of state.engine.grid) (name_of_light named)) word) e
+  grid_changed (changes.Erase named) e = good_erased (light_named state.engine.grid named) e
+  grid_changed (changes.Block at) e = good_moved (after state.engine (block_toggled (cell_of at))) (λ next. with_orbit_good state.engine next is (cell_of at)) e
+  grid_changed (changes.Bar at side) e = good_moved (after state.engine (bar_toggled (cell_of at) side)) (λ next. with_bar_good state.engine next is (cell_of at) side) e
+  grid_changed (changes.Clue named text) e = good_clue (light_named state.engine.grid named) text e
+  grid_changed (changes.Write field text) e = good_text field text e
+  grid_changed (changes.Circle at) e = good_circle (cell_of at) e
+  grid_changed (changes.Watch is_on) e = good_edited (record state { is_watched = is_on }) is e
+  grid_changed (changes.Put putting field spelling) e = good_put putting field (text_spelled spelling) e
+
   -- the grid stays a grid
   pub grid_left : (command : Command) → IsDue state command (Ok reply) → Good
-  grid_left (commands.Size width height) e = good_size (new_grid width height) (size_good width height) e
-  grid_left (commands.Symmetry kind) e = good_moved (after state.engine (symmetry_chosen kind)) (λ next. with_symmetry_good state.engine next is kind) e
-  grid_left (commands.Add word grade) e = good_moved (after state.engine (word_added word grade)) (λ next. with_words_good state.engine next is _) e
-  grid_left (commands.Strike word) e = good_moved (after state.engine (word_struck word)) (λ next. with_words_good state.engine next is _) e
-  grid_left (commands.Least grade) e = good_moved (after state.engine (least_chosen grade)) (λ next. with_words_good state.engine next is (Ok (with_least grade state.engine.words))) e
-  grid_left (commands.Match pattern) e = good_quiet (effected (commands.Match pattern) e)
-  grid_left (commands.Set at letter) e = good_letter at letter (letter_of letter) refl e
-  grid_left (commands.Clear at) e = good_moved (after state.engine (cell_cleared (cell_of at))) (λ next. with_letter_good state.engine next is (cell_of at) None tt) e
-  grid_left (commands.Place named word) e =
-      good_moved (after state.engine (word_placed (name_of_light named) word)) (λ next. with_word_good state.engine next is (index_named (lights_of state.engine.grid) (name_of_light named)) word) e
-  grid_left (commands.Erase named) e = good_erased (light_named state.engine.grid named) e
-  grid_left (commands.Block at) e = good_moved (after state.engine (block_toggled (cell_of at))) (λ next. with_orbit_good state.engine next is (cell_of at)) e
-  grid_left (commands.Bar at side) e = good_moved (after state.engine (bar_toggled (cell_of at) side)) (λ next. with_bar_good state.engine next is (cell_of at) side) e
-  grid_left (commands.Clue named text) e = good_clue (light_named state.engine.grid named) text e
-  grid_left (commands.Write field text) e = good_text field text e
-  grid_left (commands.Circle at) e = good_circle (cell_of at) e
-  grid_left commands.Circles e = good_quiet (effected commands.Circles e)
-  grid_left commands.Show e = good_quiet (effected commands.Show e)
-  grid_left commands.Lights e = good_quiet (effected commands.Lights e)
-  grid_left (commands.Words named most) e = good_quiet (effected (commands.Words named most) e)
-  grid_left (commands.Choices named most first) e = good_quiet (effected (commands.Choices named most first) e)
-  grid_left (commands.Letters at) e = good_quiet (effected (commands.Letters at) e)
-  grid_left (commands.Tally at) e = good_quiet (effected (commands.Tally at) e)
-  grid_left commands.Duplicates e = good_quiet (effected commands.Duplicates e)
-  grid_left commands.Unlisted e = good_quiet (effected commands.Unlisted e)
-  grid_left (commands.Grades lights) e = good_quiet (effected (commands.Grades lights) e)
-  grid_left commands.Unmatched e = good_quiet (effected commands.Unmatched e)
-  grid_left commands.Suggest e = good_quiet (effected commands.Suggest e)
-  grid_left (commands.Why named) e = good_quiet (effected (commands.Why named) e)
-  grid_left (commands.Fill limit) e = good_searched (effected (commands.Fill limit) e)
-  grid_left (commands.Autofill limit seed lights) e = good_searched (effected (commands.Autofill limit seed lights) e)
-  grid_left (commands.Best limit seed lights) e = good_searched (effected (commands.Best limit seed lights) e)
-  grid_left (commands.Watch is_on) e = good_edited (record state { is_watched = is_on }) is e
-  grid_left (commands.Tell telling) e = good_quiet (effected (commands.Tell telling) e)
-  grid_left (commands.Put putting field spelling) e = good_put putting field (text_spelled spelling) e
+  grid_left (commands.Ask query) e = good_quiet (effected (commands.Ask query) e)
+  grid_left (commands.Change change) e = grid_changed change e
+  grid_left (commands.Search search) e = good_searched (searched_so search e)

@@ -12,7 +12,7 @@ use Rattle.xw_grid.specs.declared.cell.Symmetry.TheVariants as kinds
 use Rattle.xw_grid.specs.Grid.{Grid}
 use Rattle.xw_grid.specs.Edit.{blank}
 use Rattle.xw_grid.specs.Clue.{no_clues}
-use Rattle.xw_commands.specs.declared.command.Command.{Command}
+use Rattle.xw_commands.specs.declared.change.Change.{Change}
 use Rattle.xw_commands.specs.declared.command.Field.TheVariants as fields
 use Rattle.xw_commands.specs.declared.command.TextField.{TextField}
 use Rattle.xw_commands.specs.declared.command.TextField.TheVariants.{Title, Author, Copyright, Notes}
@@ -31,7 +31,7 @@ use Rattle.xw_session_laws.proofs.InOrder.{all_circles}
 use Rattle.xw_session_laws.proofs.BarsAgain.{right_again, below_again}
 use Rattle.xw_session_laws.proofs.CluesAgain.{with_clues, clues_again}
 
-section_then : (state mid : State) (front rest : List Command) (last : Option State) → replayed state front ≡ Some mid → replayed mid rest ≡ last → replayed state (front ++ rest) ≡ last
+section_then : (state mid : State) (front rest : List Change) (last : Option State) → replayed state front ≡ Some mid → replayed mid rest ≡ last → replayed state (front ++ rest) ≡ last
 section_then state mid front rest last e f = replayed_both state front rest ∙ ap (option_and_then (λ mid. replayed mid rest)) e ∙ f
 
 module _ (words : Dictionary) (made state : State) (is : BeganWith words made) (begins : state.engine.words ≡ words) where
@@ -85,7 +85,7 @@ module _ (words : Dictionary) (made state : State) (is : BeganWith words made) (
   whole = record made { begun = state.begun }
 
   -- the commands of the sections after the first `count`
-  abbrev after_sections : ℕ → List Command
+  abbrev after_sections : ℕ → List Change
   after_sections count = flat_map (section_commands made) (drop count record_sections)
 
   words_done : replayed state (section_commands made sections.Words) ≡ Some worded

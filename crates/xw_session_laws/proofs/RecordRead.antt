@@ -17,6 +17,8 @@ use Rattle.xw_grid.specs.Clue.{ClueMap, clue_at, is_circled}
 use Rattle.xw_grid.proofs.GridLemmas.{cell_at-inside, inside_small, length-cells}
 use Rattle.xw_commands.specs.declared.command.Command.{Command}
 use Rattle.xw_commands.specs.declared.command.Command.TheVariants as commands
+use Rattle.xw_commands.specs.declared.change.Change.{Change}
+use Rattle.xw_commands.specs.declared.change.Change.TheVariants as changes
 use Rattle.xw_commands.specs.declared.command.Field.{Field}
 use Rattle.xw_commands.specs.declared.command.Field.TheVariants as fields
 use Rattle.xw_commands.specs.declared.command.SyntaxFault.{SyntaxFault}
@@ -28,10 +30,10 @@ use Rattle.xw_session.specs.State.{State}
 use Rattle.xw_commands.specs.Command.{command_of}
 use Rattle.xw_lines.specs.Cut.{Cut, cut, lines_of, last_line, with_lfs, AllHaveNoLf}
 use Rattle.xw_session.specs.Put.{text_of_field}
-use Rattle.xw_session.specs.Reply.{reply_to}
+use Rattle.xw_session.specs.Reply.{changed}
 use Rattle.xw_answers.specs.Record.{spot_of, piece_at, further_pieces, more_command, text_commands, add_command, regrade_commands, strike_commands, row_commands, length_commands, least_commands, letter_commands, clue_commands, cell_commands, part_commands, command_lines}
 use Rattle.xw_session.specs.Record.{section_commands, record_sections, record_commands, record_lines}
-use Rattle.xw_session_laws.specs.Replay.{left_by, replayed, left_by_line, replayed_lines, BeganWith}
+use Rattle.xw_session_laws.specs.Replay.{state_left, replayed, left_by_line, replayed_lines, BeganWith}
 use Rattle.xw_lines.proofs.Cuts.{cut-with_lfs}
 use Rattle.xw_answers.proofs.LightTexts.{cell_in_order}
 use Rattle.xw_session_laws.proofs.CellsAgain.{square_is}
@@ -39,15 +41,15 @@ use Rattle.xw_session_laws.proofs.CommandsRead.{IsRecorded, IsKnownWord, IsSmall
 
 -- ---- the commands of records
 
-abbrev pub AreRecorded : List Command → Type 0
+abbrev pub AreRecorded : List Change → Type 0
 AreRecorded [] = Unit {0}
 AreRecorded (command ∷ commands) = IsRecorded command × AreRecorded commands
 
-pub both_recorded : (front rest : List Command) → AreRecorded front → AreRecorded rest → AreRecorded (front ++ rest)
+pub both_recorded : (front rest : List Change) → AreRecorded front → AreRecorded rest → AreRecorded (front ++ rest)
 both_recorded [] rest a b = b
 both_recorded (command ∷ front) rest a b = (a.0, both_recorded front rest a.1 b)
 
-pub each_recorded : {X : Type 0} (made : X → List Command) (d : X) (xs : List X) → ((i : ℕ) → i < length xs → AreRecorded (made (get_or xs i d))) → AreRecorded (flat_map made xs)
+pub each_recorded : {X : Type 0} (made : X → List Change) (d : X) (xs : List X) → ((i : ℕ) → i < length xs → AreRecorded (made (get_or xs i d))) → AreRecorded (flat_map made xs)
 each_recorded made d [] are = tt
 each_recorded made d (x ∷ xs) are =
     both_recorded (made x) (flat_map made xs) (are 0 (omega arith)) (each_recorded made d xs (λ i within. are (suc i) (omega (arith, within))))
@@ -68,11 +70,11 @@ adds_recorded (e ∷ entries) known =
     let first = known 0 (omega arith) in
     ((first.0, named_small e.grade (e.grade == best_grade) first.1), adds_recorded entries (λ k within. known (suc k) (omega (arith, within))))
 
-regrade_recorded : (e : Entry) (b : Bool) → IsKnown e → AreRecorded (if b then commands.Strike e.word ∷ commands.Add e.word (Some e.grade) ∷ [] else [])
+regrade_recorded : (e : Entry) (b : Bool) → IsKnown e → AreRecorded (if b then changes.Strike e.word ∷ changes.Add e.word (Some e.grade) ∷ [] else [])
 regrade_recorded e true known = (known.0, ((known.0, known.1), tt))
 regrade_recorded e false known = tt
 
-strike_recorded : (e : Entry) (b : Bool) → IsKnown e → AreRecorded (if b then commands.Strike e.word ∷ [] else [])
+strike_recorded : (e : Entry) (b : Bool) → IsKnown e → AreRecorded (if b then changes.Strike e.word ∷ [] else [])
 strike_recorded e true known = (known.0, tt)
 strike_recorded e false known = tt
 
@@ -104,7 +106,7 @@ words_recorded begun words is n most =
     let at : get_or (range_with_len 0 n) i 0 ≡ i = get_or-range_with_len 0 n i 0 below ∙ zero-add i in
     subst (λ count. AreRecorded (length_commands begun words count)) (sym at) (row_recorded (row words i) (get_or begun i 0) (known_in_row words i is (omega (arith, below, most)))))
 
-least_recorded : (least : ℕ) (b : Bool) → least ≤ best_grade → AreRecorded (if b then [] else commands.Least least ∷ [])
+least_recorded : (least : ℕ) (b : Bool) → least ≤ best_grade → AreRecorded (if b then [] else changes.Least least ∷ [])
 least_recorded least true small = tt
 least_recorded least false small = (small, tt)
 
@@ -122,7 +124,7 @@ text_recorded field text small =
 -- ---- cells
 
 module _ (grid : Grid) (is : IsGrid grid) (clues : ClueMap) (circles : List Cell) where
-  if_recorded : (command : Command) (b : Bool) → IsRecorded command → AreRecorded (if b then command ∷ [] else [])
+  if_recorded : (command : Change) (b : Bool) → IsRecorded command → AreRecorded (if b then command ∷ [] else [])
   if_recorded command true good = (good, tt)
   if_recorded command false good = tt
 
@@ -149,9 +151,9 @@ module _ (grid : Grid) (is : IsGrid grid) (clues : ClueMap) (circles : List Cell
     clue_recorded way (byte ∷ bytes) = text_recorded (fields.Clue (spot_of here) way) (byte ∷ bytes) small
 
     cell_recorded : (part : Part) → AreRecorded (cell_commands grid clues circles part here)
-    cell_recorded parts.Circles = if_recorded (commands.Circle (spot_of here)) (is_circled circles here) small
-    cell_recorded (parts.Bars side) = if_recorded (commands.Bar (spot_of here) side) (is_barred grid here side) small
-    cell_recorded parts.Blocks = if_recorded (commands.Block (spot_of here)) (is_block grid here) small
+    cell_recorded parts.Circles = if_recorded (changes.Circle (spot_of here)) (is_circled circles here) small
+    cell_recorded (parts.Bars side) = if_recorded (changes.Bar (spot_of here) side) (is_barred grid here side) small
+    cell_recorded parts.Blocks = if_recorded (changes.Block (spot_of here)) (is_block grid here) small
     cell_recorded parts.Letters = letter_recorded
     cell_recorded (parts.Clues way) = clue_recorded way (clue_at clues here way)
 
@@ -179,27 +181,27 @@ record_recorded words made is = each_recorded (section_commands made) sections.W
 
 -- ---- lines
 
-abbrev read_as : Command → Result (Option Command) SyntaxFault
-read_as command = Ok (Some command)
+abbrev read_as : Change → Result (Option Command) SyntaxFault
+read_as change = Ok (Some (commands.Change change))
 
-pub no_lf_in : (commands : List Command) → AreRecorded commands → AllHaveNoLf (map line_without_lf commands)
+pub no_lf_in : (commands : List Change) → AreRecorded commands → AllHaveNoLf (map line_without_lf commands)
 no_lf_in [] are = tt
 no_lf_in (command ∷ commands) are = ((read_again command are.0).1, no_lf_in commands are.1)
 
-pub lines_apart : (commands : List Command) → AreRecorded commands → command_lines commands ≡ with_lfs (map line_without_lf commands) []
+pub lines_apart : (commands : List Change) → AreRecorded commands → command_lines commands ≡ with_lfs (map line_without_lf commands) []
 lines_apart [] are = refl
 lines_apart (command ∷ commands) are =
     ap (λ front. front ++ command_lines commands) (read_again command are.0).0
     ∙ append_assoc (line_without_lf command) (10 ∷ []) (command_lines commands)
     ∙ ap (λ rest. line_without_lf command ++ 10 ∷ rest) (lines_apart commands are.1)
 
-pub lines_are : (commands : List Command) → AreRecorded commands → lines_of (command_lines commands) ≡ map line_without_lf commands
+pub lines_are : (commands : List Change) → AreRecorded commands → lines_of (command_lines commands) ≡ map line_without_lf commands
 lines_are commands are =
     let lines = map line_without_lf commands in
     let is : cut (command_lines commands) ≡ record { ended = lines; rest = [] } = ap cut (lines_apart commands are) ∙ cut-with_lfs lines [] (no_lf_in commands are) tt in
     ap (λ (c : Cut). c.ended ++ last_line c.rest) is ∙ append-nil lines
 
-each_read : (commands : List Command) → AreRecorded commands → map command_of (map line_without_lf commands) ≡ map read_as commands
+each_read : (commands : List Change) → AreRecorded commands → map command_of (map line_without_lf commands) ≡ map read_as commands
 each_read [] are = refl
 each_read (command ∷ commands) are =
     ap (λ found. found ∷ map command_of (map line_without_lf commands)) (read_again command are.0).2 ∙ ap (λ rest. read_as command ∷ rest) (each_read commands are.1)
@@ -208,11 +210,11 @@ next_the_same : (left : Option State) (f g : State → Option State) → ((next 
 next_the_same None f g same = refl
 next_the_same (Some next) f g same = same next
 
-pub replayed_as_read : (state : State) (commands : List Command) → AreRecorded commands → replayed_lines state (map line_without_lf commands) ≡ replayed state commands
+pub replayed_as_read : (state : State) (commands : List Change) → AreRecorded commands → replayed_lines state (map line_without_lf commands) ≡ replayed state commands
 replayed_as_read state [] are = refl
 replayed_as_read state (command ∷ commands) are =
     ap (λ found. option_and_then (λ next. replayed_lines next (map line_without_lf commands)) (left_by_line state found)) (read_again command are.0).2
-    ∙ next_the_same (left_by (reply_to state command)) (λ next. replayed_lines next (map line_without_lf commands)) (λ next. replayed next commands) (λ next. replayed_as_read next commands are.1)
+    ∙ next_the_same (state_left (changed state command)) (λ next. replayed_lines next (map line_without_lf commands)) (λ next. replayed next commands) (λ next. replayed_as_read next commands are.1)
 
 module _ (words : Dictionary) (made : State) (is : BeganWith words made) where
   -- each line of a record parses as its command

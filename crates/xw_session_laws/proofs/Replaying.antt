@@ -26,10 +26,10 @@ use Rattle.xw_grid.proofs.ClueLemmas.{same_at}
 use Rattle.xw_grid.proofs.GridLemmas.{same_cell_itself}
 use Rattle.xw_grid.proofs.KeptLemmas.{clues_are_kept}
 use Rattle.xw_feas.specs.State.{with_grid, by_fault}
-use Rattle.xw_commands.specs.declared.command.Command.{Command}
-use Rattle.xw_commands.specs.declared.command.Command.TheVariants as commands
+use Rattle.xw_commands.specs.declared.change.Change.{Change}
+use Rattle.xw_commands.specs.declared.change.Change.TheVariants as changes
 use Rattle.xw_session.specs.declared.session.recording.Section.TheVariants as sections
-use Rattle.xw_commands.specs.declared.command.Command.TheVariants.{Put}
+use Rattle.xw_commands.specs.declared.change.Change.TheVariants.{Put}
 use Rattle.xw_commands.specs.declared.command.Field.{Field}
 use Rattle.xw_commands.specs.declared.command.TextMode.{TextMode}
 use Rattle.xw_commands.specs.declared.command.TextMode.TheVariants.{Instead, Behind}
@@ -39,27 +39,27 @@ use Rattle.xw_session.specs.declared.session.putting.Target.TheVariants as targe
 use Rattle.xw_session.specs.State.{State}
 use Rattle.xw_answers.specs.Escape.{escaped_text, has_nul}
 use Rattle.xw_session.specs.Put.{target_of, has_target, with_text_at, with_piece}
-use Rattle.xw_session.specs.Reply.{put, reply_to, resized, moved}
+use Rattle.xw_session.specs.Reply.{put, changed, resized, moved}
 use Rattle.xw_answers.specs.Record.{piece_at, further_pieces, more_command, text_commands}
 use Rattle.xw_session.specs.Record.{section_commands}
-use Rattle.xw_session_laws.specs.Replay.{state_left, left_by, replayed}
+use Rattle.xw_session_laws.specs.Replay.{state_left, replayed}
 use Rattle.xw_answers.proofs.Escapes.{reads_back}
 use Rattle.xw_session.proofs.TextMode.{last_of_three}
 
 -- ---- one after another
 
-one_and_others : (left : Option State) (front rest : List Command)
+one_and_others : (left : Option State) (front rest : List Change)
     → ((next : State) → replayed next (front ++ rest) ≡ option_and_then (λ mid. replayed mid rest) (replayed next front))
     → option_and_then (λ next. replayed next (front ++ rest)) left ≡ option_and_then (λ mid. replayed mid rest) (option_and_then (λ next. replayed next front) left)
 one_and_others None front rest others = refl
 one_and_others (Some next) front rest others = others next
 
 -- commands after other commands
-pub replayed_both : (state : State) (front rest : List Command) → replayed state (front ++ rest) ≡ option_and_then (λ mid. replayed mid rest) (replayed state front)
+pub replayed_both : (state : State) (front rest : List Change) → replayed state (front ++ rest) ≡ option_and_then (λ mid. replayed mid rest) (replayed state front)
 replayed_both state [] rest = refl
-replayed_both state (command ∷ front) rest = one_and_others (left_by (reply_to state command)) front rest (λ next. replayed_both next front rest)
+replayed_both state (command ∷ front) rest = one_and_others (state_left (changed state command)) front rest (λ next. replayed_both next front rest)
 
-pub next_done : (state next : State) (command : Command) (commands : List Command) → left_by (reply_to state command) ≡ Some next → replayed state (command ∷ commands) ≡ replayed next commands
+pub next_done : (state next : State) (command : Change) (commands : List Change) → state_left (changed state command) ≡ Some next → replayed state (command ∷ commands) ≡ replayed next commands
 next_done state next command commands e = ap (option_and_then (λ next. replayed next commands)) e
 
 -- ---- texts
@@ -76,7 +76,7 @@ plain_piece : (text : List ℕ) (before : ℕ) → has_nul text ≡ false → ha
 plain_piece text before none = (nul_parts (drop (2000 * before) text) 2000 (nul_parts text (2000 * before) none).1).0
 
 put_again : (state : State) (putting : TextMode) (field : Field) (piece : List ℕ) → has_target state.engine.grid (target_of field) ≡ true → has_nul piece ≡ false
-    → left_by (reply_to state (Put putting field (escaped_text piece))) ≡ Some (with_piece state putting (target_of field) piece)
+    → state_left (changed state (Put putting field (escaped_text piece))) ≡ Some (with_piece state putting (target_of field) piece)
 put_again state putting field piece targeted plain =
     ap (λ found. state_left (put state putting field found)) (reads_back piece)
     ∙ ap state_left (last_of_three (has_target state.engine.grid (target_of field)) (has_nul piece) _ _ _ targeted plain)
@@ -182,14 +182,14 @@ sized state grid true true false d p q r s = cc
 sized state grid true false c d p q r s = cc
 sized state grid false b c d p q r s = cc
 
-only : (state next : State) (command : Command) → left_by (reply_to state command) ≡ Some next → replayed state (command ∷ []) ≡ Some next
+only : (state next : State) (command : Change) → state_left (changed state command) ≡ Some next → replayed state (command ∷ []) ≡ Some next
 only state next command e = next_done state next command [] e
 
 pub size_again : (state made : State) → IsGrid made.engine.grid → replayed state (section_commands made sections.Size)
     ≡ Some (record state { engine = record { grid = blank made.engine.grid.width made.engine.grid.height; words = state.engine.words }; clues = no_clues; circles = [] })
 size_again state made is =
     let grid = made.engine.grid in
-    only state _ (commands.Size grid.width grid.height) (sized state (blank grid.width grid.height) (nat_le 1 grid.width) (nat_le grid.width 255) (nat_le 1 grid.height) (nat_le grid.height 255)
+    only state _ (changes.Size grid.width grid.height) (sized state (blank grid.width grid.height) (nat_le 1 grid.width) (nat_le grid.width 255) (nat_le 1 grid.height) (nat_le grid.height 255)
     (le-leb 1 grid.width is.wide.0) (le-leb grid.width 255 is.wide.1) (le-leb 1 grid.height is.high.0) (le-leb grid.height 255 is.high.1))
 
 turned : (state : State) (test : Bool) (grid : Grid) → test ≡ true → state_left (moved state (with_grid state.engine (by_fault (if not test then Err NotSquare else Ok grid)))) ≡ Some (record state { engine = record state.engine { grid = grid } })
@@ -197,10 +197,10 @@ turned state true grid e = refl
 turned state false grid e = cc
 
 pub symmetry_again : (state : State) (kind : Symmetry) → (kind ≡ kinds.Quarter → state.engine.grid.width ≡ state.engine.grid.height)
-    → replayed state (commands.Symmetry kind ∷ []) ≡ Some (record state { engine = record state.engine { grid = record state.engine.grid { symmetry = kind } } })
+    → replayed state (changes.Symmetry kind ∷ []) ≡ Some (record state { engine = record state.engine { grid = record state.engine.grid { symmetry = kind } } })
 symmetry_again state kinds.None square = refl
 symmetry_again state kinds.Half square = refl
 symmetry_again state kinds.LeftRight square = refl
 symmetry_again state kinds.UpDown square = refl
 symmetry_again state kinds.Quarter square =
-    only state _ (commands.Symmetry kinds.Quarter) (turned state (eqb state.engine.grid.width state.engine.grid.height) (record state.engine.grid { symmetry = kinds.Quarter }) (eq-eqb state.engine.grid.width state.engine.grid.height (square refl)))
+    only state _ (changes.Symmetry kinds.Quarter) (turned state (eqb state.engine.grid.width state.engine.grid.height) (record state.engine.grid { symmetry = kinds.Quarter }) (eq-eqb state.engine.grid.width state.engine.grid.height (square refl)))

@@ -9,6 +9,8 @@ use Rattle.xw_feas.specs.declared.edit.Refusal.{Refusal as EditRefusal}
 use Rattle.xw_feas.specs.declared.edit.Refusal.TheVariants as edits
 use Rattle.xw_commands.specs.declared.command.Command.{Command}
 use Rattle.xw_commands.specs.declared.command.Command.TheVariants as commands
+use Rattle.xw_commands.specs.declared.change.Change.{Change}
+use Rattle.xw_commands.specs.declared.change.Change.TheVariants as changes
 use Rattle.xw_commands.specs.declared.command.SyntaxFault.{SyntaxFault}
 use Rattle.xw_commands.specs.declared.command.SyntaxFault.TheVariants as syntax
 use Rattle.xw_commands.specs.declared.command.TextMode.{TextMode}
@@ -22,7 +24,7 @@ use Rattle.xw_answers.specs.declared.refusal.Refusal.TheVariants as refusals
 use Rattle.xw_session.specs.declared.resuming.Stop.TheVariants.{NoCommand, Memory}
 use Rattle.xw_answers.specs.Refusal.{refusal_of}
 use Rattle.xw_answers.specs.Escape.{text_spelled}
-use Rattle.xw_session.specs.Reply.{reply_to, want_of, want_of_text, put, grid_memory}
+use Rattle.xw_session.specs.Reply.{reply_to, allocates, want_of, want_of_change, want_of_text, put, grid_memory}
 use Rattle.xw_grid.specs.Clue.{is_circled}
 use Rattle.xw_words.specs.Dictionary.{add_answer}
 use Rattle.xw_words.specs.declared.bank.Added.{Added}
@@ -81,6 +83,10 @@ tested : (test : Bool) (refusal : Refusal) → (if test then None else Some grid
 tested true refusal e = cc
 tested false refusal e = grid_wanted refusal e
 
+allocated : (test : Bool) (refusal : Refusal) → (if test then Some grid_memory else None) ≡ Some refusal → is_memory refusal ≡ true
+allocated true refusal e = grid_wanted refusal e
+allocated false refusal e = cc
+
 -- what a new word wants
 abbrev wanted_of : Result Added WordFault → Option EditRefusal
 wanted_of (Ok (New index)) = Some (edits.Word words.Memory)
@@ -92,41 +98,28 @@ word_wanted (Ok (New index)) refusal e = sym (ap is_memory (some_is (refusals.Wo
 word_wanted (Ok (Returned index)) refusal e = cc
 word_wanted (Err fault) refusal e = cc
 
+change_wanted : (state : State) (change : Change) (refusal : Refusal) → want_of_change state change ≡ Some refusal → is_memory refusal ≡ true
+change_wanted state (changes.Size width height) refusal e = grid_wanted refusal e
+change_wanted state (changes.Symmetry kind) refusal e = cc
+change_wanted state (changes.Add word grade) refusal e = word_wanted (add_answer state.engine.words word) refusal e
+change_wanted state (changes.Strike word) refusal e = cc
+change_wanted state (changes.Least grade) refusal e = cc
+change_wanted state (changes.Set spot letter) refusal e = cc
+change_wanted state (changes.Clear spot) refusal e = cc
+change_wanted state (changes.Place named word) refusal e = cc
+change_wanted state (changes.Erase named) refusal e = cc
+change_wanted state (changes.Block spot) refusal e = grid_wanted refusal e
+change_wanted state (changes.Bar spot side) refusal e = grid_wanted refusal e
+change_wanted state (changes.Clue named text) refusal e = text_wanted text refusal e
+change_wanted state (changes.Write field text) refusal e = text_wanted text refusal e
+change_wanted state (changes.Circle spot) refusal e = tested (is_circled state.circles (cell_of spot)) refusal e
+change_wanted state (changes.Watch is_on) refusal e = cc
+change_wanted state (changes.Put putting field spelling) refusal e = text_wanted spelling refusal e
+
 wanted : (state : State) (command : Command) (refusal : Refusal) → want_of state command ≡ Some refusal → is_memory refusal ≡ true
-wanted state (commands.Size width height) refusal e = grid_wanted refusal e
-wanted state (commands.Symmetry kind) refusal e = cc
-wanted state (commands.Add word grade) refusal e = word_wanted (add_answer state.engine.words word) refusal e
-wanted state (commands.Strike word) refusal e = cc
-wanted state (commands.Least grade) refusal e = cc
-wanted state (commands.Match pattern) refusal e = cc
-wanted state (commands.Set spot letter) refusal e = cc
-wanted state (commands.Clear spot) refusal e = cc
-wanted state (commands.Place named word) refusal e = cc
-wanted state (commands.Erase named) refusal e = cc
-wanted state (commands.Block spot) refusal e = grid_wanted refusal e
-wanted state (commands.Bar spot side) refusal e = grid_wanted refusal e
-wanted state (commands.Clue named text) refusal e = text_wanted text refusal e
-wanted state (commands.Write field text) refusal e = text_wanted text refusal e
-wanted state (commands.Circle spot) refusal e = tested (is_circled state.circles (cell_of spot)) refusal e
-wanted state commands.Circles refusal e = cc
-wanted state commands.Show refusal e = cc
-wanted state commands.Lights refusal e = cc
-wanted state (commands.Words named most) refusal e = cc
-wanted state (commands.Choices named most first) refusal e = cc
-wanted state (commands.Letters spot) refusal e = cc
-wanted state (commands.Tally spot) refusal e = cc
-wanted state commands.Duplicates refusal e = grid_wanted refusal e
-wanted state commands.Unlisted refusal e = grid_wanted refusal e
-wanted state (commands.Grades lights) refusal e = cc
-wanted state commands.Unmatched refusal e = cc
-wanted state commands.Suggest refusal e = cc
-wanted state (commands.Why named) refusal e = grid_wanted refusal e
-wanted state (commands.Fill limit) refusal e = grid_wanted refusal e
-wanted state (commands.Autofill limit seed lights) refusal e = grid_wanted refusal e
-wanted state (commands.Best limit seed lights) refusal e = grid_wanted refusal e
-wanted state (commands.Watch is_on) refusal e = cc
-wanted state (commands.Tell telling) refusal e = cc
-wanted state (commands.Put putting field spelling) refusal e = text_wanted spelling refusal e
+wanted state (commands.Ask query) refusal e = allocated (allocates query) refusal e
+wanted state (commands.Change change) refusal e = change_wanted state change refusal e
+wanted state (commands.Search search) refusal e = grid_wanted refusal e
 
 wants_memory : (state : State) (found : Result (Option Command) SyntaxFault) (answer : List ℕ) (refusal : Refusal) → WantsMemory state found answer → answer ≡ refused refusal → is_memory refusal ≡ true
 wants_memory state (Ok None) answer refusal wants is = absurd wants
@@ -140,7 +133,7 @@ spelled_fault state next putting field None e = cc
 spelled_fault state next putting field (Some text) e = refl
 
 no_command_fault : (state next : State) (command : Command) → left_by (reply_to state command) ≡ Some next → command_fault (Some command) ≡ None
-no_command_fault state next (commands.Put putting field spelling) e = spelled_fault state next putting field (text_spelled spelling) e
+no_command_fault state next (commands.Change (changes.Put putting field spelling)) e = spelled_fault state next putting field (text_spelled spelling) e
 no_command_fault state next command e = refl
 
 no_fault : (state next : State) (found : Result (Option Command) SyntaxFault) → left_by_line state found ≡ Some next → parsed_fault found ≡ None
@@ -157,7 +150,7 @@ not_counted Refused other = absurd (other refl)
 
 -- a line that leaves a state is not refused when it is resumed, and leaves this state
 line_resumed : (state mid next : State) (line : List ℕ) (refusal : Option Refusal) → left_by_line state (command_of line) ≡ Some next → IsDone state line refusal mid → (refusal ≡ None) × (mid ≡ next)
-line_resumed state mid next line None e (command, (step, answer, said, other)) =
+line_resumed state mid next line None e (command, step, answer, said, other) =
     (refl, sym (line_left state mid (command_of line) step answer next e said (not_counted step other)))
 line_resumed state mid next line (Some refusal) e (command, said, other) =
     let memory = wants_memory state (command_of line) (refused refusal) refusal (line_wants state mid (refused refusal) (command_of line) next e said) refl in

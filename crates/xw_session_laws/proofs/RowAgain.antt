@@ -11,12 +11,12 @@ use Rattle.std.proofs.lemmas.List.{take_more, take_all, length-take-le, length-d
 use Rattle.std.proofs.lemmas.Slice.Eq.{bytes_eq-Decides}
 use Rattle.xw_words.specs.Dictionary.{Entry, AreWords, row, with_row, no_entry, entry_at, index_in, most_words, best_grade, grade_given, new_entry, returned, struck, with_struck, limited, all_limited}
 use Rattle.xw_text.proofs.Position.{position_is_some, position_is_none}
-use Rattle.xw_commands.specs.declared.command.Command.{Command}
-use Rattle.xw_commands.specs.declared.command.Command.TheVariants.{Add, Strike}
+use Rattle.xw_commands.specs.declared.change.Change.{Change}
+use Rattle.xw_commands.specs.declared.change.Change.TheVariants.{Add, Strike}
 use Rattle.xw_session.specs.State.{State}
-use Rattle.xw_session.specs.Reply.{reply_to}
+use Rattle.xw_session.specs.Reply.{changed as reply_of_change}
 use Rattle.xw_answers.specs.Record.{named_grade, add_command, regrade_commands, strike_commands, row_commands}
-use Rattle.xw_session_laws.specs.Replay.{left_by, replayed, with_words, fresh, IsSince, ComeFirst}
+use Rattle.xw_session_laws.specs.Replay.{state_left, replayed, with_words, fresh, IsSince, ComeFirst}
 use Rattle.xw_session_laws.proofs.Replaying.{replayed_both, next_done}
 use Rattle.xw_session_laws.proofs.CellsAgain.{mixed, mixed_more, mixed_next, mixed_same, mixed_all, length-mixed}
 use Rattle.xw_session_laws.proofs.WordAgain.{each_item_again, one_each, IsItself, word_itself, unlike, added_again, returned_again, struck_again}
@@ -110,20 +110,20 @@ module _ (state : State) (count : ℕ) (entries : List Entry) (are : AreWords co
           ap (λ m. with_words state (with_row (with_these es).engine.words m next)) size
           ∙ ap (λ rows. with_words state (record { rows = rows; least = state.engine.words.least })) (set-set state.engine.words.rows count es next)
 
-      add_new : index_in es one.word ≡ None → length es < most_words → left_by (reply_to (with_these es) (Add one.word (named_grade one.grade))) ≡ Some (with_these (es ++ fresh one.word one.grade ∷ []))
+      add_new : index_in es one.word ≡ None → length es < most_words → state_left (reply_of_change (with_these es) (Add one.word (named_grade one.grade))) ≡ Some (with_these (es ++ fresh one.word one.grade ∷ []))
       add_new new room =
           added_again (with_these es) one.word es itself at (named_grade one.grade) new room
           ∙ ap Some (changed _)
           ∙ ap (λ least. Some (with_these (es ++ new_entry least one.word (named_grade one.grade) ∷ []))) none_out
           ∙ ap (λ e. Some (with_these (es ++ e ∷ []))) (new_fresh one.word one.grade small)
 
-      add_back : AreSame es → (entry_at es k).active ≡ false → left_by (reply_to (with_these es) (Add one.word (Some one.grade))) ≡ Some (with_these (set es k (returned 0 (Some one.grade) (entry_at es k))))
+      add_back : AreSame es → (entry_at es k).active ≡ false → state_left (reply_of_change (with_these es) (Add one.word (Some one.grade))) ≡ Some (with_these (set es k (returned 0 (Some one.grade) (entry_at es k))))
       add_back same off =
           returned_again (with_these es) one.word es itself at (Some one.grade) k (its_index es same) off
           ∙ ap Some (changed _)
           ∙ ap (λ least. Some (with_these (set es k (returned least (Some one.grade) (entry_at es k))))) none_out
 
-      strike : AreSame es → (entry_at es k).struck ≡ false → left_by (reply_to (with_these es) (Strike one.word)) ≡ Some (with_these (with_struck es k))
+      strike : AreSame es → (entry_at es k).struck ≡ false → state_left (reply_of_change (with_these es) (Strike one.word)) ≡ Some (with_these (with_struck es k))
       strike same off = struck_again (with_these es) one.word es itself at k (its_index es same) off ∙ ap Some (changed _)
 
   -- ---- added
@@ -252,7 +252,7 @@ module _ (state : State) (count : ℕ) (entries : List Entry) (are : AreWords co
           let is : get_or added j no_entry ≡ get_or all_eased j no_entry = fresh_eased (one j here) (get_or added j no_entry) none (since_all j here) ∙ sym (eased_at j here) in
           ap (λ es. Some (with_these es)) (sym (mixed_same all_eased added length-eased j no_entry within is))
       maybe_regraded true is =
-          let add : Command = Add (one j here).word (Some (one j here).grade) in
+          let add : Change = Add (one j here).word (Some (one j here).grade) in
           let since = (since_all j here).0 in
           let back : returned 0 (Some (one j here).grade) (entry_at off j) ≡ get_or all_eased j no_entry =
           ap (returned 0 (Some (one j here).grade)) is_off ∙ back_eased (one j here) (get_or added j no_entry) (small j here) is since ∙ sym (eased_at j here) in

@@ -1,22 +1,21 @@
 -- The properties of a session hold after every line.
-use Rattle.std.proofs.Common.{◌≡◌, ℕ, ◌<◌, Bool, true, false, not, ◌&&◌, ◌||◌, List, [], ◌∷◌, ◌++◌, length, map, flat_map, get_or, Some, None, refl, sym, ◌∙◌, ap, subst, arith}
+use Rattle.std.proofs.Common.{◌≡◌, ℕ, ◌<◌, Bool, true, false, not, ◌&&◌, ◌||◌, List, [], ◌∷◌, ◌++◌, map, get_or, Some, None, refl, sym, ◌∙◌, ap, subst, arith}
 use Rattle.std.specs.Prelude.{Option, Result, Ok, Err, nat_eq, nat_le, nat_lt, position as bad_at, if◌then◌else◌, slice_get, slice_index_or}
 use Rattle.std.specs.Option.{option_and_then}
 use Rattle.std.proofs.lemmas.List.Folds.{list_any-append}
 use Rattle.std.proofs.lemmas.Option.{slice_get_within, get_or_from_slice_get}
 use Rattle.xw_letters.specs.Letter.{folded, letter_of}
 use Rattle.xw_words.specs.Word.{is_bad_letter}
-use Rattle.xw_words.specs.Dictionary.{Dictionary, matching_answer, add_answer, strike_answer, with_least}
+use Rattle.xw_words.specs.Dictionary.{Dictionary, add_answer, strike_answer, with_least}
 use Rattle.xw_words.specs.declared.fault.WordFault.{WordFault}
 use Rattle.xw_words.specs.declared.fault.WordFault.TheVariants as faults
 use Rattle.xw_grid.specs.declared.cell.Cell.{Cell}
-use Rattle.xw_grid.specs.declared.cell.LightName.{LightName}
 use Rattle.xw_grid.specs.declared.cell.Direction.{Direction}
 use Rattle.xw_grid.specs.declared.cell.Direction.TheVariants.{Across, Down}
 use Rattle.xw_grid.specs.declared.fault.GridFault.{GridFault}
 use Rattle.xw_grid.specs.declared.fault.GridFault.TheVariants as grids
 use Rattle.xw_grid.specs.declared.lights.Light.{Light}
-use Rattle.xw_grid.specs.Grid.{Grid, IsGrid, is_inside, is_edge, is_barred, is_open, is_block, index_of}
+use Rattle.xw_grid.specs.Grid.{Grid, IsGrid, is_inside, is_edge, is_barred, is_open, is_block}
 use Rattle.xw_grid.specs.Edit.{blank, new_grid, with_entry, is_occupied, with_orbit, with_edges}
 use Rattle.xw_grid.specs.Clue.{ClueMap, no_clues, with_clue, with_circle, is_circled}
 use Rattle.xw_grid.specs.Light.{lights_of, no_light, index_named, cells_of}
@@ -25,11 +24,7 @@ use Rattle.xw_feas.specs.declared.edit.Refusal.{Refusal as EditRefusal}
 use Rattle.xw_feas.specs.State.{State as EngineState, Action, letter_set, cell_cleared, word_placed, list_written, block_toggled, bar_toggled, symmetry_chosen, word_added, word_struck, least_chosen, after, with_grid as with_edited, with_words as with_dictionary, by_fault, with_letters, spelled_in, placed_in, then_write, write_list}
 use Rattle.xw_feas.specs.WellFormed.{IsWellFormed}
 use Rattle.xw_fill.specs.Position.{position_of, filled_in}
-use Rattle.xw_fill.specs.FeasibleLetters.{feasible_letters}
-use Rattle.xw_fill.specs.FeasibleWords.{feasible_words}
-use Rattle.xw_fill.specs.Listing.{duplicates_of, unlisted_of}
 use Rattle.xw_fill.specs.Search.{found, due, end}
-use Rattle.xw_fill.specs.Suggesting.{suggestion}
 use Rattle.xw_fill.specs.declared.search.Filling.{Filling}
 use Rattle.xw_fill.specs.declared.search.Filling.TheVariants as fillings
 use Rattle.xw_fill.specs.NamedFill.{IsAutofilled, is_named}
@@ -39,6 +34,10 @@ use Rattle.xw_fill.specs.Best.{IsBest}
 use Rattle.xw_grid.specs.Puzzle.{TextsShown}
 use Rattle.xw_commands.specs.declared.command.Command.{Command}
 use Rattle.xw_commands.specs.declared.command.Command.TheVariants as commands
+use Rattle.xw_commands.specs.declared.change.Change.{Change}
+use Rattle.xw_commands.specs.declared.change.Change.TheVariants as changes
+use Rattle.xw_commands.specs.declared.search.Search.{Search}
+use Rattle.xw_commands.specs.declared.search.Search.TheVariants as searches
 use Rattle.xw_commands.specs.declared.command.Field.{Field}
 use Rattle.xw_commands.specs.declared.command.TextMode.{TextMode}
 use Rattle.xw_commands.specs.declared.command.TextMode.TheVariants.{Instead, Behind}
@@ -54,20 +53,13 @@ use Rattle.xw_session.specs.declared.session.putting.Target.TheVariants as targe
 use Rattle.xw_answers.specs.Refusal.{refusal_of}
 use Rattle.xw_session.specs.Autofill.{names_of}
 use Rattle.xw_session.specs.Best.{best_lines}
-use Rattle.xw_session.specs.Why.{entry_lines}
-use Rattle.xw_session.specs.Tally.{tally_lines}
 use Rattle.xw_session.specs.Erase.{erased_cells, emptied}
-use Rattle.xw_session.specs.Grades.{grade_lines}
-use Rattle.xw_session.specs.Unmatched.{unmatched_lines}
-use Rattle.xw_session.specs.Choices.{first_index, choice_lines}
 use Rattle.xw_session.specs.Answer.{IsDue, Replies, state_after, AnswersParsed}
 use Rattle.xw_answers.specs.Escape.{text_spelled, has_nul}
 use Rattle.xw_session.specs.State.{State, with_text_in, cell_of}
 use Rattle.xw_session.specs.Put.{target_of, has_target, text_of_field, text_at, with_text_at, with_piece}
-use Rattle.xw_answers.specs.Show.{show_lines}
-use Rattle.xw_answers.specs.Text.{word_line, light_lines, circle_lines, letters_line, counted_lines, spelled_line}
-use Rattle.xw_session.specs.Found.{duplicate_line, suggestion_line}
-use Rattle.xw_session.specs.Reply.{Reply, edited, shown, moved, watch_lines, with_letter, resized, matched, with_clue_of, erased, written, circle_toggled, worded, are_lights, graded, weighed, weighed_from, lettered, tallied, put, light_named, name_of_light, told_lines, first_words, filling_name}
+use Rattle.xw_answers.specs.Text.{word_line}
+use Rattle.xw_session.specs.Reply.{asked, changed, Reply, edited, shown, moved, watch_lines, with_letter, resized, with_clue_of, erased, written, circle_toggled, put, light_named, name_of_light, filling_name}
 use Rattle.xw_session_laws.specs.Replay.{BarsAreOnEdges, AreFrom, AreTextsFrom, clues_of, BeganWith, SessionsBegin}
 use Rattle.xw_session_laws.proofs.InOrder.{plain_at}
 use Rattle.xw_session_laws.proofs.KeptInOrder.{circle_kept, clue_kept, cells_there, texts_there}
@@ -327,10 +319,6 @@ module _ (words : Dictionary) (state : State) (is : BeganWith words state) where
         left_at (record { lines = []; state = record state { engine = record { grid = grid; words = state.engine.words }; clues = no_clues; circles = [] } }) (λ good. with_size grid (only grid refl) good) e
     by_size (Err fault) only e = not_refused (refusals.Grid fault) e
 
-    by_words : (result : Result (List (List ℕ)) WordFault) → matched state result ≡ Ok reply → Kept
-    by_words (Ok matches) e = when_shown (flat_map word_line matches) e
-    by_words (Err fault) e = not_refused (refusals.Word fault) e
-
     by_light : (light_found : Option Light) (text : List ℕ) → ((light : Light) → light_found ≡ Some light → is_inside state.engine.grid light.start ≡ true) → with_clue_of state light_found text ≡ Ok reply → Kept
     by_light None text starts e = not_refused refusals.NoLight e
     by_light (Some light) text starts e =
@@ -353,29 +341,6 @@ module _ (words : Dictionary) (state : State) (is : BeganWith words state) where
         (λ inside e. by_test (not (is_open state.engine.grid cell)) (Err (refusals.Grid grids.OnBlock)) (edited next) (λ _ e. not_refused (refusals.Grid grids.OnBlock) e)
         (λ _ e. when_edited next (with_circles (with_circle state.circles cell (not (is_circled state.circles cell))) (circle_kept state.engine.grid wide cell state.circles (not (is_circled state.circles cell)) (not_not (is_inside state.engine.grid cell) inside) is.circles)) e) e) e
 
-    by_words_of : (light most : Option ℕ) → worded state light most ≡ Ok reply → Kept
-    by_words_of None most e = not_refused refusals.NoLight e
-    by_words_of (Some light) most e =
-        when_shown (counted_lines (length (feasible_words (position_of state.engine) light)) (first_words most (feasible_words (position_of state.engine) light))) e
-
-    by_choices_from : (light most : ℕ) (from : Result (Option ℕ) Refusal) → weighed_from state light most from ≡ Ok reply → Kept
-    by_choices_from light most (Ok from) e = when_shown (choice_lines state.engine light from most) e
-    by_choices_from light most (Err refusal) e = not_refused refusal e
-
-    by_choices : (light : Option ℕ) (most : ℕ) (first : Option (List ℕ)) → weighed state light most first ≡ Ok reply → Kept
-    by_choices None most first e = not_refused refusals.NoLight e
-    by_choices (Some light) most first e = by_choices_from light most (first_index state.engine light first) e
-
-    by_grades : (names : List LightName) → graded state names ≡ Ok reply → Kept
-    by_grades names e =
-        by_test (are_lights state.engine.grid names) (shown state (grade_lines state.engine names)) (Err refusals.NoLight) (λ _ e. when_shown (grade_lines state.engine names) e) (λ _ e. not_refused refusals.NoLight e) e
-
-    by_letters : (cell : Cell) → lettered state cell ≡ Ok reply → Kept
-    by_letters cell e =
-        let letters = letters_line (feasible_letters (position_of state.engine) (index_of state.engine.grid cell)) in
-        by_test (not (is_inside state.engine.grid cell)) (Err (refusals.Grid grids.OutOfGrid)) (if is_block state.engine.grid cell then Err (refusals.Grid grids.OnBlock) else shown state letters) (λ _ e. not_refused (refusals.Grid grids.OutOfGrid) e)
-        (λ _ e. by_test (is_block state.engine.grid cell) (Err (refusals.Grid grids.OnBlock)) (shown state letters) (λ _ e. not_refused (refusals.Grid grids.OnBlock) e) (λ _ e. when_shown letters e) e) e
-
     by_fill : (past there : Bool) (limit filled none : List ℕ) (entries : List (Option ℕ))
         → (if past then shown state limit else if there then Ok (record { lines = filled; state = record state { engine = filled_in state.engine entries } }) else shown state none) ≡ Ok reply → Kept
     by_fill true there limit filled none entries e = when_shown limit e
@@ -383,12 +348,6 @@ module _ (words : Dictionary) (state : State) (is : BeganWith words state) where
         left_at (record { lines = filled; state = record state { engine = filled_in state.engine entries } })
         (λ good. with_position (filled_in state.engine entries) (record { grid = framed state.engine.grid _ (refl, refl, refl, refl) is.bars; first = is.first }) good) e
     by_fill false false limit filled none entries e = when_shown none e
-
-    by_tally : (cell : Cell) → tallied state cell ≡ Ok reply → Kept
-    by_tally cell e =
-        let lines = tally_lines state.engine cell in
-        by_test (not (is_inside state.engine.grid cell)) (Err (refusals.Grid grids.OutOfGrid)) (if is_block state.engine.grid cell then Err (refusals.Grid grids.OnBlock) else shown state lines) (λ _ e. not_refused (refusals.Grid grids.OutOfGrid) e)
-        (λ _ e. by_test (is_block state.engine.grid cell) (Err (refusals.Grid grids.OnBlock)) (shown state lines) (λ _ e. not_refused (refusals.Grid grids.OnBlock) e) (λ _ e. when_shown lines e) e) e
 
     -- the reply has these lines and a state with this engine
     abbrev Tells : List ℕ → EngineState → Type 0
@@ -416,8 +375,9 @@ module _ (words : Dictionary) (state : State) (is : BeganWith words state) where
     by_best named bests.NoFill engine told (none, same) = by_none _ engine told same
     by_best named (bests.Limit bound) engine told (above, proved, same) = by_none _ engine told same
 
-    by_reason : (entries : List (Option ℕ)) → reply ≡ record { lines = entry_lines state.engine.grid entries; state = state } → Kept
-    by_reason entries told = when_shown (entry_lines state.engine.grid entries) (ap Ok (sym told))
+    by_answer : (answer : Result (List ℕ) Refusal) → ◌≡◌ {A = Result Reply Refusal} (Ok reply) (asked state answer) → Kept
+    by_answer (Ok lines) e = when_shown lines (sym e)
+    by_answer (Err refusal) e = not_refused refusal (sym e)
 
     by_put : (putting : TextMode) (field : Field) (spelling : Option (List ℕ)) → put state putting field spelling ≡ Ok reply → Kept
     by_put putting field None e = not_refused refusals.Escape e
@@ -428,44 +388,36 @@ module _ (words : Dictionary) (state : State) (is : BeganWith words state) where
         (λ targeted e. by_test (has_nul text) (Err refusals.NulByte) next (λ _ e. not_refused refusals.NulByte e)
         (λ plain e. when_edited (with_piece state putting target text) (piece_kept putting target text (not_not (has_target state.engine.grid target) targeted) plain) e) e) e
 
-    pub reply_kept : (command : Command) → IsDue state command (Ok reply) → Kept
-    reply_kept (commands.Size width height) e = by_size (new_grid width height) (λ grid made. size_bars width height grid ((nat_le 1 width && nat_le width 255) && (nat_le 1 height && nat_le height 255)) made) e
-    reply_kept (commands.Symmetry kind) e = by_edit (symmetry_chosen kind) e
-    reply_kept (commands.Add word grade) e = by_edit (word_added word grade) e
-    reply_kept (commands.Strike word) e = by_edit (word_struck word) e
-    reply_kept (commands.Least grade) e = by_edit (least_chosen grade) e
-    reply_kept (commands.Match pattern) e = by_words (matching_answer state.engine.words pattern) e
-    reply_kept (commands.Set at letter) e = by_letter at (letter_of letter) e
-    reply_kept (commands.Clear at) e = by_edit (cell_cleared (cell_of at)) e
-    reply_kept (commands.Place named word) e = by_edit (word_placed (name_of_light named) word) e
-    reply_kept (commands.Erase named) e = by_erase (light_named state.engine.grid named) e
-    reply_kept (commands.Block at) e = by_edit (block_toggled (cell_of at)) e
-    reply_kept (commands.Bar at side) e = by_edit (bar_toggled (cell_of at) side) e
-    reply_kept (commands.Clue named text) e =
+    change_kept : (change : Change) → changed state change ≡ Ok reply → Kept
+    change_kept (changes.Size width height) e = by_size (new_grid width height) (λ grid made. size_bars width height grid ((nat_le 1 width && nat_le width 255) && (nat_le 1 height && nat_le height 255)) made) e
+    change_kept (changes.Symmetry kind) e = by_edit (symmetry_chosen kind) e
+    change_kept (changes.Add word grade) e = by_edit (word_added word grade) e
+    change_kept (changes.Strike word) e = by_edit (word_struck word) e
+    change_kept (changes.Least grade) e = by_edit (least_chosen grade) e
+    change_kept (changes.Set at letter) e = by_letter at (letter_of letter) e
+    change_kept (changes.Clear at) e = by_edit (cell_cleared (cell_of at)) e
+    change_kept (changes.Place named word) e = by_edit (word_placed (name_of_light named) word) e
+    change_kept (changes.Erase named) e = by_erase (light_named state.engine.grid named) e
+    change_kept (changes.Block at) e = by_edit (block_toggled (cell_of at)) e
+    change_kept (changes.Bar at side) e = by_edit (bar_toggled (cell_of at) side) e
+    change_kept (changes.Clue named text) e =
         by_light (light_named state.engine.grid named) text (λ light is_found. light_starts state.engine.grid (index_named (lights_of state.engine.grid) (name_of_light named)) light is_found) e
-    reply_kept (commands.Write field text) e = by_text field text e
-    reply_kept (commands.Circle at) e = by_circle (cell_of at) e
-    reply_kept commands.Circles e = when_shown (circle_lines state.engine.grid state.circles) e
-    reply_kept commands.Show e = when_shown (show_lines state.engine.grid) e
-    reply_kept commands.Lights e = when_shown (light_lines state.engine.grid) e
-    reply_kept (commands.Words named most) e = by_words_of (index_named (lights_of state.engine.grid) (name_of_light named)) most e
-    reply_kept (commands.Choices named most first) e = by_choices (index_named (lights_of state.engine.grid) (name_of_light named)) most first e
-    reply_kept (commands.Letters at) e = by_letters (cell_of at) e
-    reply_kept (commands.Tally at) e = by_tally (cell_of at) e
-    reply_kept commands.Duplicates e = when_shown (flat_map (duplicate_line state.engine.grid) (duplicates_of state.engine)) e
-    reply_kept commands.Unlisted e = when_shown (flat_map (spelled_line state.engine.grid) (unlisted_of state.engine)) e
-    reply_kept (commands.Grades lights) e = by_grades (map name_of_light lights) e
-    reply_kept commands.Unmatched e = when_shown (unmatched_lines state.engine) e
-    reply_kept commands.Suggest e = when_shown (suggestion_line state.engine (suggestion state.engine)) e
-    reply_kept (commands.Why named) e = by_reason e.entries e.is
-    reply_kept (commands.Fill limit) e =
+    change_kept (changes.Write field text) e = by_text field text e
+    change_kept (changes.Circle at) e = by_circle (cell_of at) e
+    change_kept (changes.Watch is_on) e = when_edited (record state { is_watched = is_on }) (with_watch is_on) e
+    change_kept (changes.Put putting field spelling) e = by_put putting field (text_spelled spelling) e
+
+    search_kept : (search : Search) → IsDue state (commands.Search search) (Ok reply) → Kept
+    search_kept (searches.Fill limit) e =
         by_fill (nat_lt limit (due (position_of state.engine))) (found (position_of state.engine)) (word_line (filling_name fillings.Limit)) (word_line (filling_name fillings.Filled)) (word_line (filling_name fillings.NoFill))
         (end (position_of state.engine)).board.entries e
-    reply_kept (commands.Autofill limit seed lights) e = by_end (is_named state.engine (names_of lights)) e.filling e.engine e.is e.done
-    reply_kept (commands.Best limit seed lights) e = by_best (is_named state.engine (names_of lights)) e.best e.engine e.is e.done
-    reply_kept (commands.Watch is_on) e = when_edited (record state { is_watched = is_on }) (with_watch is_on) e
-    reply_kept (commands.Tell telling) e = when_shown (told_lines state telling) e
-    reply_kept (commands.Put putting field spelling) e = by_put putting field (text_spelled spelling) e
+    search_kept (searches.Autofill limit seed lights) e = by_end (is_named state.engine (names_of lights)) e.filling e.engine e.is e.done
+    search_kept (searches.Best limit seed lights) e = by_best (is_named state.engine (names_of lights)) e.best e.engine e.is e.done
+
+    pub reply_kept : (command : Command) → IsDue state command (Ok reply) → Kept
+    reply_kept (commands.Ask query) (answer, is, same) = by_answer answer same
+    reply_kept (commands.Change change) e = change_kept change e
+    reply_kept (commands.Search search) e = search_kept search e
 
   -- ---- answers
 

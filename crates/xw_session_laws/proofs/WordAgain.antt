@@ -16,16 +16,16 @@ use Rattle.xw_words.specs.Word.{is_bad_letter, word_of, judged}
 use Rattle.xw_words.specs.Dictionary.{Dictionary, Entry, row, with_row, entry_at, index_in, most_words, new_entry, returned, with_added, with_struck, added_at, add_to, add_answer, after_add, struck_at, strike_from, strike_answer, after_strike, answer_on}
 use Rattle.xw_text.proofs.Position.{position_is_none}
 use Rattle.xw_feas.specs.State.{answered, with_words as with_dictionary}
-use Rattle.xw_commands.specs.declared.command.Command.{Command}
-use Rattle.xw_commands.specs.declared.command.Command.TheVariants.{Add, Strike}
+use Rattle.xw_commands.specs.declared.change.Change.{Change}
+use Rattle.xw_commands.specs.declared.change.Change.TheVariants.{Add, Strike}
 use Rattle.xw_session.specs.State.{State}
-use Rattle.xw_session.specs.Reply.{reply_to, moved}
-use Rattle.xw_session_laws.specs.Replay.{state_left, left_by, replayed, with_words}
+use Rattle.xw_session.specs.Reply.{changed, moved}
+use Rattle.xw_session_laws.specs.Replay.{state_left, replayed, with_words}
 use Rattle.xw_session_laws.proofs.Replaying.{replayed_both}
 
 -- ---- one element after another
 
-items_from : {X : Type 0} (made : X → List Command) (d : X) (xs : List X) (after : ℕ → State)
+items_from : {X : Type 0} (made : X → List Change) (d : X) (xs : List X) (after : ℕ → State)
     → ((i : ℕ) → i < length xs → replayed (after i) (made (get_or xs i d)) ≡ Some (after (suc i)))
     → replayed (after 0) (flat_map made xs) ≡ Some (after (length xs))
 items_from made d [] after step = refl
@@ -36,13 +36,13 @@ items_from made d (x ∷ xs) after step =
     ∙ items_from made d xs (λ i. after (suc i)) (λ i within. step (suc i) (omega (arith, within)))
 
 -- if the commands of each element lead from one state to the next, all of them lead from the first to the last
-pub each_item_again : {X : Type 0} (made : X → List Command) (d : X) (xs : List X) (after : ℕ → State)
+pub each_item_again : {X : Type 0} (made : X → List Change) (d : X) (xs : List X) (after : ℕ → State)
     → ((i : ℕ) → i < length xs → replayed (after i) (made (get_or xs i d)) ≡ Some (after (i + 1)))
     → replayed (after 0) (flat_map made xs) ≡ Some (after (length xs))
 each_item_again made d xs after step =
     items_from made d xs after (λ i within. let next : i + 1 ≡ suc i = omega arith in step i within ∙ ap (λ n. Some (after n)) next)
 
-pub one_each : {X : Type 0} (made : X → Command) (xs : List X) → map made xs ≡ flat_map (λ x. made x ∷ []) xs
+pub one_each : {X : Type 0} (made : X → Change) (xs : List X) → map made xs ≡ flat_map (λ x. made x ∷ []) xs
 one_each made [] = refl
 one_each made (x ∷ xs) = ap (λ commands. made x ∷ commands) (one_each made xs)
 
@@ -85,7 +85,7 @@ module _ (state : State) (word : List ℕ) (entries : List Entry) (fine : IsItse
   abbrev with_these : List Entry → State
   with_these es = with_words state (with_row words (length word) es)
 
-  added_so : (grade : Option ℕ) (added : Added) → added_at entries (index_in entries word) ≡ Ok added → left_by (reply_to state (Add word grade)) ≡ Some (with_these (with_added words.least entries word grade added))
+  added_so : (grade : Option ℕ) (added : Added) → added_at entries (index_in entries word) ≡ Ok added → state_left (changed state (Add word grade)) ≡ Some (with_these (with_added words.least entries word grade added))
   added_so grade added is =
       let left : Result Added WordFault → Option State = λ answer. state_left (moved state (with_dictionary state.engine (answered (after_add words (map folded word) grade) answer))) in
       let answer : add_answer words word ≡ Ok added = ap (answer_on add_to words) fine.0 ∙ ap (λ es. add_to es word) at ∙ is in
@@ -94,17 +94,17 @@ module _ (state : State) (word : List ℕ) (entries : List Entry) (fine : IsItse
       ∙ ap (λ es. Some (with_these (with_added words.least es word grade added))) at
 
   -- a new word
-  pub added_again : (grade : Option ℕ) → index_in entries word ≡ None → length entries < most_words → left_by (reply_to state (Add word grade)) ≡ Some (with_these (entries ++ new_entry words.least word grade ∷ []))
+  pub added_again : (grade : Option ℕ) → index_in entries word ≡ None → length entries < most_words → state_left (changed state (Add word grade)) ≡ Some (with_these (entries ++ new_entry words.least word grade ∷ []))
   added_again grade new room =
       let free : nat_le most_words (length entries) ≡ false = grind (arith, nat_tests, room) in
       added_so grade (New (length entries)) (ap (added_at entries) new ∙ ap (λ b. if b then Err Full else Ok (New (length entries))) free)
 
   -- a word that comes back
   pub returned_again : (grade : Option ℕ) (index : ℕ) → index_in entries word ≡ Some index → (entry_at entries index).active ≡ false
-      → left_by (reply_to state (Add word grade)) ≡ Some (with_these (set entries index (returned words.least grade (entry_at entries index))))
+      → state_left (changed state (Add word grade)) ≡ Some (with_these (set entries index (returned words.least grade (entry_at entries index))))
   returned_again grade index known off = added_so grade (Returned index) (ap (added_at entries) known ∙ ap (λ b. if b then Err Known else Ok (Returned index)) off)
 
-  pub struck_again : (index : ℕ) → index_in entries word ≡ Some index → (entry_at entries index).struck ≡ false → left_by (reply_to state (Strike word)) ≡ Some (with_these (with_struck entries index))
+  pub struck_again : (index : ℕ) → index_in entries word ≡ Some index → (entry_at entries index).struck ≡ false → state_left (changed state (Strike word)) ≡ Some (with_these (with_struck entries index))
   struck_again index known off =
       let left : Result ℕ WordFault → Option State = λ answer. state_left (moved state (with_dictionary state.engine (answered (after_strike words (map folded word)) answer))) in
       let answer : strike_answer words word ≡ Ok index =

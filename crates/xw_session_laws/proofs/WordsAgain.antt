@@ -9,7 +9,7 @@ use Rattle.std.proofs.lemmas.Bool.Decides.{nat_tests}
 use Rattle.std.proofs.lemmas.List.{length-map, get_or-map, get_or_default, same_lists}
 use Rattle.std.proofs.lemmas.List.FromFn.{get_or-range_with_len, length-range_with_len, get_or-map-range_with_len}
 use Rattle.xw_words.specs.Dictionary.{Dictionary, Entry, IsDictionary, AreLeft, row, capped, limited, all_limited, with_least}
-use Rattle.xw_commands.specs.declared.command.Command.TheVariants.{Least}
+use Rattle.xw_commands.specs.declared.change.Change.TheVariants.{Least}
 use Rattle.xw_session.specs.State.{State}
 use Rattle.xw_answers.specs.Record.{known_counts, row_commands, length_commands, least_commands, word_commands}
 use Rattle.xw_session_laws.specs.Replay.{replayed, with_words, ComeFirst}

@@ -16,6 +16,8 @@ use Rattle.xw_feas.specs.WellFormed.{IsWellFormed}
 use Rattle.xw_files.specs.declared.fault.ReadFault.{ReadFault}
 use Rattle.xw_grid.specs.Puzzle.{PuzzleShown}
 use Rattle.xw_commands.specs.declared.command.Command.{Command}
+use Rattle.xw_commands.specs.declared.command.Command.TheVariants as commands
+use Rattle.xw_commands.specs.declared.change.Change.{Change}
 use Rattle.xw_commands.specs.declared.command.SyntaxFault.{SyntaxFault}
 use Rattle.xw_commands.specs.declared.command.TextField.{TextField}
 use Rattle.xw_lines.specs.declared.outcome.Step.{Step}
@@ -26,7 +28,7 @@ use Rattle.xw_lines.specs.Cut.{lines_of}
 use Rattle.xw_session.specs.Put.{text_of_field}
 use Rattle.xw_answers.specs.Record.{known_counts}
 use Rattle.xw_session.specs.Record.{record_commands, record_lines}
-use Rattle.xw_session.specs.Reply.{Reply, reply_to, want_of}
+use Rattle.xw_session.specs.Reply.{Reply, changed, reply_to, want_of}
 use Rattle.xw_answers.specs.Escape.{has_nul}
 use Rattle.xw_session.specs.Answer.{Answers}
 use Rattle.xw_lines.specs.Spoken.{Spoken}
@@ -38,15 +40,15 @@ abbrev pub state_left : Result Reply Refusal → Option State
 state_left (Ok reply) = Some reply.state
 state_left (Err refusal) = None
 
+-- the state after all these changes, or None if one is refused
+abbrev pub replayed : State → List Change → Option State
+replayed state [] = Some state
+replayed state (change ∷ changes) = option_and_then (λ next. replayed next changes) (state_left (changed state change))
+
 -- the state after the one reply to a command, or None if it is refused or has no single reply
 abbrev pub left_by : Option (Result Reply Refusal) → Option State
 left_by None = None
 left_by (Some reply) = state_left reply
-
--- the state after all these commands, or None if one is refused
-abbrev pub replayed : State → List Command → Option State
-replayed state [] = Some state
-replayed state (command ∷ commands) = option_and_then (λ next. replayed next commands) (left_by (reply_to state command))
 
 -- the same for lines
 abbrev pub left_by_line : State → Result (Option Command) SyntaxFault → Option State
@@ -183,7 +185,7 @@ CommandsMakeSessionsAgain =
 abbrev pub LinesAreReadAgain : Type 0
 LinesAreReadAgain =
     (words : Dictionary) (made : State) → BeganWith words made
-    → map command_of (lines_of (record_lines made)) ≡ map (λ command. Ok (Some command)) (record_commands made)
+    → map command_of (lines_of (record_lines made)) ≡ map (λ change. Ok (Some (commands.Change change))) (record_commands made)
 
 -- the lines of a record rebuild the state too
 abbrev pub LinesMakeSessionsAgain : Type 0

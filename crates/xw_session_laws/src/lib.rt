@@ -18,7 +18,7 @@ ghost use Rattle.xw_files.specs.Puz.Board.{puzzle_at};
 ghost use Rattle.xw_files.specs.Text.Shape.{all_of};
 ghost use Rattle.xw_commands.specs.Line.{trimmed};
 ghost use Rattle.xw_answers.specs.Escape.{text_spelled, escaped_text, has_nul};
-ghost use Rattle.xw_commands.specs.declared.command.Command.{Command};
+ghost use Rattle.xw_commands.specs.declared.change.Change.{Change};
 ghost use Rattle.xw_commands.specs.declared.command.Field.{Field};
 ghost use Rattle.xw_session.specs.declared.session.recording.Section.TheVariants as sections;
 ghost use Rattle.xw_answers.specs.declared.record.Part.TheVariants as parts;
@@ -58,7 +58,7 @@ pub fn what_is_spelled_reads_back()
 
 /// Executing two lists of commands in a row equals executing the second on the state that the first leaves.
 pub fn commands_follow_one_another()
-    ensures { (state : State) (front rest : List Command)
+    ensures { (state : State) (front rest : List Change)
         → replayed state (front ++ rest) ≡ option_and_then (λ mid. replayed mid rest) (replayed state front) }
 {}
 

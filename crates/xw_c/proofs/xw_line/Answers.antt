@@ -1,4 +1,4 @@
-use Rattle.xw_engine.specs.Engine.{IsLineDone}
+use Rattle.xw_c.specs.OpenSession.{IsLineDone}
 use Rattle.xw_c.proofs.Calling.{calls_open}
 use Rattle.xw_c.proofs.xw_line.Goals as goal
 

@@ -1,5 +1,5 @@
 use Rattle.xw_files.specs.declared.kind.Kind.TheVariants.{Puz}
-use Rattle.xw_engine.specs.Engine.{IsFileMade}
+use Rattle.xw_c.specs.OpenSession.{IsFileMade}
 use Rattle.xw_c.proofs.Calling.{calls_open}
 use Rattle.xw_c.proofs.xw_puz.Goals as goal
 

@@ -1,4 +1,4 @@
-use Rattle.xw_engine.specs.Engine.{IsRecordMade}
+use Rattle.xw_c.specs.OpenSession.{IsRecordMade}
 use Rattle.xw_c.proofs.Calling.{calls_open}
 use Rattle.xw_c.proofs.xw_record.Goals as goal
 

@@ -1,4 +1,4 @@
-use Rattle.xw_engine.specs.Engine.{IsResumed}
+use Rattle.xw_c.specs.OpenSession.{IsResumed}
 use Rattle.xw_c.proofs.Calling.{calls_open}
 use Rattle.xw_c.proofs.xw_resume.Goals as goal
 

@@ -4,11 +4,11 @@ ghost use Rattle.xw_grid.specs.Light.{lights_of, index_named};
 ghost use Rattle.xw_fill.specs.NamedFill.{IsAutofilled, is_named, AreLights, IsRefusal};
 ghost use Rattle.xw_session.specs.Reply.{name_of_light};
 ghost use Rattle.xw_session.specs.Autofill.{names_of as names_of_lights};
-ghost use Rattle.xw_session.specs.Answer.{AnswersTo};
+ghost use Rattle.xw_session.specs.Answer.{AnswersSearch};
 
 use crate::lookup::light_name;
 use crate::session::queries::end_filling;
-use crate::session::{Session, end_answer};
+use crate::session::{Ended, Session, end_answer};
 use std::alloc::Global;
 use xw_answers::refusal::Refusal;
 use xw_commands::command::LightArg;
@@ -21,7 +21,6 @@ use xw_fill::named_lights::{Hint, autofill};
 use xw_fill::search::Filling;
 use xw_grid::{GridFault, LightName};
 use xw_lines::device::{Sink, WriteFailed};
-use xw_lines::outcome::Step;
 
 /// Returns the name of a light that a command names, or `None` if the grid has no such light.
 pub(crate) fn known_name<E: Feasible>(engine: &E, named: LightArg) -> Option<LightName>
@@ -92,7 +91,7 @@ fn filled<E: Searchable>(
 }
 
 impl<E: Searchable> Session<E> {
-    ghost use Rattle.xw_commands.specs.declared.command.Command.TheVariants as commands;
+    ghost use Rattle.xw_commands.specs.declared.search.Search.TheVariants as searches;
 
     /// Answers `autofill`: fills lights with some fill, if a search finds one within its limit.
     pub(crate) fn answer_autofill<W: Sink>(
@@ -101,8 +100,8 @@ impl<E: Searchable> Session<E> {
         seed: u64,
         lights: LightArgs<'_>,
         sink: &mut W,
-    ) -> Result<Step, WriteFailed>
-        ensures { AnswersTo W.transcript W.failures self.old (commands.Autofill limit seed lights.entry) result self.new sink.old sink.new }
+    ) -> Result<Ended, WriteFailed>
+        ensures { AnswersSearch W.transcript W.failures self.old (searches.Autofill limit seed lights.entry) result self.new sink.old sink.new }
     {
         if !are_lights(&self.engine, lights.copy()) {
             return end_answer(sink, Err(Refusal::NoLight));

@@ -7,11 +7,11 @@ ghost use Rattle.xw_answers.specs.Text.{number_line};
 ghost use Rattle.xw_session.specs.State.{State};
 ghost use Rattle.xw_session.specs.Autofill.{names_of as names_of_lights};
 ghost use Rattle.xw_session.specs.Best.{best_lines};
-ghost use Rattle.xw_session.specs.Answer.{AnswersTo, best_reply, text_of, step_of};
+ghost use Rattle.xw_session.specs.Answer.{AnswersSearch, best_reply, text_of, ended_by};
 
 use crate::session::autofilling::{are_lights, names_of};
 use crate::session::queries::write_filling;
-use crate::session::{Session, end_answer};
+use crate::session::{Ended, Session, end_answer};
 use std::alloc::Global;
 use xw_answers::refusal::Refusal;
 use xw_answers::text;
@@ -22,7 +22,6 @@ use xw_fill::allowance::Allowance;
 use xw_fill::best::{Best, BestHint, best_fill};
 use xw_fill::search::Filling;
 use xw_lines::device::{Sink, WriteFailed};
-use xw_lines::outcome::Step;
 
 /// Fills these lights, or all lights if there are none, with the best fill that a search finds within its limit.
 /// Continues the search that left the hint, if it was for the same lights and seed and began with the same entries.
@@ -70,9 +69,9 @@ fn write_best<W: Sink>(sink: &mut W, best: Best) -> Result<(), WriteFailed>
 }
 
 /// Answers a search for the best fill.
-fn end_best<W: Sink>(sink: &mut W, best: Result<Best, EditRefusal>) -> Result<Step, WriteFailed>
+fn end_best<W: Sink>(sink: &mut W, best: Result<Best, EditRefusal>) -> Result<Ended, WriteFailed>
     ensures sends { (state : State) → Sends W.transcript W.failures sink.old sink.new result (text_of (best_reply best state)) }
-    ensures step { (state : State) → IfOk result (λ step. step ≡ step_of (best_reply best state)) }
+    ensures step { (state : State) → IfOk result (λ ended. ended ≡ ended_by (best_reply best state)) }
 {
     match best {
         Ok(best) => {
@@ -84,7 +83,7 @@ fn end_best<W: Sink>(sink: &mut W, best: Result<Best, EditRefusal>) -> Result<St
 }
 
 impl<E: Searchable> Session<E> {
-    ghost use Rattle.xw_commands.specs.declared.command.Command.TheVariants as commands;
+    ghost use Rattle.xw_commands.specs.declared.search.Search.TheVariants as searches;
 
     /// Answers `best`: fills lights with the best fill that a search finds within its limit.
     pub(crate) fn answer_best<W: Sink>(
@@ -93,8 +92,8 @@ impl<E: Searchable> Session<E> {
         seed: u64,
         lights: LightArgs<'_>,
         sink: &mut W,
-    ) -> Result<Step, WriteFailed>
-        ensures { AnswersTo W.transcript W.failures self.old (commands.Best limit seed lights.entry) result self.new sink.old sink.new }
+    ) -> Result<Ended, WriteFailed>
+        ensures { AnswersSearch W.transcript W.failures self.old (searches.Best limit seed lights.entry) result self.new sink.old sink.new }
     {
         if !are_lights(&self.engine, lights.copy()) {
             return end_answer(sink, Err(Refusal::NoLight));

@@ -1,6 +1,7 @@
 //! Commands that change the grid's size, texts, clues, circles or the watch.
 ghost use Rattle.std.specs.Prelude.{◌≡◌, IfOk, IfErr, OnOk, OnErr, IsOk, IsOkUnless, [], Some, Err, true, false, not};
 ghost use Rattle.xw_grid.specs.Grid.{Grid as AnyGrid, is_inside, is_open as is_open_cell};
+ghost use Rattle.xw_grid.specs.Light.{lights_of};
 ghost use Rattle.xw_grid.specs.Clue.{is_circled, with_circle};
 ghost use Rattle.xw_answers.specs.Escape.{has_nul as has_nul_byte};
 ghost use Rattle.xw_session.specs.Reply.{light_named as light_named_so, circle_toggled};
@@ -14,7 +15,7 @@ use xw_answers::lookup::light_named;
 use xw_answers::refusal::Refusal;
 use xw_commands::command::{CellArg, LightArg, TextField};
 use xw_feas::feasible::Feasible;
-use xw_grid::{Cell, Circles, Clues, Grid, GridFault, Light};
+use xw_grid::{Cell, Circles, Clues, Grid, GridFault, Light, Lights};
 
 /// Returns whether a text has a NUL.
 pub(crate) fn has_nul(text: &[u8]) -> bool
@@ -47,12 +48,24 @@ pub(crate) fn circle_cell(grid: &Grid, spot: CellArg) -> Result<Cell, Refusal>
     Ok(cell)
 }
 
+/// Returns the light that a command names in a grid with these lights.
+pub(crate) fn light_in(grid: &Grid, lights: &Lights, named: LightArg) -> Option<Light>
+    requires { lights.now ≡ lights_of grid.now }
+    ensures { result ≡ light_named_so grid.now named }
+{
+    grid.well_formed();
+    match light_name(named) {
+        Some(name) => light_named(lights, name),
+        None => None,
+    }
+}
+
 impl<E: Feasible> Session<E> {
-    ghost use Rattle.xw_commands.specs.declared.command.Command.TheVariants as commands;
+    ghost use Rattle.xw_commands.specs.declared.change.Change.TheVariants as changes;
 
     /// Replaces the grid by an empty one of this size, and removes all clues and circles.
     pub(crate) fn resize(&mut self, width: u64, height: u64) -> Result<(), Refusal>
-        ensures { Edits self.old (commands.Size width height) result self.new }
+        ensures { Edits self.old (changes.Size width height) result self.new }
     {
         let (Ok(width), Ok(height)) = (u32::try_from(width), u32::try_from(height)) else {
             return Err(Refusal::Grid(GridFault::Size));
@@ -67,28 +80,24 @@ impl<E: Feasible> Session<E> {
     pub(crate) fn light(&self, named: LightArg) -> Option<Light>
         ensures { result ≡ light_named_so self.now.engine.grid named }
     {
-        self.engine.grid().well_formed();
-        match light_name(named) {
-            Some(name) => light_named(self.engine.lights(), name),
-            None => None,
-        }
+        light_in(self.engine.grid(), self.engine.lights(), named)
     }
 
     pub(crate) fn set_clue(&mut self, named: LightArg, text: &[u8]) -> Result<(), Refusal>
-        ensures { Edits self.old (commands.Clue named text.now) result self.new }
+        ensures { Edits self.old (changes.Clue named text.now) result self.new }
     {
-        match self.light(named) {
-            Some(light) => self.keep_clue(light, text),
-            None => Err(Refusal::NoLight),
-        }
+        self.keep_clue(self.light(named), text)
     }
 
-    /// Replaces the clue of a light, which a grid other than the engine's may have.
-    pub(crate) fn keep_clue(&mut self, light: Light, text: &[u8]) -> Result<(), Refusal>
-        ensures done { (grid : AnyGrid) (named : LightArg) → light_named_so grid named ≡ Some light → Edits (drawn self.old grid) (commands.Clue named text.now) result (drawn self.new grid) }
+    /// Replaces the clue of a light of any grid, or refuses this if there is no light.
+    pub(crate) fn keep_clue(&mut self, light: Option<Light>, text: &[u8]) -> Result<(), Refusal>
+        ensures done { (grid : AnyGrid) (named : LightArg) → light_named_so grid named ≡ light → Edits (drawn self.old grid) (changes.Clue named text.now) result (drawn self.new grid) }
         ensures engine { self.new.engine ≡ self.old.engine }
         ensures begun { self.new.begun ≡ self.old.begun }
     {
+        let Some(light) = light else {
+            return Err(Refusal::NoLight);
+        };
         if has_nul(text) {
             return Err(Refusal::NulByte);
         }
@@ -97,7 +106,7 @@ impl<E: Feasible> Session<E> {
     }
 
     pub(crate) fn toggle_circle(&mut self, spot: CellArg) -> Result<(), Refusal>
-        ensures { Edits self.old (commands.Circle spot) result self.new }
+        ensures { Edits self.old (changes.Circle spot) result self.new }
     {
         let cell = circle_cell(self.engine.grid(), spot)?;
         self.flip_circle(cell)?;
@@ -116,7 +125,9 @@ impl<E: Feasible> Session<E> {
 
     /// Replaces a text of the puzzle.
     pub(crate) fn write(&mut self, field: TextField, text: &[u8]) -> Result<(), Refusal>
-        ensures { Edits self.old (commands.Write field text.now) result self.new }
+        ensures done { (grid : AnyGrid) → Edits (drawn self.old grid) (changes.Write field text.now) result (drawn self.new grid) }
+        ensures engine { self.new.engine ≡ self.old.engine }
+        ensures begun { self.new.begun ≡ self.old.begun }
     {
         if has_nul(text) {
             return Err(Refusal::NulByte);
@@ -138,7 +149,9 @@ impl<E: Feasible> Session<E> {
     }
 
     pub(crate) fn watch(&mut self, is_on: bool) -> Result<(), Refusal>
-        ensures { Edits self.old (commands.Watch is_on) result self.new }
+        ensures done { (grid : AnyGrid) → Edits (drawn self.old grid) (changes.Watch is_on) result (drawn self.new grid) }
+        ensures engine { self.new.engine ≡ self.old.engine }
+        ensures begun { self.new.begun ≡ self.old.begun }
     {
         self.is_watched = is_on;
         Ok(())

@@ -8,10 +8,10 @@ ghost use Rattle.xw_answers.specs.Text.{line_of};
 ghost use Rattle.xw_answers.specs.Token.{token_bytes};
 ghost use Rattle.xw_session.specs.Choices.{number_or_done as number_or_a_done, choice_line, choice_lines, first_index};
 ghost use Rattle.xw_session.specs.Reply.{name_of_light};
-ghost use Rattle.xw_session.specs.Answer.{AnswersTo};
+ghost use Rattle.xw_session.specs.Answer.{AnswersQuery};
 
 use crate::lookup::light_name;
-use crate::session::{Session, end_answer};
+use crate::session::{Ended, Session, end_answer};
 use xw_answers::answer_line::{Token, write_line};
 use xw_answers::refusal::Refusal;
 use xw_answers::text::Pattern;
@@ -21,7 +21,6 @@ use xw_fill::choices::{fewest_after, fewest_after_any, fewest_words};
 use xw_fill::scan::{is_entered, light_at, name_at, next_word_index, word_count};
 use xw_letters::Letter;
 use xw_lines::device::{Sink, WriteFailed};
-use xw_lines::outcome::Step;
 use xw_words::WordFault;
 use xw_words::word::{LONGEST, bad_letter, spell};
 
@@ -231,7 +230,7 @@ fn first_index<E: Feasible>(
 }
 
 impl<E: Feasible> Session<E> {
-    ghost use Rattle.xw_commands.specs.declared.command.Command.TheVariants as commands;
+    ghost use Rattle.xw_commands.specs.declared.query.Query.TheVariants as queries;
 
     /// Returns the index of the light that a command names.
     fn light_index(&self, named: LightArg) -> Option<usize>
@@ -252,8 +251,9 @@ impl<E: Feasible> Session<E> {
         most: u64,
         first: &Option<Text<'_>>,
         sink: &mut W,
-    ) -> Result<Step, WriteFailed>
-        ensures { AnswersTo W.transcript W.failures self.old (commands.Choices named most first.now) result self.new sink.old sink.new }
+    ) -> Result<Ended, WriteFailed>
+        ensures answer { AnswersQuery W.transcript W.failures self.old (queries.Choices named most first.now) result sink.old sink.new }
+        ensures unchanged { self.new ≡ self.old }
     {
         let Some(light) = self.light_index(named) else {
             return end_answer(sink, Err(Refusal::NoLight));

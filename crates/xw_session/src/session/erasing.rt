@@ -1,10 +1,10 @@
 //! Answers `erase`.
 ghost use Rattle.std.specs.Prelude.{◌≡◌, ◌+◌, ◌<◌, ◌≤◌, [], ◌∷◌, ◌++◌, None, length, true, false};
 ghost use Rattle.xw_session.specs.Erase.{crossing as crossing_direction, is_held as is_held_cell, is_erased as is_erased_cell, erased_if, erased_cells as erased_cells_of, emptied};
-ghost use Rattle.xw_session.specs.Answer.{AnswersTo};
+ghost use Rattle.xw_session.specs.Answer.{AnswersChange};
 
 use crate::session::tallying::light_through;
-use crate::session::{Session, end_answer};
+use crate::session::{Ended, Session, end_answer};
 use std::marker::Model;
 use xw_answers::refusal::Refusal;
 use xw_commands::command::LightArg;
@@ -14,7 +14,6 @@ use xw_fill::scan::is_entered;
 use xw_grid::{Cell, Direction, Light};
 use xw_letters::Letter;
 use xw_lines::device::{Sink, WriteFailed};
-use xw_lines::outcome::Step;
 use xw_words::word::LONGEST;
 
 /// A list of cells to be emptied, at most as many as a light has. It allocates nothing.
@@ -118,15 +117,15 @@ fn erased_cells<E: Feasible>(engine: &E, light: &Light) -> Emptied
 }
 
 impl<E: Feasible> Session<E> {
-    ghost use Rattle.xw_commands.specs.declared.command.Command.TheVariants as commands;
+    ghost use Rattle.xw_commands.specs.declared.change.Change.TheVariants as changes;
 
     /// Answers `erase`: empties the cells of a light, if possible without those of complete crossing words.
     pub(crate) fn answer_erase<W: Sink>(
         &mut self,
         named: LightArg,
         sink: &mut W,
-    ) -> Result<Step, WriteFailed>
-        ensures { AnswersTo W.transcript W.failures self.old (commands.Erase named) result self.new sink.old sink.new }
+    ) -> Result<Ended, WriteFailed>
+        ensures { AnswersChange W.transcript W.failures self.old (changes.Erase named) result self.new sink.old sink.new }
     {
         match self.light(named) {
             Some(light) => {

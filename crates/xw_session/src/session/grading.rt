@@ -8,10 +8,10 @@ ghost use Rattle.xw_lines.specs.Sends.{Sends};
 ghost use Rattle.xw_session.specs.Reply.{name_of_light};
 ghost use Rattle.xw_session.specs.Autofill.{names_of};
 ghost use Rattle.xw_session.specs.Grades.{entered_line, entered_lines, named_line, grade_lines};
-ghost use Rattle.xw_session.specs.Answer.{AnswersTo};
+ghost use Rattle.xw_session.specs.Answer.{AnswersQuery};
 
 use crate::session::autofilling::{are_lights, known_name};
-use crate::session::{Session, end_answer};
+use crate::session::{Ended, Session, end_answer};
 use xw_answers::refusal::Refusal;
 use xw_answers::text;
 use xw_commands::command::LightArg;
@@ -21,7 +21,6 @@ use xw_fill::listing::grade;
 use xw_fill::scan::{is_entered, name_at};
 use xw_grid::LightName;
 use xw_lines::device::{Sink, WriteFailed};
-use xw_lines::outcome::Step;
 
 /// Writes the grade of the word of a light if the light is wholly entered.
 fn write_if_entered<E: Feasible, W: Sink>(
@@ -104,15 +103,15 @@ fn write_grades<E: Feasible, W: Sink>(
 }
 
 impl<E: Feasible> Session<E> {
-    ghost use Rattle.xw_commands.specs.declared.command.Command.TheVariants as commands;
+    ghost use Rattle.xw_commands.specs.declared.query.Query.TheVariants as queries;
 
     /// Answers `grades`: the grades of the words of named lights, or of all wholly entered lights.
     pub(crate) fn answer_grades<W: Sink>(
         &self,
         lights: LightArgs<'_>,
         sink: &mut W,
-    ) -> Result<Step, WriteFailed>
-        ensures { AnswersTo W.transcript W.failures self.now (commands.Grades lights.entry) result self.now sink.old sink.new }
+    ) -> Result<Ended, WriteFailed>
+        ensures { AnswersQuery W.transcript W.failures self.now (queries.Grades lights.entry) result sink.old sink.new }
     {
         if !are_lights(&self.engine, lights.copy()) {
             return end_answer(sink, Err(Refusal::NoLight));

@@ -5,14 +5,13 @@ ghost use Rattle.xw_feas.specs.Feasible.{base_words_at};
 ghost use Rattle.xw_fill.specs.OfState.{light_count, is_entered as is_entered_light};
 ghost use Rattle.xw_lines.specs.Sends.{Sends};
 ghost use Rattle.xw_session.specs.Unmatched.{is_unmatched as is_unmatched_light, unmatched_line, unmatched_lines};
-ghost use Rattle.xw_session.specs.Answer.{AnswersTo};
+ghost use Rattle.xw_session.specs.Answer.{AnswersQuery};
 
-use crate::session::{Session, end_answer};
+use crate::session::{Ended, Session, end_answer};
 use xw_answers::text::{self, Pattern};
 use xw_feas::feasible::Feasible;
 use xw_fill::scan::{is_entered, name_at};
 use xw_lines::device::{Sink, WriteFailed};
-use xw_lines::outcome::Step;
 
 /// Returns whether an active word agrees with the letters of a light that is not wholly entered.
 fn has_base_word<E: Feasible>(engine: &E, light: usize) -> bool
@@ -63,11 +62,11 @@ fn write_unmatched<E: Feasible, W: Sink>(sink: &mut W, engine: &E) -> Result<(),
 }
 
 impl<E: Feasible> Session<E> {
-    ghost use Rattle.xw_commands.specs.declared.command.Command.TheVariants as commands;
+    ghost use Rattle.xw_commands.specs.declared.query.Query.TheVariants as queries;
 
     /// Answers `unmatched`: the lights that no word matches.
-    pub(crate) fn answer_unmatched<W: Sink>(&self, sink: &mut W) -> Result<Step, WriteFailed>
-        ensures { AnswersTo W.transcript W.failures self.now commands.Unmatched result self.now sink.old sink.new }
+    pub(crate) fn answer_unmatched<W: Sink>(&self, sink: &mut W) -> Result<Ended, WriteFailed>
+        ensures { AnswersQuery W.transcript W.failures self.now queries.Unmatched result sink.old sink.new }
     {
         write_unmatched(sink, &self.engine)?;
         end_answer(sink, Ok(()))

@@ -1,7 +1,9 @@
 //! The commands `text` and `more`, which put a text with escapes into a field.
-ghost use Rattle.std.specs.Prelude.{◌≡◌, ℕ, ◌++◌, List, [], true, false, Some, IfOk, IfErr, IsOk, OnOk, OnErr, IsOkUnless};
+ghost use Rattle.std.specs.Prelude.{◌≡◌, ℕ, ◌++◌, List, [], true, false, Some, Err, IfOk, IfErr, IsOk, OnOk, OnErr, IsOkUnless};
 ghost use Rattle.xw_answers.specs.Escape.{text_spelled};
-ghost use Rattle.xw_session.specs.Put.{target_of, has_target, text_at as text_at_target, with_text_at, with_piece};
+ghost use Rattle.xw_session.specs.Put.{target_of, has_target, CanPut, text_at as text_at_target, with_text_at, with_piece};
+ghost use Rattle.xw_session.specs.Reply.{put as put_reply};
+ghost use Rattle.xw_session.specs.State.{State};
 ghost use Rattle.xw_session.specs.Answer.{Edits};
 
 use crate::session::changing::has_nul;
@@ -35,7 +37,7 @@ fn spelled(alloc: Global, spelling: &[u8]) -> Result<Vec<u8>, GridFault>
 }
 
 /// Returns the target of a field. Returns `OutOfGrid` if the grid does not have it.
-pub(crate) fn field_target(grid: &Grid, field: Field) -> Result<Target, Refusal>
+fn field_target(grid: &Grid, field: Field) -> Result<Target, Refusal>
     ensures ok { IfOk result (λ target. (target ≡ target_of field) × (has_target grid.now (target_of field) ≡ true)) }
     ensures refused { IfErr result (λ refusal. (refusal ≡ Refusal.Grid GridFault.OutOfGrid) × (has_target grid.now (target_of field) ≡ false)) }
 {
@@ -45,8 +47,24 @@ pub(crate) fn field_target(grid: &Grid, field: Field) -> Result<Target, Refusal>
     }
 }
 
+/// Returns the target of a field into which a spelling may be put. Returns the first refusal that applies, in the order
+/// `Escape`, `OutOfGrid`, `NulByte`.
+pub(crate) fn put_target(grid: &Grid, field: Field, spelling: &[u8]) -> Result<Target, Refusal>
+    ensures ok { IfOk result (λ target. CanPut grid.now field spelling.now target) }
+    ensures refused { IfErr result (λ refusal. (state : State) (putting : TextMode) → state.engine.grid ≡ grid.now → put_reply state putting field (text_spelled spelling.now) ≡ Err refusal) }
+{
+    if !escape::is_spelling(spelling) {
+        return Err(Refusal::Escape);
+    }
+    let target = field_target(grid, field)?;
+    if has_nul(spelling) {
+        return Err(Refusal::NulByte);
+    }
+    Ok(target)
+}
+
 impl<E: Feasible> Session<E> {
-    ghost use Rattle.xw_commands.specs.declared.command.Command.TheVariants as commands;
+    ghost use Rattle.xw_commands.specs.declared.change.Change.TheVariants as changes;
 
     pub(crate) fn text_at(&self, target: Target) -> &[u8]
         ensures { result.now ≡ text_at_target self.now target }
@@ -84,15 +102,9 @@ impl<E: Feasible> Session<E> {
         field: Field,
         spelling: &[u8],
     ) -> Result<(), Refusal>
-        ensures { Edits self.old (commands.Put putting field spelling.now) result self.new }
+        ensures { Edits self.old (changes.Put putting field spelling.now) result self.new }
     {
-        if !escape::is_spelling(spelling) {
-            return Err(Refusal::Escape);
-        }
-        let target = field_target(self.engine.grid(), field)?;
-        if has_nul(spelling) {
-            return Err(Refusal::NulByte);
-        }
+        let target = put_target(self.engine.grid(), field, spelling)?;
         self.put_text(putting, target, spelling)?;
         Ok(())
     }

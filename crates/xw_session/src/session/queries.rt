@@ -1,5 +1,5 @@
 //! Answers queries of the session, the engine and the search.
-ghost use Rattle.std.specs.Prelude.{◌≡◌, ℕ, flat_map, Err, ◌∷◌, [], length, IfOk, IfErr, IfSome, IfNone, Some, None, codes, decimal, ◌++◌};
+ghost use Rattle.std.specs.Prelude.{◌≡◌, ℕ, flat_map, Ok, Err, ◌∷◌, [], length, IfOk, IfErr, IfSome, IfNone, Some, None, codes, decimal, ◌++◌};
 ghost use Rattle.xw_letters.specs.LetterSet.{letters_in};
 ghost use Rattle.xw_grid.specs.Grid.{index_of};
 ghost use Rattle.xw_grid.specs.Light.{lights_of, index_named};
@@ -8,12 +8,12 @@ ghost use Rattle.xw_lines.specs.Sends.{Sends};
 ghost use Rattle.xw_commands.specs.Names.{direction_name};
 ghost use Rattle.xw_answers.specs.Text.{word_line, line_of, counted_lines, letters_line};
 ghost use Rattle.xw_session.specs.Found.{duplicate_line, suggestion_line, word_at as known_word_at};
-ghost use Rattle.xw_session.specs.Reply.{first_words, name_of_light, filling_name as name_of_filling, cell_of, lettered, shown};
-ghost use Rattle.xw_session.specs.Answer.{AnswersTo, fill_reply, text_of, step_of};
+ghost use Rattle.xw_session.specs.Reply.{first_words, name_of_light, filling_name as name_of_filling, cell_of, lettered};
+ghost use Rattle.xw_session.specs.Answer.{AnswersQuery, AnswersSearch, fill_reply, text_of, ended_by};
 ghost use Rattle.xw_session.specs.State.{State};
 
 use crate::lookup::light_name;
-use crate::session::{Session, end_answer};
+use crate::session::{Ended, Session, end_answer};
 use xw_answers::answer_line::{Token, write_line};
 use xw_answers::lookup::light_named;
 use xw_answers::refusal::Refusal;
@@ -30,7 +30,6 @@ use xw_fill::suggesting::{Suggestion, suggest};
 use xw_grid::{Direction, Grid, LightName, Lights};
 use xw_letters::{Letter, LetterSet};
 use xw_lines::device::{Sink, WriteFailed};
-use xw_lines::outcome::Step;
 
 /// Writes the count of words, and then the words, at most `most` of them.
 fn write_counted<E: Feasible, W: Sink>(
@@ -136,9 +135,9 @@ pub(crate) fn write_filling<W: Sink>(sink: &mut W, filling: Filling) -> Result<(
 pub(crate) fn end_filling<W: Sink>(
     sink: &mut W,
     filled: Result<Filling, EditRefusal>,
-) -> Result<Step, WriteFailed>
+) -> Result<Ended, WriteFailed>
     ensures sends { (state : State) → Sends W.transcript W.failures sink.old sink.new result (text_of (fill_reply filled state)) }
-    ensures step { (state : State) → IfOk result (λ step. step ≡ step_of (fill_reply filled state)) }
+    ensures step { (state : State) → IfOk result (λ ended. ended ≡ ended_by (fill_reply filled state)) }
 {
     match filled {
         Ok(filling) => {
@@ -166,15 +165,15 @@ fn write_duplicates<W: Sink>(
 }
 
 impl<E: Feasible> Session<E> {
-    ghost use Rattle.xw_commands.specs.declared.command.Command.TheVariants as commands;
+    ghost use Rattle.xw_commands.specs.declared.query.Query.TheVariants as queries;
 
     /// Answers `match`: the active words that fit a pattern.
     pub(crate) fn answer_match<W: Sink>(
         &self,
         pattern: &[u8],
         sink: &mut W,
-    ) -> Result<Step, WriteFailed>
-        ensures { AnswersTo W.transcript W.failures self.now (commands.Match pattern.now) result self.now sink.old sink.new }
+    ) -> Result<Ended, WriteFailed>
+        ensures { AnswersQuery W.transcript W.failures self.now (queries.Match pattern.now) result sink.old sink.new }
     {
         match self.engine.bank().matching(pattern) {
             Ok(words) => {
@@ -186,24 +185,24 @@ impl<E: Feasible> Session<E> {
     }
 
     /// Answers `show`: the grid.
-    pub(crate) fn answer_show<W: Sink>(&self, sink: &mut W) -> Result<Step, WriteFailed>
-        ensures { AnswersTo W.transcript W.failures self.now commands.Show result self.now sink.old sink.new }
+    pub(crate) fn answer_show<W: Sink>(&self, sink: &mut W) -> Result<Ended, WriteFailed>
+        ensures { AnswersQuery W.transcript W.failures self.now queries.Show result sink.old sink.new }
     {
         show::write_grid(sink, self.engine.grid())?;
         end_answer(sink, Ok(()))
     }
 
     /// Answers `lights`: all lights.
-    pub(crate) fn answer_lights<W: Sink>(&self, sink: &mut W) -> Result<Step, WriteFailed>
-        ensures { AnswersTo W.transcript W.failures self.now commands.Lights result self.now sink.old sink.new }
+    pub(crate) fn answer_lights<W: Sink>(&self, sink: &mut W) -> Result<Ended, WriteFailed>
+        ensures { AnswersQuery W.transcript W.failures self.now queries.Lights result sink.old sink.new }
     {
         lists::write_lights(sink, self.engine.grid(), self.engine.lights())?;
         end_answer(sink, Ok(()))
     }
 
     /// Answers `circles`: the open circled cells.
-    pub(crate) fn answer_circles<W: Sink>(&self, sink: &mut W) -> Result<Step, WriteFailed>
-        ensures { AnswersTo W.transcript W.failures self.now commands.Circles result self.now sink.old sink.new }
+    pub(crate) fn answer_circles<W: Sink>(&self, sink: &mut W) -> Result<Ended, WriteFailed>
+        ensures { AnswersQuery W.transcript W.failures self.now queries.Circles result sink.old sink.new }
     {
         lists::write_circles(sink, self.engine.grid(), &self.circles)?;
         end_answer(sink, Ok(()))
@@ -242,8 +241,8 @@ impl<E: Feasible> Session<E> {
         named: LightArg,
         most: Option<u64>,
         sink: &mut W,
-    ) -> Result<Step, WriteFailed>
-        ensures { AnswersTo W.transcript W.failures self.now (commands.Words named most) result self.now sink.old sink.new }
+    ) -> Result<Ended, WriteFailed>
+        ensures { AnswersQuery W.transcript W.failures self.now (queries.Words named most) result sink.old sink.new }
     {
         match self.counted_words(named) {
             Some((count, found)) => {
@@ -256,7 +255,7 @@ impl<E: Feasible> Session<E> {
 
     /// Returns the feasible letters of a cell. Returns `OutOfGrid` or `OnBlock` if it has none.
     fn letters(&self, spot: CellArg) -> Result<LetterSet, Refusal>
-        ensures ok { IfOk result (λ set. lettered self.now (cell_of spot) ≡ shown self.now (letters_line (letters_in set))) }
+        ensures ok { IfOk result (λ set. lettered self.now (cell_of spot) ≡ Ok (letters_line (letters_in set))) }
         ensures refused { IfErr result (λ refusal. lettered self.now (cell_of spot) ≡ Err refusal) }
     {
         let cell = self.cell(spot)?;
@@ -269,8 +268,8 @@ impl<E: Feasible> Session<E> {
         &self,
         spot: CellArg,
         sink: &mut W,
-    ) -> Result<Step, WriteFailed>
-        ensures { AnswersTo W.transcript W.failures self.now (commands.Letters spot) result self.now sink.old sink.new }
+    ) -> Result<Ended, WriteFailed>
+        ensures { AnswersQuery W.transcript W.failures self.now (queries.Letters spot) result sink.old sink.new }
     {
         match self.letters(spot) {
             Ok(letters) => {
@@ -282,8 +281,8 @@ impl<E: Feasible> Session<E> {
     }
 
     /// Answers `dups`: the lights that spell the same as an earlier light.
-    pub(crate) fn answer_duplicates<W: Sink>(&self, sink: &mut W) -> Result<Step, WriteFailed>
-        ensures { AnswersTo W.transcript W.failures self.now commands.Duplicates result self.now sink.old sink.new }
+    pub(crate) fn answer_duplicates<W: Sink>(&self, sink: &mut W) -> Result<Ended, WriteFailed>
+        ensures { AnswersQuery W.transcript W.failures self.now queries.Duplicates result sink.old sink.new }
     {
         match duplicates(self.alloc, &self.engine) {
             Ok(found) => {
@@ -295,8 +294,8 @@ impl<E: Feasible> Session<E> {
     }
 
     /// Answers `unlisted`: the lights whose words are not active.
-    pub(crate) fn answer_unlisted<W: Sink>(&self, sink: &mut W) -> Result<Step, WriteFailed>
-        ensures { AnswersTo W.transcript W.failures self.now commands.Unlisted result self.now sink.old sink.new }
+    pub(crate) fn answer_unlisted<W: Sink>(&self, sink: &mut W) -> Result<Ended, WriteFailed>
+        ensures { AnswersQuery W.transcript W.failures self.now queries.Unlisted result sink.old sink.new }
     {
         match unlisted(self.alloc, &self.engine) {
             Ok(found) => {
@@ -308,8 +307,9 @@ impl<E: Feasible> Session<E> {
     }
 
     /// Answers `suggest`: the next word to place.
-    pub(crate) fn answer_suggestion<W: Sink>(&mut self, sink: &mut W) -> Result<Step, WriteFailed>
-        ensures { AnswersTo W.transcript W.failures self.old commands.Suggest result self.new sink.old sink.new }
+    pub(crate) fn answer_suggestion<W: Sink>(&mut self, sink: &mut W) -> Result<Ended, WriteFailed>
+        ensures answer { AnswersQuery W.transcript W.failures self.old queries.Suggest result sink.old sink.new }
+        ensures unchanged { self.new ≡ self.old }
     {
         let suggestion = suggest(&mut self.engine);
         write_suggestion(sink, &self.engine, suggestion)?;
@@ -318,15 +318,15 @@ impl<E: Feasible> Session<E> {
 }
 
 impl<E: Searchable> Session<E> {
-    ghost use Rattle.xw_commands.specs.declared.command.Command.TheVariants as commands;
+    ghost use Rattle.xw_commands.specs.declared.search.Search.TheVariants as searches;
 
     /// Answers `fill`: fills the grid with at most `limit` placements, if possible.
     pub(crate) fn answer_fill<W: Sink>(
         &mut self,
         limit: u64,
         sink: &mut W,
-    ) -> Result<Step, WriteFailed>
-        ensures { AnswersTo W.transcript W.failures self.old (commands.Fill limit) result self.new sink.old sink.new }
+    ) -> Result<Ended, WriteFailed>
+        ensures { AnswersSearch W.transcript W.failures self.old (searches.Fill limit) result self.new sink.old sink.new }
     {
         let filled = fill(self.alloc, &mut self.engine, limit);
         self.hints

@@ -1,24 +1,23 @@
 //! Answers `why`.
 ghost use Rattle.std.specs.Prelude.{◌≡◌, IfOk, IfErr};
-ghost use Rattle.xw_reason.specs.Reason.{entry_in, IsReasonOf, IsRefused};
+ghost use Rattle.xw_fill.specs.Reason.{entry_in, IsReasonOf, IsRefused};
 ghost use Rattle.xw_lines.specs.Sends.{Sends};
 ghost use Rattle.xw_session.specs.Reply.{name_of_light};
 ghost use Rattle.xw_session.specs.Why.{entry_lines, refusal_without_reason as refusal_where_none};
 ghost use Rattle.xw_session.specs.State.{State};
-ghost use Rattle.xw_session.specs.Answer.{AnswersTo, why_reply, text_of, step_of};
+ghost use Rattle.xw_session.specs.Answer.{AnswersQuery, why_reply, text_of, ended_by};
 
 use crate::lookup::light_name;
-use crate::session::{Session, end_answer};
+use crate::session::{Ended, Session, end_answer};
 use std::alloc::Global;
 use xw_answers::refusal::Refusal;
 use xw_answers::text;
 use xw_commands::command::LightArg;
 use xw_feas::feasible::Feasible;
+use xw_fill::{NoReason, reason};
 use xw_grid::{Grid, GridFault};
 use xw_letters::Letter;
 use xw_lines::device::{Sink, WriteFailed};
-use xw_lines::outcome::Step;
-use xw_reason::{NoReason, reason};
 
 /// Returns the entry at an index, or none past the end.
 fn entry_at(entries: &[Option<Letter>], index: usize) -> Option<Letter>
@@ -61,9 +60,9 @@ fn end_reason<W: Sink>(
     sink: &mut W,
     grid: &Grid,
     found: Result<Vec<Option<Letter>>, NoReason>,
-) -> Result<Step, WriteFailed>
+) -> Result<Ended, WriteFailed>
     ensures sends { (state : State) → Sends W.transcript W.failures sink.old sink.new result (text_of (why_reply grid.now found state)) }
-    ensures step { (state : State) → IfOk result (λ step. step ≡ step_of (why_reply grid.now found state)) }
+    ensures step { (state : State) → IfOk result (λ ended. ended ≡ ended_by (why_reply grid.now found state)) }
 {
     match found {
         Ok(entries) => {
@@ -92,15 +91,16 @@ fn reason_for<E: Feasible>(
 }
 
 impl<E: Feasible> Session<E> {
-    ghost use Rattle.xw_commands.specs.declared.command.Command.TheVariants as commands;
+    ghost use Rattle.xw_commands.specs.declared.query.Query.TheVariants as queries;
 
     /// Answers `why`: the entries of a reason why a light has no feasible word.
     pub(crate) fn answer_why<W: Sink>(
         &mut self,
         named: LightArg,
         sink: &mut W,
-    ) -> Result<Step, WriteFailed>
-        ensures { AnswersTo W.transcript W.failures self.old (commands.Why named) result self.new sink.old sink.new }
+    ) -> Result<Ended, WriteFailed>
+        ensures answer { AnswersQuery W.transcript W.failures self.old (queries.Why named) result sink.old sink.new }
+        ensures unchanged { self.new ≡ self.old }
     {
         let found = reason_for(self.alloc, &mut self.engine, named);
         end_reason(sink, self.engine.grid(), found)

@@ -1,15 +1,15 @@
 //! Answers `tally`.
-ghost use Rattle.std.specs.Prelude.{◌≡◌, Some, Err, IfOk, IfErr, flat_map, [], ◌∷◌};
+ghost use Rattle.std.specs.Prelude.{◌≡◌, Some, Ok, Err, IfOk, IfErr, flat_map, [], ◌∷◌};
 ghost use Rattle.xw_letters.specs.LetterSet.{letters_in};
 ghost use Rattle.xw_grid.specs.Light.{lights_of, index_through};
 ghost use Rattle.xw_lines.specs.Sends.{Sends};
 ghost use Rattle.xw_answers.specs.Text.{line_of};
 ghost use Rattle.xw_answers.specs.Token.{token_bytes};
 ghost use Rattle.xw_session.specs.Tally.{distance as distance_of, words_with as count_of_words_with, tally_at as tally_in, number_or_dash as number_or_a_dash, tally_line};
-ghost use Rattle.xw_session.specs.Reply.{cell_of, tallied as tallied_so, shown};
-ghost use Rattle.xw_session.specs.Answer.{AnswersTo};
+ghost use Rattle.xw_session.specs.Reply.{cell_of, tallied as tallied_so};
+ghost use Rattle.xw_session.specs.Answer.{AnswersQuery};
 
-use crate::session::{Session, end_answer};
+use crate::session::{Ended, Session, end_answer};
 use xw_answers::answer_line::{Token, write_line};
 use xw_answers::refusal::Refusal;
 use xw_commands::command::CellArg;
@@ -17,7 +17,6 @@ use xw_feas::searchable::Searchable;
 use xw_grid::{Cell, Direction, Lights};
 use xw_letters::{Letter, LetterSet};
 use xw_lines::device::{Sink, WriteFailed};
-use xw_lines::outcome::Step;
 
 /// Returns the index of the light through a cell in a direction.
 pub(crate) fn light_through(lights: &Lights, direction: Direction, cell: Cell) -> Option<usize>
@@ -130,11 +129,11 @@ fn write_tallies<E: Searchable, W: Sink>(
 }
 
 impl<E: Searchable> Session<E> {
-    ghost use Rattle.xw_commands.specs.declared.command.Command.TheVariants as commands;
+    ghost use Rattle.xw_commands.specs.declared.query.Query.TheVariants as queries;
 
     /// Returns a cell with its feasible letters. Returns `OutOfGrid` or `OnBlock` if it has none.
     fn tallied(&self, spot: CellArg) -> Result<(Cell, LetterSet), Refusal>
-        ensures ok { IfOk result (λ found. tallied_so self.now (cell_of spot) ≡ shown self.now (flat_map (tally_line self.now.engine found.0) (letters_in found.1))) }
+        ensures ok { IfOk result (λ found. tallied_so self.now (cell_of spot) ≡ Ok (flat_map (tally_line self.now.engine found.0) (letters_in found.1))) }
         ensures refused { IfErr result (λ refusal. tallied_so self.now (cell_of spot) ≡ Err refusal) }
     {
         let cell = self.cell(spot)?;
@@ -147,8 +146,8 @@ impl<E: Searchable> Session<E> {
         &self,
         spot: CellArg,
         sink: &mut W,
-    ) -> Result<Step, WriteFailed>
-        ensures { AnswersTo W.transcript W.failures self.now (commands.Tally spot) result self.now sink.old sink.new }
+    ) -> Result<Ended, WriteFailed>
+        ensures { AnswersQuery W.transcript W.failures self.now (queries.Tally spot) result sink.old sink.new }
     {
         match self.tallied(spot) {
             Ok(found) => {

@@ -1,19 +1,17 @@
 //! Answers the commands that report on the whole puzzle.
-ghost use Rattle.std.specs.Prelude.{◌<◌, length};
+ghost use Rattle.std.specs.Prelude.{◌≡◌, ◌<◌, length};
 ghost use Rattle.xw_grid.specs.Light.{lights_of};
 ghost use Rattle.xw_lines.specs.Sends.{Sends};
-ghost use Rattle.xw_session.specs.Told.{letters_told, cell_lines, count_line, count_lines, text_lines};
+ghost use Rattle.xw_session.specs.Told.{letters_told, cell_lines, count_line, count_lines, text_lines, unless_longer as unless_longer_one, longest as longest_light, longest_line, told_lines};
 ghost use Rattle.xw_answers.specs.Stats.{stat_lines};
-ghost use Rattle.xw_session.specs.Reply.{told_lines};
-ghost use Rattle.xw_session.specs.Answer.{AnswersTo};
+ghost use Rattle.xw_session.specs.Answer.{AnswersQuery};
 
-use crate::session::{Session, end_answer};
+use crate::session::{Ended, Session, end_answer};
 use xw_answers::{fields, stats, text};
-use xw_commands::command::Report;
+use xw_commands::query::Report;
 use xw_feas::feasible::Feasible;
-use xw_grid::Cell;
+use xw_grid::{Cell, Light, Lights};
 use xw_lines::device::{Sink, WriteFailed};
-use xw_lines::outcome::Step;
 
 /// Writes the feasible letters of a cell. Writes nothing for a block.
 fn write_cell_letters<E: Feasible, W: Sink>(
@@ -66,8 +64,42 @@ fn write_counts<E: Feasible, W: Sink>(sink: &mut W, engine: &E) -> Result<(), Wr
     Ok(())
 }
 
+/// Returns the second light if it is longer, and otherwise the first.
+fn unless_longer(light: Light, other: Option<Light>) -> Option<Light>
+    ensures { result ≡ unless_longer_one light other }
+{
+    match other {
+        Some(other) if light.size < other.size => Some(other),
+        _ => Some(light),
+    }
+}
+
+/// Returns the first of the longest lights, if there is any.
+#[tactic(auto, using(std::proofs::lemmas::List::drop_more))]
+fn longest(lights: &Lights) -> Option<Light>
+    ensures { result ≡ longest_light lights.now }
+{
+    let mut found = None;
+    let mut index = lights.len();
+    while index > 0 {
+        index -= 1;
+        found = unless_longer(lights.at(index), found);
+    }
+    found
+}
+
+/// Writes a light with its length. Writes nothing if there is no light.
+fn write_longest<W: Sink>(sink: &mut W, light: Option<Light>) -> Result<(), WriteFailed>
+    ensures { Sends W.transcript W.failures sink.old sink.new result (longest_line light) }
+{
+    match light {
+        Some(light) => text::write_numbered(sink, light.name, u64::from(light.size)),
+        None => Ok(()),
+    }
+}
+
 impl<E: Feasible> Session<E> {
-    ghost use Rattle.xw_commands.specs.declared.command.Command.TheVariants as commands;
+    ghost use Rattle.xw_commands.specs.declared.query.Query.TheVariants as queries;
 
     /// Writes the texts, and the clues of the lights.
     fn write_texts<W: Sink>(&self, sink: &mut W) -> Result<(), WriteFailed>
@@ -86,23 +118,24 @@ impl<E: Feasible> Session<E> {
         stats::write_stats(sink, engine.grid(), engine.lights())
     }
 
-    fn write_told<W: Sink>(&self, telling: Report, sink: &mut W) -> Result<(), WriteFailed>
-        ensures { Sends W.transcript W.failures sink.old sink.new result (told_lines self.now telling) }
+    fn write_told<W: Sink>(&self, report: Report, sink: &mut W) -> Result<(), WriteFailed>
+        ensures { Sends W.transcript W.failures sink.old sink.new result (told_lines self.now report) }
     {
-        match telling {
+        match report {
             Report::Cells => write_cells(sink, &self.engine),
             Report::Counts => write_counts(sink, &self.engine),
             Report::Texts => self.write_texts(sink),
             Report::Stats => self.write_stats(sink),
+            Report::Longest => write_longest(sink, longest(self.engine.lights())),
             Report::Record => self.write_record(sink),
         }
     }
 
     /// Answers a command that reports on the whole puzzle.
-    pub(crate) fn tell<W: Sink>(&self, telling: Report, sink: &mut W) -> Result<Step, WriteFailed>
-        ensures { AnswersTo W.transcript W.failures self.now (commands.Tell telling) result self.now sink.old sink.new }
+    pub(crate) fn tell<W: Sink>(&self, report: Report, sink: &mut W) -> Result<Ended, WriteFailed>
+        ensures { AnswersQuery W.transcript W.failures self.now (queries.Tell report) result sink.old sink.new }
     {
-        self.write_told(telling, sink)?;
+        self.write_told(report, sink)?;
         end_answer(sink, Ok(()))
     }
 }

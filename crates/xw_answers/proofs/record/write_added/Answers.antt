@@ -2,7 +2,7 @@ use Rattle.std.proofs.Common.{◌≡◌, ◌<◌, ◌≤◌, ◌+◌, ◌-◌, �
 use Rattle.std.proofs.lemmas.Result.{err_from_is_err_and}
 use Rattle.std.proofs.lemmas.List.{get_or-drop, length-drop}
 use Rattle.xw_words.specs.Dictionary.{Entry, row, no_entry}
-use Rattle.xw_commands.specs.declared.command.Command.TheVariants.{Add}
+use Rattle.xw_commands.specs.declared.change.Change.TheVariants.{Add}
 use Rattle.xw_answers.specs.Spelling.{command_line}
 use Rattle.xw_answers.specs.Record.{named_grade, add_command}
 use Rattle.xw_answers.proofs.Recording.{line_of_each, sent_as, stops_as}

@@ -2,8 +2,8 @@ use Rattle.std.proofs.Common.{inl, inr, sym, subst}
 use Rattle.std.proofs.lemmas.Result.{err_from_is_err_and}
 use Rattle.std.specs.Prelude.{Ok, Err}
 use Rattle.xw_disk.specs.Disk.{open_, started}
-use Rattle.xw_puzzle_files.specs.Files.{Asks}
-use Rattle.xw_cli.specs.SessionFiles.{Replays, TellsCutIf}
+use Rattle.xw_puzzle_files.specs.Desk.{Asks, ReportsIf}
+use Rattle.xw_cli.specs.SessionFiles.{Replays, cut_line}
 use Rattle.xw_cli.proofs.journal.resume_journal.Goals as goal
 
 pub returns-in_err-refused-clause-err : goal.returns-in_err-refused-clause-err
@@ -12,10 +12,12 @@ returns-in_err-refused-clause-err g c =
     rw (e.1, e.2)
     (inr (inl (record {
       bytes = c.as_slice-text.result.now;
-      asks = subst (λ bytes. Asks (open_ c.args.file.now (Ok bytes)) (g.D.Disk.log c.args.disk.now) (g.D.Disk.log c.open_journal.new.disk)) (sym c.as_slice-text.ensures.value) c.in_ok-opened.ensures.ok;
       state = c.resume_text.new.session;
-      why = inl (subst (λ lines. Replays g.E.Sink.transcript g.E.Sink.failures c.args.file.now lines c.args.session.now c.resume_text.new.session (Err c.in_err-refused.field-0.0) c.args.errors.now c.resume_text.new.errors)
-          c.kept.ensures.lines c.in_err-refused.ensures);
+      why = inl (record {
+        mid = c.open_journal.new.desk;
+        opens = subst (λ bytes. Asks (open_ c.args.file.now (Ok bytes)) c.args.desk.now c.open_journal.new.desk) (sym c.as_slice-text.ensures.value) c.in_ok-opened.ensures.ok;
+        replays = subst (λ lines. Replays c.args.file.now lines c.args.session.now c.resume_text.new.session (Err c.in_err-refused.field-0.0) c.open_journal.new.desk c.resume_text.new.desk) c.kept.ensures.lines c.in_err-refused.ensures;
+      });
     })))
 
 pub returns-in_err-start-clause-err : goal.returns-in_err-start-clause-err
@@ -24,32 +26,39 @@ returns-in_err-start-clause-err g c =
     rw (e.1, e.2)
     (inr (inl (record {
       bytes = c.as_slice-text.result.now;
-      asks = subst (λ bytes. Asks (open_ c.args.file.now (Ok bytes)) (g.D.Disk.log c.args.disk.now) (g.D.Disk.log c.open_journal.new.disk)) (sym c.as_slice-text.ensures.value) c.in_ok-opened.ensures.ok;
       state = c.resume_text.new.session;
       why = inr (
         c.in_ok-refused.refused,
-        subst (λ lines. Replays g.E.Sink.transcript g.E.Sink.failures c.args.file.now lines c.args.session.now c.resume_text.new.session (Ok c.in_ok-refused.refused) c.args.errors.now c.resume_text.new.errors)
-            c.kept.ensures.lines c.in_ok-refused.ensures,
+        record {
+          mid = c.open_journal.new.desk;
+          opens = subst (λ bytes. Asks (open_ c.args.file.now (Ok bytes)) c.args.desk.now c.open_journal.new.desk) (sym c.as_slice-text.ensures.value) c.in_ok-opened.ensures.ok;
+          replays = subst (λ lines. Replays c.args.file.now lines c.args.session.now c.resume_text.new.session (Ok c.in_ok-refused.refused) c.open_journal.new.desk c.resume_text.new.desk) c.kept.ensures.lines c.in_ok-refused.ensures;
+        },
         c.in_err-start.ensures.err,
       );
     })))
 
-pub returns-in-Err-clause-err : goal.returns-in-Err-clause-err
-returns-in-Err-clause-err g c =
-    inr (inr (inl (record {
+pub returns-in_err-journal-clause-err : goal.returns-in_err-journal-clause-err
+returns-in_err-journal-clause-err g c =
+    let e = err_from_is_err_and c.from_residual-in_err-journal.result c.from_residual-in_err-journal.ensures.1 in
+    let why = c.in_err-journal.ensures.err in
+    rw (e.1, e.2)
+    (inr (inr (inl (record {
       bytes = c.as_slice-text.result.now;
-      mid = g.D.Disk.log c.open_journal.new.disk;
-      opens = subst (λ bytes. Asks (open_ c.args.file.now (Ok bytes)) (g.D.Disk.log c.args.disk.now) (g.D.Disk.log c.open_journal.new.disk)) (sym c.as_slice-text.ensures.value) c.in_ok-opened.ensures.ok;
       state = c.resume_text.new.session;
       refused = c.in_ok-refused.refused;
-      replays = subst (λ lines. Replays g.E.Sink.transcript g.E.Sink.failures c.args.file.now lines c.args.session.now c.resume_text.new.session (Ok c.in_ok-refused.refused) c.args.errors.now c.resume_text.new.errors)
-          c.kept.ensures.lines c.in_ok-refused.ensures;
+      mid = c.resume_text.new.desk;
+      replays = record {
+        mid = c.open_journal.new.desk;
+        opens = subst (λ bytes. Asks (open_ c.args.file.now (Ok bytes)) c.args.desk.now c.open_journal.new.desk) (sym c.as_slice-text.ensures.value) c.in_ok-opened.ensures.ok;
+        replays = subst (λ lines. Replays c.args.file.now lines c.args.session.now c.resume_text.new.session (Ok c.in_ok-refused.refused) c.open_journal.new.desk c.resume_text.new.desk) c.kept.ensures.lines c.in_ok-refused.ensures;
+      };
       begun = started c.in_ok-start.start;
       begins = c.in_ok-start.ensures.ok;
-      fault = c.in-Err.fault;
-      told = c.failure_of.ensures;
-      asks = c.in-Err.ensures.log;
-    })))
+      fault = why.0;
+      told = why.1;
+      asks = why.2;
+    }))))
 
 pub returns-in_err-tell_cut_if-clause-err : goal.returns-in_err-tell_cut_if-clause-err
 returns-in_err-tell_cut_if-clause-err g c =
@@ -57,16 +66,20 @@ returns-in_err-tell_cut_if-clause-err g c =
     rw (e.1, e.2)
     (inr (inr (inr (record {
       bytes = c.as_slice-text.result.now;
-      mid = g.D.Disk.log c.open_journal.new.disk;
-      opens = subst (λ bytes. Asks (open_ c.args.file.now (Ok bytes)) (g.D.Disk.log c.args.disk.now) (g.D.Disk.log c.open_journal.new.disk)) (sym c.as_slice-text.ensures.value) c.in_ok-opened.ensures.ok;
       state = c.resume_text.new.session;
       refused = c.in_ok-refused.refused;
-      told = c.resume_text.new.errors;
-      replays = subst (λ lines. Replays g.E.Sink.transcript g.E.Sink.failures c.args.file.now lines c.args.session.now c.resume_text.new.session (Ok c.in_ok-refused.refused) c.args.errors.now c.resume_text.new.errors)
-          c.kept.ensures.lines c.in_ok-refused.ensures;
-      begun = started c.in_ok-start.start;
-      begins = c.in_ok-start.ensures.ok;
-      asks = c.in-Ok.ensures.log;
+      mid = c.begin_journal.new.desk;
+      is_begun = record {
+        mid = c.resume_text.new.desk;
+        replays = record {
+          mid = c.open_journal.new.desk;
+          opens = subst (λ bytes. Asks (open_ c.args.file.now (Ok bytes)) c.args.desk.now c.open_journal.new.desk) (sym c.as_slice-text.ensures.value) c.in_ok-opened.ensures.ok;
+          replays = subst (λ lines. Replays c.args.file.now lines c.args.session.now c.resume_text.new.session (Ok c.in_ok-refused.refused) c.open_journal.new.desk c.resume_text.new.desk) c.kept.ensures.lines c.in_ok-refused.ensures;
+        };
+        begun = started c.in_ok-start.start;
+        begins = c.in_ok-start.ensures.ok;
+        asks = c.in_ok-journal.ensures.ok;
+      };
       cut = inl c.in_err-tell_cut_if.ensures.untold;
       memory = c.in_err-tell_cut_if.ensures.memory;
     }))))
@@ -75,13 +88,17 @@ pub returns-clause-ok : goal.returns-clause-ok
 returns-clause-ok g c =
     record {
       bytes = c.as_slice-text.result.now;
-      mid = g.D.Disk.log c.open_journal.new.disk;
-      opens = subst (λ bytes. Asks (open_ c.args.file.now (Ok bytes)) (g.D.Disk.log c.args.disk.now) (g.D.Disk.log c.open_journal.new.disk)) (sym c.as_slice-text.ensures.value) c.in_ok-opened.ensures.ok;
-      told = c.resume_text.new.errors;
-      replays = subst (λ lines. Replays g.E.Sink.transcript g.E.Sink.failures c.args.file.now lines c.args.session.now c.resume_text.new.session (Ok c.in_ok-refused.refused) c.args.errors.now c.resume_text.new.errors)
-          c.kept.ensures.lines c.in_ok-refused.ensures;
-      begun = started c.in_ok-start.start;
-      begins = c.in_ok-start.ensures.ok;
-      asks = c.in-Ok.ensures.log;
-      cut = subst (λ is_due. TellsCutIf g.E.Sink.transcript g.E.Sink.failures c.args.file.now is_due c.resume_text.new.errors c.tell_cut_if.new.errors) c.drops.ensures c.in_ok-tell_cut_if.ensures.told;
+      mid = c.begin_journal.new.desk;
+      is_begun = record {
+        mid = c.resume_text.new.desk;
+        replays = record {
+          mid = c.open_journal.new.desk;
+          opens = subst (λ bytes. Asks (open_ c.args.file.now (Ok bytes)) c.args.desk.now c.open_journal.new.desk) (sym c.as_slice-text.ensures.value) c.in_ok-opened.ensures.ok;
+          replays = subst (λ lines. Replays c.args.file.now lines c.args.session.now c.resume_text.new.session (Ok c.in_ok-refused.refused) c.open_journal.new.desk c.resume_text.new.desk) c.kept.ensures.lines c.in_ok-refused.ensures;
+        };
+        begun = started c.in_ok-start.start;
+        begins = c.in_ok-start.ensures.ok;
+        asks = c.in_ok-journal.ensures.ok;
+      };
+      cut = subst (λ is_due. ReportsIf is_due (cut_line c.args.file.now) c.begin_journal.new.desk c.tell_cut_if.new.desk) c.drops.ensures c.in_ok-tell_cut_if.ensures.told;
     }

@@ -1,16 +1,16 @@
-use Rattle.std.proofs.Common.{◌≡◌, ◌++◌, ◌-◌, ℕ, List, arith, length, subst}
+use Rattle.std.proofs.Common.{◌≡◌, ◌++◌, ◌-◌, ap, ℕ, Bool, List, arith, length, subst}
 use Rattle.xw_words.specs.WordList.{results_of}
-use Rattle.xw_puzzle_files.specs.Explained.{GoesOut}
-use Rattle.xw_cli.specs.SessionFiles.{added_in, counts_line}
+use Rattle.xw_puzzle_files.specs.Desk.{Moment, Reports}
+use Rattle.xw_cli.specs.SessionFiles.{AreNotes, added_in, counts_line}
 use Rattle.xw_cli.proofs.session_files.dictionary_of.Goals as goal
 
 -- counts and notes that are written are written with other names for them
-told_as : {S : Type 0} (transcript : S → List ℕ) (failures : S → ℕ) (old new : S) (name : List ℕ) (added added' skipped skipped' : ℕ) (notes notes' : List ℕ) → added ≡ added' → skipped ≡ skipped' → notes ≡ notes'
-    → GoesOut transcript failures old new (counts_line name added skipped ++ notes) → GoesOut transcript failures old new (counts_line name added' skipped' ++ notes')
-told_as transcript failures old new name added added' skipped skipped' notes notes' a s n goes =
-    subst (λ (k : ℕ). GoesOut transcript failures old new (counts_line name k skipped' ++ notes')) a
-    (subst (λ (k : ℕ). GoesOut transcript failures old new (counts_line name added k ++ notes')) s
-    (subst (λ (t : List ℕ). GoesOut transcript failures old new (counts_line name added skipped ++ t)) n goes))
+told_as : (old new : Moment) (name : List ℕ) (added added' skipped skipped' : ℕ) (notes notes' : List ℕ) → added ≡ added' → skipped ≡ skipped' → notes ≡ notes'
+    → Reports (counts_line name added skipped ++ notes) old new → Reports (counts_line name added' skipped' ++ notes') old new
+told_as old new name added added' skipped skipped' notes notes' a s n reports =
+    subst (λ (k : ℕ). Reports (counts_line name k skipped' ++ notes') old new) a
+    (subst (λ (k : ℕ). Reports (counts_line name added k ++ notes') old new) s
+    (subst (λ (t : List ℕ). Reports (counts_line name added skipped ++ t) old new) n reports))
 
 pub returns-in-Ok-clause-told : goal.returns-in-Ok-clause-told
 returns-in-Ok-clause-told g c =
@@ -18,6 +18,6 @@ returns-in-Ok-clause-told g c =
     let bytes = c.args.bytes.now in
     let added : c.in-Ok.loaded.added ≡ added_in bytes = c.in-Ok.ensures.added in
     let skipped : c.in-Ok.loaded.skipped ≡ length (results_of bytes) - added_in bytes = omega (arith, c.in-Ok.ensures.added, c.in-Ok.ensures.lines) in
-    let told = told_as g.E.Sink.transcript g.E.Sink.failures c.args.errors.now c.tell_loaded.new.errors c.args.file.now c.in-Ok.loaded.added (added_in bytes) c.in-Ok.loaded.skipped (length (results_of bytes) - added_in bytes)
+    let told = told_as c.args.desk.now c.tell_loaded.new.desk c.args.file.now c.in-Ok.loaded.added (added_in bytes) c.in-Ok.loaded.skipped (length (results_of bytes) - added_in bytes)
     c.as_str.result.now notes added skipped c.as_str.ensures.value c.in_ok-tell_loaded-in-Ok.ensures.told in
-    (notes, c.in_ok-notes.ensures, told)
+    (notes, subst (λ (due : Bool). AreNotes due notes) (ap (λ (moment : Moment). moment.explains) c.desk.view_is) c.in_ok-notes.ensures, told)

@@ -13,11 +13,11 @@ loop-rest-init g c = record {
 
 pub loop-rest-preserved-in-Some : goal.loop-rest-preserved-in-Some
 loop-rest-preserved-in-Some g c =
-    let drawn = c.in-Some.ensures.some in
+    let drew = c.in-Some.ensures.some in
     record {
-      numbered = omega (arith, drawn.shorter, c.loop-rest.invariant.numbered);
-      counted = omega (arith, c.loop-rest.invariant.counted);
-      goes = goes-jump g.E.Sink.transcript g.E.Sink.failures _ _ _ _ _ _ _ _ _ _ _ _ drawn c.loop-rest.invariant.goes;
+      numbered = omega (arith, drew.shorter, c.loop-rest.invariant.numbered);
+      counted = omega (arith, drew.few, c.loop-rest.invariant.counted);
+      goes = goes-jump g.E.Sink.transcript g.E.Sink.failures _ _ _ _ _ _ _ _ _ _ _ _ _ _ _ drew (rw c.as_slice.ensures.value at c.tell.ensures) c.loop-rest.invariant.goes;
     }
 
 pub loop-rest-preserved : goal.loop-rest-preserved

@@ -22,7 +22,7 @@ use denote.Triple.Walked.{Stays, stay_dropped, walk_of, Goes-dropped}
 use Rattle.std.proofs.raw_atomic.Walks.{proved, leaves}
 use Rattle.std_alloc.proofs.ResultValues.{and_tt}
 use Rattle.xw_c.specs.Held.{held}
-use Rattle.xw_engine.specs.contracts.engine.Engine as engine
+use Rattle.xw_c.specs.contracts.open_session.OpenSession as open_session
 use Rattle.xw_c.specs.contracts.held.Held as held_row
 use Rattle.xw_c.specs.contracts.held.Held.blank.{ended, clauses}
 use Rattle.xw_c.specs.contracts.held.Held.blank.Key.{name as #self}
@@ -37,11 +37,11 @@ blank_spec 𝓤 𝓛 𝓜 𝓡 wired =
     proved 𝓛 ended hs c 𝓜 𝓡 (Goes-dropped 𝓛 0 (plain (λ _. RawPtr)) yes (λ κs x f. refl), tt) #self fn (code.unfolded 𝓤 H 𝓜 𝓡 wired)
     (λ κs. (rawptr_vals, tt)) (λ κs. (rawptr_Tells, tt)) (λ κs qs bounds a n are.
     let p = a.0 in let z : (walk_of 𝓛 ended hs c).Ghost = ((κs, qs, bounds, a, (rawptr_vals p, tt)), n) in let Post : Val → SProp 𝓤 = (walk_of 𝓛 ended hs c).post z in
-    let asked = raw ((c κs a).requires n) in let kept : Option engine.the_row.Denot = None in let out : Val = vstruct (vcons (ptr_val p) vnil) in let ok = (rawptr_Lawful 𝓛).typed p (rawptr_vals p) refl in
+    let asked = raw ((c κs a).requires n) in let kept : Option open_session.the_row.Denot = None in let out : Val = vstruct (vcons (ptr_val p) vnil) in let ok = (rawptr_Lawful 𝓛).typed p (rawptr_vals p) refl in
     qed 𝓛 ((‵ ftrue ⊛ ‵ (owns (types_at ended.signature.params κs) a (rawptr_vals p, tt))) ∷ asked ∷ []) ∵ split ! $
     enter ! 𝓣.C 𝓣.Λ fn (rawptr_vals p) Post $ alloc_all ! (λ l. pass_all ! refl ok $
     sets ! (agg ! (and_then ! (get ! refl) (no_more !))) refl (and_tt (has_ty ty_ptr (ptr_val p)) ok.0.0, (ok.0.1, tt)) $
     nothing ! $ nothing ! $ feq_i ! (List Val) (ptr_val p ∷ []) (ptr_val p ∷ []) refl $ fjoin ! $ feq_i ! (List Val) (out ∷ []) (out ∷ []) refl $ fjoin ! $
     fpack ! (Valss (RawPtr ∷ [])) (within (shape held_row.the_type) (p, tt) (out ∷ [])) (ptr_val p ∷ [], tt) $ fjoin ! $
     use0 𝓛 (raw (fact 𝓤 (kept ≡ kept))) (fact_i 𝓤 (kept ≡ kept) (emp 𝓤) refl) $ nothing ! $ nothing ! $ fjoin ! $
-    returns ! (look_at ! 0 refl) $ free_all ! refl $ keep ! (3 ∷ 0 ∷ 2 ∷ 1 ∷ []) $ by ! (leaves 𝓛 ended hs c z out (record { at = p; engine = kept }) (tt, tt) (tt, tt))))
+    returns ! (look_at ! 0 refl) $ free_all ! refl $ keep ! (3 ∷ 0 ∷ 2 ∷ 1 ∷ []) $ by ! (leaves 𝓛 ended hs c z out (record { at = p; session = kept }) (tt, tt) (tt, tt))))

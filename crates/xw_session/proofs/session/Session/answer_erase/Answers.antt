@@ -1,13 +1,12 @@
-use Rattle.std.proofs.Common.{◌≡◌, refl, ap, subst, sym, ◌∙◌}
+use Rattle.std.proofs.Common.{◌≡◌, Err, inl, refl, ap, subst, sym, ◌∙◌}
 use Rattle.xw_grid.specs.Grid.{IsGrid}
 use Rattle.xw_grid.specs.Light.{lights_of}
 use Rattle.xw_feas.specs.State.{after, list_written}
-use Rattle.xw_commands.specs.declared.command.Command.TheVariants as commands
 use Rattle.xw_answers.specs.declared.refusal.Refusal.TheVariants as refusals
 use Rattle.xw_session.specs.State.{State}
 use Rattle.xw_session.specs.Erase.{erased_cells, emptied}
 use Rattle.xw_session.specs.Reply.{moved, erased}
-use Rattle.xw_session.proofs.Answering.{refusal_answers}
+use Rattle.xw_session.proofs.Answering.{refused_answers}
 use Rattle.xw_answers.proofs.LightTexts.{found_short}
 use Rattle.xw_session.proofs.session.Session.answer_erase.Goals as goal
 
@@ -34,4 +33,4 @@ returns-in-Some g c =
 pub returns-in-None : goal.returns-in-None
 returns-in-None g c =
     let state = c.args.self.now in
-    refusal_answers g.W.Sink.transcript g.W.Sink.failures state (commands.Erase c.args.named) refusals.NoLight _ _ _ (ap (erased state) (sym c.light.ensures ∙ c.in-None.is)) c.end_answer.ensures.sends c.end_answer.ensures.step
+    (Err refusals.NoLight, ap (erased state) (sym c.light.ensures ∙ c.in-None.is), refused_answers g.W.Sink.transcript g.W.Sink.failures state (Err refusals.NoLight) _ refusals.NoLight _ _ _ (inl refl) c.end_answer.ensures.sends c.end_answer.ensures.step)

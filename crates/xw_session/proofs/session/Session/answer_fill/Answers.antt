@@ -2,8 +2,8 @@ use Rattle.std.proofs.Common.{subst, refl}
 use Rattle.xw_grid.specs.Puzzle.{texts_view}
 use Rattle.xw_session.specs.State.{State}
 use Rattle.xw_session.specs.Reply.{fill_tried}
-use Rattle.xw_commands.specs.declared.command.Command.TheVariants as commands
-use Rattle.xw_session.specs.Answer.{AnswersTo}
+use Rattle.xw_commands.specs.declared.search.Search.TheVariants as searches
+use Rattle.xw_session.specs.Answer.{AnswersSearch}
 use Rattle.xw_session.proofs.Engine.{fill_fits, fill_effect}
 use Rattle.xw_session.proofs.session.Session.answer_fill.Goals as goal
 
@@ -13,7 +13,7 @@ returns g c =
     let start : State = record { engine = g.E.Feasible.state left.engine; texts = texts_view left.texts; clues = left.clues; circles = left.circles; is_watched = left.is_watched; begun = left.begun } in
     let now = c.fill-filled.new.engine in
     let end : State = record start { engine = g.E.Feasible.state now } in
-    subst (λ (s : State). AnswersTo g.W.Sink.transcript g.W.Sink.failures s (commands.Fill c.args.limit) c.end_filling.result end c.args.sink.now c.end_filling.new.sink) c.self.view_is (
+    subst (λ (s : State). AnswersSearch g.W.Sink.transcript g.W.Sink.failures s (searches.Fill c.args.limit) c.end_filling.result end c.args.sink.now c.end_filling.new.sink) c.self.view_is (
       fill_tried start c.args.limit,
       refl,
       record {

@@ -1,17 +1,17 @@
-use Rattle.std.proofs.Common.{◌≡◌, ◌∙◌, List, Err, ap, sym, subst, false}
+use Rattle.std.proofs.Common.{◌≡◌, List, Ok, Err, ap, subst}
 use Rattle.std.specs.Prelude.{if◌then◌else◌}
 use Rattle.std.proofs.lemmas.Result.{err_from_is_err_and}
 use Rattle.xw_grid.specs.Puzzle.{texts_view}
 use Rattle.xw_fill.specs.NamedFill.{AreLights}
 use Rattle.xw_commands.specs.declared.command.LightArg.{LightArg}
-use Rattle.xw_commands.specs.declared.command.Command.TheVariants as commands
+use Rattle.xw_commands.specs.declared.query.Query.TheVariants as queries
 use Rattle.xw_answers.specs.declared.refusal.Refusal.TheVariants as refusals
 use Rattle.xw_session.specs.State.{State}
 use Rattle.xw_session.specs.Autofill.{names_of}
 use Rattle.xw_session.specs.Grades.{grade_lines}
-use Rattle.xw_session.specs.Reply.{graded, shown}
-use Rattle.xw_session.specs.Answer.{AnswersTo}
-use Rattle.xw_session.proofs.Answering.{query_answers, query_stops, refusal_answers}
+use Rattle.xw_session.specs.Reply.{graded}
+use Rattle.xw_session.specs.Answer.{AnswersQuery}
+use Rattle.xw_session.proofs.Answering.{query_answers, query_stops, query_refused}
 use Rattle.xw_session.proofs.Grading.{all_there, some_missing}
 use Rattle.xw_session.proofs.session.Session.answer_grades.Goals as goal
 
@@ -21,9 +21,9 @@ returns-then-not-are_lights g c =
     let start : State = record { engine = g.E.Feasible.state left.engine; texts = texts_view left.texts; clues = left.clues; circles = left.circles; is_watched = left.is_watched; begun = left.begun } in
     let names = names_of c.args.lights in
     let missing = some_missing start.engine names (subst (λ (lights : List LightArg). AreLights start.engine (names_of lights) → ⊥) c.copy.ensures (c.are_lights.ensures.no c.if-not-are_lights.true)) in
-    let refused : graded start names ≡ Err refusals.NoLight = ap (λ b. if b then shown start (grade_lines start.engine names) else Err refusals.NoLight) missing in
-    subst (λ (s : State). AnswersTo g.W.Sink.transcript g.W.Sink.failures s (commands.Grades c.args.lights) c.end_answer.result s c.args.sink.now c.end_answer.new.sink) c.self.view_is
-    (refusal_answers g.W.Sink.transcript g.W.Sink.failures start (commands.Grades c.args.lights) refusals.NoLight _ _ _ refused c.end_answer.ensures.sends c.end_answer.ensures.step)
+    let refused : graded start names ≡ Err refusals.NoLight = ap (λ b. if b then Ok (grade_lines start.engine names) else Err refusals.NoLight) missing in
+    subst (λ (s : State). AnswersQuery g.W.Sink.transcript g.W.Sink.failures s (queries.Grades c.args.lights) c.end_answer.result c.args.sink.now c.end_answer.new.sink) c.self.view_is
+    (query_refused g.W.Sink.transcript g.W.Sink.failures start (queries.Grades c.args.lights) refusals.NoLight _ _ _ refused c.end_answer.ensures.sends c.end_answer.ensures.step)
 
 pub write_grades-requires : goal.write_grades-requires
 write_grades-requires g c =
@@ -36,9 +36,9 @@ returns-in_err-write_grades g c =
     let start : State = record { engine = g.E.Feasible.state left.engine; texts = texts_view left.texts; clues = left.clues; circles = left.circles; is_watched = left.is_watched; begun = left.begun } in
     let names = names_of c.args.lights in
     let there = all_there start.engine names (subst (λ (lights : List LightArg). AreLights start.engine (names_of lights)) c.copy.ensures (c.are_lights.ensures.yes c.if-not-are_lights.false)) in
-    let told : graded start names ≡ shown start (grade_lines start.engine names) = ap (λ b. if b then shown start (grade_lines start.engine names) else Err refusals.NoLight) there in
-    rw e.1 (subst (λ (s : State). AnswersTo g.W.Sink.transcript g.W.Sink.failures s (commands.Grades c.args.lights) (Err e.0) s c.args.sink.now c.write_grades.new.sink) c.self.view_is
-    (query_stops g.W.Sink.transcript g.W.Sink.failures start (commands.Grades c.args.lights) (grade_lines start.engine names) e.0 _ _ told c.in_err-write_grades.ensures))
+    let told : graded start names ≡ Ok (grade_lines start.engine names) = ap (λ b. if b then Ok (grade_lines start.engine names) else Err refusals.NoLight) there in
+    rw e.1 (subst (λ (s : State). AnswersQuery g.W.Sink.transcript g.W.Sink.failures s (queries.Grades c.args.lights) (Err e.0) c.args.sink.now c.write_grades.new.sink) c.self.view_is
+    (query_stops g.W.Sink.transcript g.W.Sink.failures start (queries.Grades c.args.lights) (grade_lines start.engine names) e.0 _ _ told c.in_err-write_grades.ensures))
 
 pub returns : goal.returns
 returns g c =
@@ -46,6 +46,6 @@ returns g c =
     let start : State = record { engine = g.E.Feasible.state left.engine; texts = texts_view left.texts; clues = left.clues; circles = left.circles; is_watched = left.is_watched; begun = left.begun } in
     let names = names_of c.args.lights in
     let there = all_there start.engine names (subst (λ (lights : List LightArg). AreLights start.engine (names_of lights)) c.copy.ensures (c.are_lights.ensures.yes c.if-not-are_lights.false)) in
-    let told : graded start names ≡ shown start (grade_lines start.engine names) = ap (λ b. if b then shown start (grade_lines start.engine names) else Err refusals.NoLight) there in
-    subst (λ (s : State). AnswersTo g.W.Sink.transcript g.W.Sink.failures s (commands.Grades c.args.lights) c.end_answer-2.result s c.args.sink.now c.end_answer-2.new.sink) c.self.view_is
-    (query_answers g.W.Sink.transcript g.W.Sink.failures start (commands.Grades c.args.lights) (grade_lines start.engine names) _ _ _ _ told c.in_ok-write_grades.ensures c.end_answer-2.ensures.sends c.end_answer-2.ensures.step)
+    let told : graded start names ≡ Ok (grade_lines start.engine names) = ap (λ b. if b then Ok (grade_lines start.engine names) else Err refusals.NoLight) there in
+    subst (λ (s : State). AnswersQuery g.W.Sink.transcript g.W.Sink.failures s (queries.Grades c.args.lights) c.end_answer-2.result c.args.sink.now c.end_answer-2.new.sink) c.self.view_is
+    (query_answers g.W.Sink.transcript g.W.Sink.failures start (queries.Grades c.args.lights) (grade_lines start.engine names) _ _ _ _ told c.in_ok-write_grades.ensures c.end_answer-2.ensures.sends c.end_answer-2.ensures.step)

@@ -1,14 +1,14 @@
-use Rattle.std.proofs.Common.{◌≡◌, ℕ, ap, sym, ◌∙◌, subst, refl, inr, List, ◌++◌}
+use Rattle.std.proofs.Common.{◌≡◌, ℕ, ap, sym, ◌∙◌, subst, refl, List, ◌++◌}
 use Rattle.std.proofs.lemmas.Result.{err_from_is_err_and}
 use Rattle.std.specs.Prelude.{Some, flat_map}
 use Rattle.xw_grid.specs.Grid.{Grid}
 use Rattle.xw_fill.specs.Listing.{unlisted_of}
-use Rattle.xw_commands.specs.declared.command.Command.TheVariants as commands
+use Rattle.xw_commands.specs.declared.query.Query.TheVariants as queries
 use Rattle.xw_lines.specs.Device.{Begins}
 use Rattle.xw_answers.specs.Refusal.{refusal_of}
 use Rattle.xw_session.specs.State.{State}
 use Rattle.xw_answers.specs.Text.{spelled_line}
-use Rattle.xw_session.proofs.Answering.{query_answers, query_stops, refused_answers}
+use Rattle.xw_session.proofs.Answering.{query_answers, query_stops, query_unanswered}
 use Rattle.xw_session.proofs.session.Session.answer_unlisted.Goals as goal
 
 pub returns-in_err-write_unlisted-in-Ok : goal.returns-in_err-write_unlisted-in-Ok
@@ -20,7 +20,7 @@ returns-in_err-write_unlisted-in-Ok g c =
     let lines : flat_map (spelled_line c.grid.result.now) c.deref.result.now ≡ flat_map (spelled_line state.engine.grid) (unlisted_of state.engine) =
     ap (λ (grid : Grid). flat_map (spelled_line grid) c.deref.result.now) grid ∙ ap (flat_map (spelled_line state.engine.grid)) found in
     let wrote = c.in_err-write_unlisted-in-Ok.ensures in
-    rw e.1 (query_stops g.W.Sink.transcript g.W.Sink.failures state commands.Unlisted (flat_map (spelled_line state.engine.grid) (unlisted_of state.engine)) _ _ _ refl
+    rw e.1 (query_stops g.W.Sink.transcript g.W.Sink.failures state queries.Unlisted (flat_map (spelled_line state.engine.grid) (unlisted_of state.engine)) _ _ _ refl
     (subst (λ (xs : List ℕ). Begins (g.W.Sink.transcript c.args.sink.now) (g.W.Sink.transcript c.write_unlisted.new.sink) xs) lines wrote.0, wrote.1))
 
 pub returns-in_ok-write_unlisted-in-Ok : goal.returns-in_ok-write_unlisted-in-Ok
@@ -31,9 +31,9 @@ returns-in_ok-write_unlisted-in-Ok g c =
     let lines : flat_map (spelled_line c.grid.result.now) c.deref.result.now ≡ flat_map (spelled_line state.engine.grid) (unlisted_of state.engine) =
     ap (λ (grid : Grid). flat_map (spelled_line grid) c.deref.result.now) grid ∙ ap (flat_map (spelled_line state.engine.grid)) found in
     let wrote = c.in_ok-write_unlisted-in-Ok.ensures in
-    query_answers g.W.Sink.transcript g.W.Sink.failures state commands.Unlisted (flat_map (spelled_line state.engine.grid) (unlisted_of state.engine)) _ _ _ _ refl
+    query_answers g.W.Sink.transcript g.W.Sink.failures state queries.Unlisted (flat_map (spelled_line state.engine.grid) (unlisted_of state.engine)) _ _ _ _ refl
     (subst (λ (xs : List ℕ). g.W.Sink.transcript c.write_unlisted.new.sink ≡ g.W.Sink.transcript c.args.sink.now ++ xs) lines wrote.0, wrote.1) c.end_answer.ensures.sends c.end_answer.ensures.step
 
 pub returns-in-Err : goal.returns-in-Err
 returns-in-Err g c =
-    (_, refl, refused_answers g.W.Sink.transcript g.W.Sink.failures c.args.self.now _ _ c.from.result _ _ _ (inr (refl, ap Some (sym (c.from.ensures ∙ ap refusal_of c.in-Err.ensures.memory)))) c.end_answer-in-Err.ensures.sends c.end_answer-in-Err.ensures.step)
+    query_unanswered g.W.Sink.transcript g.W.Sink.failures c.args.self.now queries.Unlisted _ c.from.result _ _ _ refl (ap Some (sym (c.from.ensures ∙ ap refusal_of c.in-Err.ensures.memory))) c.end_answer-in-Err.ensures.sends c.end_answer-in-Err.ensures.step

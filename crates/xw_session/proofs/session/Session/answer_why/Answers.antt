@@ -1,31 +1,30 @@
-use Rattle.std.proofs.Common.{◌≡◌, ◌∙◌, ap, sym, subst}
+use Rattle.std.proofs.Common.{◌≡◌, ◌∙◌, ap, refl, subst}
 use Rattle.xw_feas.specs.State.{State as EngineState}
-use Rattle.xw_grid.specs.Grid.{Grid}
 use Rattle.xw_grid.specs.Puzzle.{texts_view}
-use Rattle.xw_commands.specs.declared.command.Command.TheVariants as commands
+use Rattle.xw_commands.specs.declared.query.Query.TheVariants as queries
 use Rattle.xw_session.specs.State.{State}
-use Rattle.xw_session.specs.Reply.{name_of_light}
-use Rattle.xw_session.specs.Answer.{AnswersTo}
+use Rattle.xw_session.specs.Reply.{name_of_light, asked}
+use Rattle.xw_session.specs.Answer.{AnswersQuery}
 use Rattle.xw_session.proofs.Reasoning.{why_fits, why_effect}
 use Rattle.xw_session.proofs.session.Session.answer_why.Goals as goal
 
-pub returns : goal.returns
-returns g c =
+pub returns-clause-answer : goal.returns-clause-answer
+returns-clause-answer g c =
     let left = c.self.inside in
     let start : State = record { engine = g.E.Feasible.state left.engine; texts = texts_view left.texts; clues = left.clues; circles = left.circles; is_watched = left.is_watched; begun = left.begun } in
-    let now = g.E.Feasible.state c.reason_for-found.new.engine in
-    let end : State = record start { engine = now } in
-    let same : end ≡ start = ap (λ (p : EngineState). record start { engine = p }) c.reason_for-found.ensures.unchanged in
     let grid : c.grid.result.now ≡ start.engine.grid = c.grid.ensures ∙ ap (λ (p : EngineState). p.grid) c.reason_for-found.ensures.unchanged in
     let fits = why_fits start (name_of_light c.args.named) c.grid.result.now c.reason_for-found.result grid c.reason_for-found.ensures.ok c.reason_for-found.ensures.refused in
-    subst (λ (s : State). AnswersTo g.W.Sink.transcript g.W.Sink.failures s (commands.Why c.args.named) c.end_reason.result end c.args.sink.now c.end_reason.new.sink) c.self.view_is (
-      fits.0,
-      fits.1,
+    subst (λ (s : State). AnswersQuery g.W.Sink.transcript g.W.Sink.failures s (queries.Why c.args.named) c.end_reason.result c.args.sink.now c.end_reason.new.sink) c.self.view_is (
+      asked start fits.0,
+      (fits.0, fits.1, refl),
       record {
         reply = _;
         fits = fits.2;
-        effect = same ∙ why_effect start c.grid.result.now c.reason_for-found.result;
+        effect = why_effect start c.grid.result.now c.reason_for-found.result;
         sends = c.end_reason.ensures.sends start;
         step = c.end_reason.ensures.step start;
       },
     )
+
+pub returns-clause-unchanged : goal.returns-clause-unchanged
+returns-clause-unchanged g c = rw (c.reason_for-found.ensures.unchanged, ← c.self.view_is) refl

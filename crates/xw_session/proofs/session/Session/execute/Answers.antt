@@ -1,10 +1,9 @@
-use Rattle.std.proofs.Common.{◌≡◌, [], refl, sym}
+use Rattle.std.proofs.Common.{[], refl, sym}
 use Rattle.std.proofs.lemmas.List.{append-nil}
-use Rattle.std.specs.Prelude.{List, ℕ, None, Some, Ok, Err}
+use Rattle.std.specs.Prelude.{List, ℕ, None, Ok}
 use Rattle.xw_lines.specs.declared.outcome.Step.TheVariants.{Silent}
 use Rattle.xw_session.specs.Answer.{AnswersParsedBy}
 use Rattle.xw_session.specs.State.{State}
-use Rattle.xw_answers.specs.declared.refusal.Refusal.TheVariants as refusals
 use Rattle.xw_session.proofs.Answering.{line_answers, line_refused, not_silent}
 use Rattle.xw_session.proofs.session.Session.execute.Goals as goal
 
@@ -24,14 +23,14 @@ returns-in-Ok-None-clause-answer g c =
 
 pub returns-in-Ok-Some-clause-answer : goal.returns-in-Ok-Some-clause-answer
 returns-in-Ok-Some-clause-answer g c =
-    rw (c.in-Ok-Some.is, c.in-Ok-Some.field-0-is) (line_answers g.W.Sink.transcript g.W.Sink.failures _ _ _ _ _ _ c.answer.ensures)
+    rw (c.in-Ok-Some.is, c.in-Ok-Some.field-0-is, c.outcome.ensures) (line_answers g.W.Sink.transcript g.W.Sink.failures _ _ _ _ _ _ c.answer.ensures)
 
 pub returns-in-Ok-Some-clause-silent : goal.returns-in-Ok-Some-clause-silent
-returns-in-Ok-Some-clause-silent g c = not_silent _ c.answer.ensures.2.reply c.answer.result c.answer.ensures.2.step
+returns-in-Ok-Some-clause-silent g c = rw c.outcome.ensures (not_silent _ c.answer.result)
 
 pub returns-in-Err-clause-answer : goal.returns-in-Err-clause-answer
 returns-in-Err-clause-answer g c =
-    rw c.in-Err.is (line_refused g.W.Sink.transcript g.W.Sink.failures _ _ _ _ _ c.end_answer.ensures.sends c.end_answer.ensures.step)
+    rw (c.in-Err.is, c.outcome-in-Err.ensures) (line_refused g.W.Sink.transcript g.W.Sink.failures _ _ _ _ _ c.end_answer.ensures.sends c.end_answer.ensures.step)
 
 pub returns-in-Err-clause-silent : goal.returns-in-Err-clause-silent
-returns-in-Err-clause-silent g c = not_silent _ (Err (refusals.Syntax c.in-Err.fault)) c.end_answer.result (c.end_answer.ensures.step c.args.self.now)
+returns-in-Err-clause-silent g c = rw c.outcome-in-Err.ensures (not_silent _ c.end_answer.result)

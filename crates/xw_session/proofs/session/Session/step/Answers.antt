@@ -1,4 +1,3 @@
-use Rattle.xw_session.specs.Answer.{AnswersParsedBy}
 use Rattle.xw_session.proofs.session.Session.step.Goals as goal
 
 pub returns-clause-answer : goal.returns-clause-answer

@@ -17,4 +17,4 @@ pub returns-in-Err-clause-sends : goal.returns-in-Err-clause-sends
 returns-in-Err-clause-sends g c = rw (c.in-Err.is, ← c.from.ensures) c.end_answer-in-Err.ensures.sends
 
 pub returns-in-Err-clause-step : goal.returns-in-Err-clause-step
-returns-in-Err-clause-step g c = rw c.in-Err.is c.end_answer-in-Err.ensures.step
+returns-in-Err-clause-step g c = rw (c.in-Err.is, ← c.from.ensures) c.end_answer-in-Err.ensures.step

@@ -1,7 +1,4 @@
-use Rattle.std.proofs.Common.{ℕ, List, Option, ap, subst}
 use Rattle.std.proofs.lemmas.Result.{err_from_is_err_and}
-use Rattle.xw_lines.specs.Sends.{Sends}
-use Rattle.xw_session.specs.Why.{entry_lines}
 use Rattle.xw_lines.proofs.SendsLemmas.{sends-then, stops-within}
 use Rattle.xw_session.proofs.session.reasoning.end_reason.Goals as goal
 
@@ -20,4 +17,4 @@ pub returns-in-Err-clause-sends : goal.returns-in-Err-clause-sends
 returns-in-Err-clause-sends g c = rw (c.in-Err.is, ← c.refusal_without_reason.ensures) c.end_answer-in-Err.ensures.sends
 
 pub returns-in-Err-clause-step : goal.returns-in-Err-clause-step
-returns-in-Err-clause-step g c = rw c.in-Err.is c.end_answer-in-Err.ensures.step
+returns-in-Err-clause-step g c = rw (c.in-Err.is, ← c.refusal_without_reason.ensures) c.end_answer-in-Err.ensures.step

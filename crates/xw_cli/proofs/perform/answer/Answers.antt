@@ -1,8 +1,0 @@
-use Rattle.std.proofs.Common.{inr, refl}
-use Rattle.std.proofs.lemmas.Result.{err_from_is_err_and}
-use Rattle.xw_cli.proofs.perform.answer.Goals as goal
-
-pub returns-in_err-before : goal.returns-in_err-before
-returns-in_err-before g c =
-    let e = err_from_is_err_and c.from_residual.result c.from_residual.ensures.1 in
-    rw (e.1, e.2) (inr (c.in_err-before.ensures.err, refl, refl, refl))

@@ -1,0 +1,97 @@
+//! Answers the input of a call while each change is journaled.
+ghost use Rattle.std.specs.Prelude.{◌≡◌, [], Some, None, IfOk, IfErr};
+ghost use Rattle.xw_journal.specs.Journal.{AnswersJournaled, StopsAtJournal};
+ghost use Rattle.xw_cli.specs.Answered.{AnswersInput};
+ghost use Rattle.xw_cli.specs.Journals.{HasReplayed, IsUnreplayed};
+ghost use Rattle.xw_cli.specs.Performed.{IsJournalEnd, IsJournalRun, RunsOrFails};
+
+use crate::answer::greet;
+use crate::end::end_session;
+use crate::journal::{close_journal, resume_journal};
+use crate::session_files::Refusals;
+use xw_arguments::SessionFiles;
+use xw_disk::Disk;
+use xw_feas::searchable::Searchable;
+use xw_journal::{Cause, JournaledSession};
+use xw_lines::{RunEnd, Sink, Source};
+use xw_puzzle_files::desk::Desk;
+use xw_puzzle_files::failure::{Failure, Status, run_status};
+use xw_puzzle_files::outlet::Outlet;
+use xw_session::Session;
+
+/// Replays the journal, answers the input while each change is journaled, and writes the files of the session.
+pub fn answer_journaled<'a, F: Searchable, D: Disk, I: Source, O: Outlet, E: Sink>(
+    desk: &mut Desk<D, I, O, E>,
+    session: Session<F>,
+    file: &'a str,
+    named: SessionFiles<'a>,
+) -> Result<Status, Failure<'a>>
+    ensures { RunsOrFails (Some file.entry) named.entry session result desk.old desk.new }
+{
+    let (journaled, before) = begin(desk, session, file, named.is_synced)?;
+    converse(desk, journaled, file, named, before)
+}
+
+/// Replays the journal, and joins it with the session. Returns the lines refused.
+fn begin<'a, F: Searchable, D: Disk, I: Source, O: Outlet, E: Sink>(
+    desk: &mut Desk<D, I, O, E>,
+    mut session: Session<F>,
+    file: &'a str,
+    is_synced: bool,
+) -> Result<(JournaledSession<F, D::Journal>, Refusals), Failure<'a>>
+    ensures ok { IfOk result (λ begun. HasReplayed file.entry.now is_synced session begun.1 begun.0.state desk.old desk.new) }
+    ensures new { IfOk result (λ begun. begun.0 ≡ record { state = begun.0.state; journal = []; failures = 0; cause = None }) }
+    ensures err { IfErr result (λ failure. IsUnreplayed file.entry.now is_synced session failure desk.old desk.new) }
+{
+    let (journal, before) = resume_journal(desk, file, is_synced, &mut session)?;
+    let journaled = JournaledSession::new(desk.alloc, session, journal)?;
+    Ok((journaled, before))
+}
+
+/// Greets, answers the input while each change is journaled, and writes the files of the session. `before` are the lines
+/// refused earlier.
+fn converse<'a, F: Searchable, D: Disk, I: Source, O: Outlet, E: Sink>(
+    desk: &mut Desk<D, I, O, E>,
+    mut journaled: JournaledSession<F, D::Journal>,
+    file: &'a str,
+    named: SessionFiles<'a>,
+    before: Refusals,
+) -> Result<Status, Failure<'a>>
+    ensures { IsJournalRun file.entry.now named.entry before journaled result desk.old desk.new }
+{
+    greet(desk);
+    let end = answer_lines(desk, &mut journaled);
+    let cause = journaled.cause();
+    let (session, journal) = journaled.into_parts();
+    close_journal(desk, file, journal);
+    let answered = journal_status(end, before.count, cause, file, desk.disk.is_lost());
+    end_session(desk, &session, named, before, answered)
+}
+
+/// Answers the lines of the input while each change is journaled.
+fn answer_lines<F: Searchable, D: Disk, I: Source, O: Outlet, E: Sink>(
+    desk: &mut Desk<D, I, O, E>,
+    journaled: &mut JournaledSession<F, D::Journal>,
+) -> RunEnd
+    ensures { AnswersInput AnswersJournaled StopsAtJournal result journaled.old journaled.new desk.old desk.new }
+{
+    journaled.run_lines(&mut desk.input, &mut desk.output)
+}
+
+/// Returns the outcome of a session with a journal. `before` is the number of lines refused earlier.
+fn journal_status<'a>(
+    end: RunEnd,
+    before: usize,
+    cause: Option<Cause>,
+    file: &'a str,
+    is_lost: bool,
+) -> Result<Status, Failure<'a>>
+    ensures { IsJournalEnd file.entry.now before end cause result }
+{
+    match (end, cause) {
+        (RunEnd::Stopped, Some(Cause::Memory)) => Err(Failure::Memory),
+        (RunEnd::Stopped, _) if is_lost => Err(Failure::Replaced { file }),
+        (RunEnd::Stopped, _) => Err(Failure::CannotWrite { file }),
+        _ => run_status(end, before),
+    }
+}

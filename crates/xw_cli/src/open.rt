@@ -1,0 +1,70 @@
+//! Opens a session on the word list and the puzzle that a call names.
+ghost use Rattle.std.specs.Prelude.{◌≡◌, ◌⊎◌, Some, IfOk, IfErr, IsOkUnless};
+ghost use Rattle.xw_grid.specs.Puzzle.{PuzzleShown};
+ghost use Rattle.xw_session.specs.Opening.{empty_puzzle, opened_on};
+ghost use Rattle.xw_puzzle_files.specs.declared.failure.Failure.TheVariants.{Memory};
+ghost use Rattle.xw_puzzle_files.specs.Files.{IsUnread};
+ghost use Rattle.xw_cli.specs.Performed.{HasNoWords, HasPuzzle, HasWords, IsOpened, IsUnopened};
+
+use crate::session_files::read_dictionary;
+use std::alloc::Global;
+use xw_arguments::SessionFiles;
+use xw_disk::Disk;
+use xw_feas::feasible::Feasible;
+use xw_lines::{Sink, Source};
+use xw_puzzle_files::desk::Desk;
+use xw_puzzle_files::failure::Failure;
+use xw_puzzle_files::outlet::Outlet;
+use xw_session::{Session, opening};
+use xw_words::Bank;
+
+/// Opens a session on the given word list and puzzle. The word list is read first.
+pub fn open<'a, F: Feasible, D: Disk, I: Source, O: Outlet, E: Sink>(
+    desk: &mut Desk<D, I, O, E>,
+    named: SessionFiles<'a>,
+) -> Result<Session<F>, Failure<'a>>
+    ensures ok { IfOk result (λ session. IsOpened named.entry session desk.old desk.new) }
+    ensures err { IfErr result (λ failure. IsUnopened named.entry failure desk.old desk.new) }
+{
+    let bank = dictionary(desk, named.dict)?;
+    match named.from_file {
+        Some(file) => open_puzzle(desk, bank, file),
+        None => open_empty(desk.alloc, bank),
+    }
+}
+
+/// Loads the word list if one is given, and otherwise returns an empty dictionary.
+fn dictionary<'a, D: Disk, I: Source, O: Outlet, E: Sink>(
+    desk: &mut Desk<D, I, O, E>,
+    named: Option<&'a str>,
+) -> Result<Bank, Failure<'a>>
+    ensures ok { IfOk result (λ bank. HasWords named.entry bank.words desk.old desk.new) }
+    ensures err { IfErr result (λ failure. HasNoWords named.entry failure desk.old desk.new) }
+{
+    match named {
+        Some(file) => read_dictionary(desk, file),
+        None => Bank::new(desk.alloc).map_err(|_| Failure::Memory),
+    }
+}
+
+/// Opens a session on a puzzle file.
+fn open_puzzle<'a, F: Feasible, D: Disk, I: Source, O: Outlet, E: Sink>(
+    desk: &mut Desk<D, I, O, E>,
+    bank: Bank,
+    file: &'a str,
+) -> Result<Session<F>, Failure<'a>>
+    ensures ok { IfOk result (λ session. (puzzle : PuzzleShown) × HasPuzzle (Some file.entry) puzzle desk.old desk.new × (session ≡ opened_on bank.words puzzle)) }
+    ensures err { IfErr result (λ failure. IsUnread file.entry.now failure desk.old desk.new
+        ⊎ ((failure ≡ Memory) × (puzzle : PuzzleShown) × HasPuzzle (Some file.entry) puzzle desk.old desk.new)) }
+{
+    let (_, puzzle) = desk.read_puzzle(file)?;
+    Ok(opening::open_puzzle(desk.alloc, bank, puzzle)?)
+}
+
+/// Opens a session on an empty grid.
+fn open_empty<'a, F: Feasible>(alloc: Global, bank: Bank) -> Result<Session<F>, Failure<'a>>
+    ensures ok { IfOk result (λ session. session ≡ opened_on bank.words empty_puzzle) }
+    ensures memory { IsOkUnless result Memory }
+{
+    Ok(opening::open_empty(alloc, bank)?)
+}

@@ -1,9 +1,0 @@
-use Rattle.std.proofs.Common.{◌≡◌, ◌∙◌, ap, inl, refl}
-use Rattle.xw_session.specs.Record.{record_lines}
-use Rattle.xw_engine.specs.Engine.{Shown}
-use Rattle.xw_engine.proofs.engine.Engine.record.Goals as goal
-
-pub returns-in-Ok : goal.returns-in-Ok
-returns-in-Ok c =
-    let same : c.self.inside.session ≡ c.args.self.now.state = ap (λ (shown : Shown). shown.state) c.self.view_is in
-    (inl (refl, c.in-Ok.ensures ∙ ap record_lines same), same)

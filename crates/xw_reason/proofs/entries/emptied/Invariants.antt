@@ -1,6 +1,0 @@
-use Rattle.std.proofs.Common.{◌≡◌, map, take}
-use Rattle.xw_reason.specs.Sparing.{emptied}
-use Rattle.xw_reason.proofs.entries.emptied.Given as goal
-
-abbrev pub invariant-loop-written : goal.invariant-loop-written
-invariant-loop-written l = l.empty.items ≡ map emptied (take l.written-index l.list)

@@ -1,6 +1,0 @@
-use Rattle.std.proofs.Common.{◌≡◌, take}
-use Rattle.xw_reason.specs.Reason.{entries_of}
-use Rattle.xw_reason.proofs.entries.note_entries.Given as goal
-
-abbrev pub invariant-loop-index : goal.invariant-loop-index
-invariant-loop-index g l = take l.index l.entries ≡ take l.index (entries_of (g.E.Feasible.state l.engine))

@@ -1,5 +1,0 @@
-use Rattle.xw_reason.proofs.Reasons.{IsSparing}
-use Rattle.xw_reason.proofs.sparing.spare_once.Given as goal
-
-abbrev pub invariant-loop-written : goal.invariant-loop-written
-invariant-loop-written g l = IsSparing (g.E.Feasible.state l.initial.engine) l.light l.list l.spared l.written-index (g.E.Feasible.state l.engine)

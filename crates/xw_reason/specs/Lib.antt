@@ -1,3 +1,0 @@
-pub mod Reason
-pub mod Sparing
-pub mod OfState
