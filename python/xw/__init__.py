@@ -1,0 +1,19 @@
+"""The crossword construction engine `xw`.
+
+    from xw import Session
+
+    with Session(words=["as", "at", "so", "to"]) as session:
+        session.size(2, 2)
+        session.fill(1000)
+        print(session.show())
+"""
+from .answers import Best, Cell, Choice, Entry, Light, LightName, Suggestion, Tally, Words
+from .errors import Error, Fault, Refusal
+from .library import STATUSES, version
+from .session import Session
+from .text import decode, encode
+
+__all__ = [
+    "Best", "Cell", "Choice", "Entry", "Error", "Fault", "Light", "LightName", "Refusal", "STATUSES", "Session", "Suggestion", "Tally", "Words",
+    "decode", "encode", "version",
+]

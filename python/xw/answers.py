@@ -1,0 +1,79 @@
+"""What commands answer."""
+from typing import FrozenSet, NamedTuple, Optional, Tuple, Union
+
+
+class Light(NamedTuple):
+    """A light: its number and direction, its first cell, and its letters, with a dot for each empty cell."""
+
+    number: int
+    direction: str
+    row: int
+    column: int
+    letters: str
+
+    @property
+    def name(self) -> str:
+        return f"{self.number} {self.direction}"
+
+
+# A light, or its name: `"1 across"` or `(1, "across")`.
+LightName = Union[Light, str, Tuple[int, str]]
+
+
+class Words(NamedTuple):
+    """The number of feasible words of a light, and the first of them in the order of the dictionary."""
+
+    total: int
+    words: Tuple[str, ...]
+
+
+class Choice(NamedTuple):
+    """A feasible word, and the least number of feasible words that it leaves a light: 0 for a dead end, None if it completes the grid."""
+
+    word: str
+    left: Optional[int]
+
+
+class Tally(NamedTuple):
+    """How many feasible words of the lights through a cell have a letter there; None where no light goes through the cell."""
+
+    letter: str
+    across: Optional[int]
+    down: Optional[int]
+
+
+class Cell(NamedTuple):
+    """An open cell with its feasible letters."""
+
+    row: int
+    column: int
+    letters: FrozenSet[str]
+
+
+class Entry(NamedTuple):
+    """A letter in a cell."""
+
+    row: int
+    column: int
+    letter: str
+
+
+class Suggestion(NamedTuple):
+    """A next word: `try` with a light and a word, `noword` or `dead` with a light, or `done`."""
+
+    kind: str
+    light: Optional[str] = None
+    word: Optional[str] = None
+
+
+class Best(NamedTuple):
+    """A fill: the grade of its worst new word, a grade that no fill has, and the rows of the grid with `#` for a block and `-` for an empty
+    cell. The fill is the best one if the bound is one more than the grade."""
+
+    grade: int
+    bound: int
+    rows: Tuple[str, ...]
+
+    @property
+    def is_best(self) -> bool:
+        return self.bound == self.grade + 1
