@@ -73,11 +73,11 @@ export const CASES = {
     await openFile(join(room, 'scored.txt'));
     await page.factsAre(/scored.txt, 10 words/);
     await beginBlank(3, 1);
+    await raiseToTheEnd();
     await browser.press('Control+f');
     await page.statusIs(/^filled: worst 90, mean 90; no fill is better$/);
     // another fill finds TAR, and raisings find nothing and end when they are told to
     await browser.value(`(() => {
-      window.inTime = window.setTimeout;
       window.setTimeout = (action, time, ...more) => (time === 2000 ? ((window.endRaising = action), 0) : window.inTime(action, time, ...more));
       const post = Worker.prototype.postMessage;
       window.seeds = [];
@@ -104,7 +104,7 @@ export const CASES = {
     expect(/^filled: worst 90, .*it is the fill from before, since no better one was found$/i.test(made.told), made.told);
     await page.factsAre(/filled/);
     expect((await page.row(1)) === 'COT', `the row is ${await page.row(1)}`);
-    await browser.until("document.querySelectorAll('#fills-list .fill').length > 1");
+    await browser.until("document.querySelectorAll('#fills-list .fill').length > 1 && /worst 90/.test(document.querySelector('#fills-list .fill[aria-pressed=true]')?.textContent)");
     // the other one can be chosen, and is raised with other seeds each time
     await browser.click('#fills-list .fill[aria-pressed=false]');
     await browser.until("[...document.querySelectorAll('.cell .letter')].map(({ textContent }) => textContent).join('') !== 'COT'");
