@@ -312,6 +312,15 @@ const calls = {
     return text;
   },
 
+  // The lights of the grid of a record. The session is not touched.
+  lights({ record }) {
+    const other = Xw.open(module, { record });
+    const { line, read } = answers.lights();
+    const lights = read(other.line(line).lines);
+    other.close();
+    return lights;
+  },
+
   // Sends lines. With `isWhole`, the answer has all that the grid shows; else what the watch told, and the counts.
   edit({ lines, isWhole }) {
     const begin = performance.now();

@@ -3,15 +3,19 @@ import { toBytes, toText } from '../xw.js';
 import { csvOf, htmlOf } from './clue-sheet.js';
 import { droppedOfPuz, joinedText } from './dropped.js';
 import { enumerated } from './enumeration.js';
-import { ipuzOf, recordOfIpuz } from './ipuz.js';
+import { exolveOf, readExolve } from './exolve.js';
+import { ipuzOf, readIpuz } from './ipuz.js';
+import { jpzOf, readJpz } from './jpz.js';
 import { SESSION_HEAD, hasCommands, isPuz, kindOf } from './kinds.js';
 import { refusalText, refuseAsIs as refuse, sayAsIs as say } from './messages.js';
+import { asVersion13, originalsOf } from './puz-versions.js';
 import { bodyOf, strangeCharacter } from './record.js';
 import { termed } from './terms.js';
 import { asVersion1, letterRows, recordOfRows } from './text-grids.js';
 import { listText } from './word-list.js';
 import { titleOf } from './words.js';
 import { staleClues } from './written.js';
+import { firstFile, isZip } from './zip.js';
 
 // Notes of sessions, which the program passes over.
 const PENCIL = '# pencil ';
@@ -20,6 +24,14 @@ const WRITTEN = '# written ';
 
 // the most bytes of a file that is opened; larger ones are none of those that the page knows
 const MOST_BYTES = 1 << 27;
+
+// The readers of formats, each of which makes a Given of bytes, and the writers of texts.
+const READERS = {
+  ipuz: (bytes) => readIpuz(new TextDecoder().decode(bytes)),
+  jpz: (bytes) => readJpz(new DOMParser().parseFromString(listText(bytes), 'text/xml')),
+  exolve: (bytes) => readExolve(listText(bytes)),
+};
+const WRITERS = { ipuz: ipuzOf, jpz: jpzOf, exolve: exolveOf };
 
 export class Files {
   /** @type {import('./editor.js').Editor} */
@@ -35,19 +47,21 @@ export class Files {
     if (!this.actions.mayEdit()) return false;
     const bytes = await this.#bytesOf(file);
     if (!bytes) return false;
+    const kind = kindOf(file.name, bytes);
     try {
-      switch (kindOf(file.name, bytes)) {
+      switch (kind) {
         case 'list':
           return await this.openList(file.name, bytes);
         case 'puzzle':
-          await this.#editor.replace({ record: await this.#editor.engine.call('read', { puzzle: bytes }) });
-          return this.#opened(file.name, isPuz(bytes) ? droppedOfPuz(bytes) : []);
+          return await this.#openPuzzle(file.name, bytes);
         case 'text2':
           return await this.#openText2(file.name, bytes);
         case 'rows':
           return await (isList ? this.openList(file.name, bytes) : this.#openRows(file.name, bytes));
         case 'ipuz':
-          return await this.#openIpuz(file.name, new TextDecoder().decode(bytes));
+        case 'jpz':
+        case 'exolve':
+          return await this.#openGiven(file.name, READERS[kind](bytes));
         case 'puzzles':
           return await this.#openPuzzles(file.name, new TextDecoder().decode(bytes));
         case 'session':
@@ -56,13 +70,13 @@ export class Files {
         case 'empty':
           return this.#refuse(`${file.name} is empty: nothing is opened`);
         default:
-          return this.#refuse(`${file.name} is no puzzle (.puz, .ipuz or text), no session and no word list: nothing is opened`);
+          return this.#refuse(`${file.name} is no puzzle (.puz, .ipuz, .jpz, Exolve or text), no session and no word list: nothing is opened`);
       }
     } catch (fault) {
       if (!fault.status) throw fault;
       // the engine takes what is no .puz file for a text file
       const status = fault.status === 'Header' && /\.puz$/i.test(file.name) ? 'Magic' : fault.status;
-      return this.#refuse(`${file.name}: ${status === 'Ipuz' ? fault.message : refusalText(status)}`);
+      return this.#refuse(`${file.name}: ${status === 'File' ? fault.message : refusalText(status)}`);
     }
     return this.#opened(file.name);
   }
@@ -92,10 +106,21 @@ export class Files {
     return this.#opened(name);
   }
 
-  async #openIpuz(name, text) {
-    const { record, originals, lost, dropped } = recordOfIpuz(text.replace(/^\ufeff/, ''));
-    await this.#editor.replace({ record: await this.#editor.engine.call('read', { record }), originals });
-    return this.#opened(name, dropped, lost ? `; ${lost} ${lost === 1 ? 'clue has' : 'clues have'} no place in its grid` : '');
+  // Opens a .puz or a text file. The characters of a later .puz that earlier ones cannot have are kept beside its texts.
+  async #openPuzzle(name, bytes) {
+    const { bytes: puzzle, texts } = isPuz(bytes) ? asVersion13(bytes) : { bytes, texts: [] };
+    const record = await this.#editor.engine.call('read', { puzzle });
+    const originals = texts.length ? originalsOf(texts, await this.#editor.engine.call('lights', { record })) : [];
+    await this.#editor.replace({ record, originals });
+    return this.#opened(name, isPuz(puzzle) ? droppedOfPuz(puzzle) : []);
+  }
+
+  // Opens what a reader made of a file: its clues are at the lights that the engine finds in its grid.
+  async #openGiven(name, given) {
+    const { engine } = this.#editor;
+    const { record, originals, lost } = given.recordWith(await engine.call('lights', { record: given.grid }));
+    await this.#editor.replace({ record: await engine.call('read', { record }), originals });
+    return this.#opened(name, given.dropped, lost ? `; ${lost} ${lost === 1 ? 'clue has' : 'clues have'} no place in its grid` : '');
   }
 
   // Adds the puzzles of a file to those that the browser keeps.
@@ -115,14 +140,15 @@ export class Files {
     return false;
   }
 
-  // The bytes of a file, or null if there are too many or the file cannot be read, as a folder cannot.
+  // The bytes of a file, those of the first one in a zip, or null if there are too many or the file cannot be read, as a folder cannot.
   async #bytesOf(file) {
     if (file.size > MOST_BYTES) {
       refuse(`${file.name} is too large to be a puzzle, a session or a word list: nothing is opened`);
       return null;
     }
     try {
-      return new Uint8Array(await file.arrayBuffer());
+      const bytes = new Uint8Array(await file.arrayBuffer());
+      return (isZip(bytes) && (await firstFile(bytes, MOST_BYTES))) || bytes;
     } catch {
       refuse(`${file.name} cannot be read`);
       return null;
@@ -228,8 +254,9 @@ export class Files {
 
   #textOf = (field) => this.#editor.textOf(field);
 
-  saveIpuz() {
-    this.#givePuzzle(new TextEncoder().encode(ipuzOf(this.#editor.board, this.#textOf)), this.#name('ipuz'));
+  // Saves a file that can be unfinished and have bars: `ipuz`, `jpz` or `exolve`.
+  saveAs(form) {
+    this.#givePuzzle(new TextEncoder().encode(WRITERS[form](this.#editor.board, this.#textOf)), this.#name(form));
   }
 
   // Saves the clues as a table: `csv` or `html`.

@@ -3,5 +3,5 @@
 declare function cannotRun(why: string): void;
 
 declare class DecompressionStream extends TransformStream {
-  constructor(format: 'gzip');
+  constructor(format: 'gzip' | 'deflate-raw');
 }

@@ -1,16 +1,9 @@
 // Crosswords as .ipuz, version 2 (http://ipuz.org): grids with blocks, bars and circles, letters, texts and clues.
-import { countText, rebusText } from './dropped.js';
 import { hasEnumeration } from './enumeration.js';
-import { escapeText, nearestText, textLines } from './record.js';
+import { FIELDS, FileFault, Given, plainOf } from './given.js';
 
 const VERSION = 'http://ipuz.org/v2';
 const KIND = 'http://ipuz.org/crossword#1';
-const FIELDS = ['title', 'author', 'copyright', 'notes'];
-
-// Why a file is not read.
-export class IpuzFault extends Error {
-  status = 'Ipuz';
-}
 
 export const isIpuz = (head) => /^\s*(ipuz\s*\()?\s*\{/.test(head) && head.includes('ipuz.org/');
 
@@ -34,158 +27,77 @@ function shownIn(cell) {
   return { cell: shown, style: { ...(cell.circle && { shapebg: 'circle' }), ...(barred && { barred }) } };
 }
 
-// The record that a file spells, its texts that have characters which the record cannot have, how many clues have no place in the grid, and what else is
-// dropped. Throws an IpuzFault.
-export function recordOfIpuz(text) {
-  const file = parsedIpuz(text);
+// The puzzle of a file. Throws a FileFault.
+export function readIpuz(text) {
+  const file = parsed(text);
   const { width, height } = file.dimensions ?? {};
-  const isSide = (side) => Number.isInteger(side) && side >= 1 && side <= 255;
-  if (!isSide(width) || !isSide(height)) throw new IpuzFault('the grid has no size from 1 to 255');
+  const given = new Given(width, height);
   if (!Array.isArray(file.puzzle) || file.puzzle.length !== height || file.puzzle.some((row) => !Array.isArray(row) || row.length !== width)) {
-    throw new IpuzFault('the rows are not of the size that the file gives');
+    throw new FileFault('the rows are not of the size that the file gives');
   }
-  const grid = new IpuzGrid(file);
-  const texts = new IpuzTexts(file, grid);
-  const dropped = [...grid.dropped, ...(file.saved ? ['the letters of a solver'] : []), ...texts.otherLists.map((name) => `the clues of ${name}`)];
-  return { record: [`size ${width} ${height}`, ...grid.lines, ...texts.lines, ''].join('\n'), originals: texts.originals, lost: texts.lost, dropped };
+  const numbered = takeGrid(given, file);
+  for (const field of FIELDS) if (file[field]) given.text(field, plainOf(file[field]));
+  if (file.intro && !file.notes) given.text('notes', plainOf(file.intro));
+  else if (file.intro) given.drops('the introduction');
+  if (file.saved) given.drops('the letters of a solver');
+  if (file.zones?.length) given.drops('zones of the grid');
+  for (const [name, clues] of Object.entries(file.clues ?? {})) {
+    const direction = name.split(':')[0].toLowerCase();
+    if (direction !== 'across' && direction !== 'down') given.drops(`the clues of ${name}`);
+    else for (const clue of clues) takeClue(given, clue, direction, numbered);
+  }
+  return given;
 }
 
-function parsedIpuz(text) {
+function parsed(text) {
   let file;
   try {
     file = JSON.parse(text.trim().replace(/^ipuz\s*\(([^]*)\)\s*;?$/, '$1'));
   } catch {
-    throw new IpuzFault('it is no JSON');
+    throw new FileFault('it is no JSON');
   }
   const kinds = [file.kind].flat().map(String);
-  if (!kinds.some((kind) => kind.includes('ipuz.org/crossword'))) throw new IpuzFault('it is no crossword');
+  if (!kinds.some((kind) => kind.includes('ipuz.org/crossword'))) throw new FileFault('it is no crossword');
   return file;
-}
-
-class IpuzGrid {
-  lines = [];
-  // the coordinates of the cells that have numbers
-  numbered = new Map();
-  // what it does not keep
-  dropped = [];
-  #blocks = new Set();
-  #bars = new Set();
-
-  constructor({ dimensions: { width, height }, puzzle, solution, block = '#', styles = {} }) {
-    this.size = { width, height };
-    const circles = [];
-    const letters = [];
-    const rebus = [];
-    let [colours, shapes] = [0, 0];
-    this.#each((row, column) => {
-      const shown = puzzle[row - 1][column - 1];
-      const cell = shown?.cell === undefined ? shown : shown.cell;
-      const coordinates = `${row} ${column}`;
-      const given = solution?.[row - 1]?.[column - 1];
-      if (cell === block || cell === null) {
-        this.#blocks.add(coordinates);
-        return;
-      }
-      if (cell && String(cell) !== '0') this.numbered.set(String(cell), coordinates);
-      // a style may be the name of one
-      const style = styles?.[shown?.style] ?? shown?.style;
-      if (style?.shapebg === 'circle') circles.push(`circle ${coordinates}`);
-      else if (style?.shapebg) shapes++;
-      if (COLOURS.some((name) => style?.[name])) colours++;
-      this.#addBars(row, column, String(style?.barred ?? ''));
-      const entry = entryOf(given?.value ?? given ?? '', coordinates, block);
-      const letter = entry.slice(0, 1);
-      if (letter) letters.push(`set ${coordinates} ${letter}`);
-      if (entry.length > 1) rebus.push({ row, column, entry, letter });
-    });
-    this.dropped = [
-      ...rebusText(rebus), ...countText(colours, 'the colour of a cell', 'colours of cells'), ...countText(shapes, 'a shape that is no circle', 'shapes that are no circles'),
-    ];
-    const bars = [...this.#bars].filter((bar) => this.#isEdge(bar)).map((bar) => `bar ${bar}`);
-    this.lines = ['sym none', ...[...this.#blocks].map((cell) => `block ${cell}`), ...bars, `sym ${this.#isHalf(bars) ? 'half' : 'none'}`, ...circles, ...letters];
-  }
-
-  #each(action) {
-    for (let row = 1; row <= this.size.height; row++) for (let column = 1; column <= this.size.width; column++) action(row, column);
-  }
-
-  // A bar is to the right of a cell or below one.
-  #addBars(row, column, sides) {
-    if (/r/i.test(sides)) this.#bars.add(`${row} ${column} right`);
-    if (/b/i.test(sides)) this.#bars.add(`${row} ${column} below`);
-    if (/l/i.test(sides)) this.#bars.add(`${row} ${column - 1} right`);
-    if (/t/i.test(sides)) this.#bars.add(`${row - 1} ${column} below`);
-  }
-
-  // Whether a bar lies between two cells.
-  #isEdge(bar) {
-    const [row, column, side] = bar.split(' ');
-    return row > 0 && column > 0 && (side === 'right' ? column < this.size.width : row < this.size.height);
-  }
-
-  // Whether blocks and bars are their half turn.
-  #isHalf(bars) {
-    const turned = (row, column) => [this.size.height + 1 - row, this.size.width + 1 - column];
-    const isTurned = (cell) => this.#blocks.has(turned(...cell.split(' ')).join(' '));
-    const barTurned = (bar) => {
-      const [, row, column, side] = bar.split(' ');
-      const [other, beside] = turned(row, column);
-      return side === 'right' ? `bar ${other} ${beside - 1} right` : `bar ${other - 1} ${beside} below`;
-    };
-    return [...this.#blocks].every(isTurned) && bars.every((bar) => bars.includes(barTurned(bar)));
-  }
 }
 
 // What a style may have of colours.
 const COLOURS = ['color', 'colortext', 'colorborder', 'colorbar', 'highlight', 'imagebg'];
+const SIDES = { r: 'right', b: 'below', l: 'left', t: 'above' };
 
-// The letters of a cell, of which the page keeps the first.
-function entryOf(given, coordinates, block) {
-  const entry = String(given).toUpperCase();
-  if (entry === '' || entry === String(block)) return '';
-  if (/^[A-Z]+$/.test(entry)) return entry;
-  const [row, column] = coordinates.split(' ');
-  throw new IpuzFault(`row ${row}, column ${column} has “${String(given).slice(0, 10)}” for a letter`);
-}
-
-class IpuzTexts {
-  lines = [];
-  originals = [];
-  // how many clues have no place in the grid, and the lists of clues that are neither across nor down
-  lost = 0;
-  otherLists = [];
-
-  constructor(file, grid) {
-    for (const field of FIELDS) if (file[field]) this.#add(field, plainOf(file[field]));
-    for (const [name, clues] of Object.entries(file.clues ?? {})) {
-      const direction = name.split(':')[0].toLowerCase();
-      if (direction !== 'across' && direction !== 'down') {
-        this.otherLists.push(name);
-        continue;
-      }
-      for (const clue of clues) this.#addClue(clue, direction, grid);
-    }
-  }
-
-  #addClue(clue, direction, { numbered }) {
-    const { number, clue: text, enumeration } = Array.isArray(clue) ? { number: clue[0], clue: clue[1], enumeration: '' } : clue;
-    const cell = numbered.get(String(number?.number ?? number));
-    const plain = plainOf(text ?? '');
-    if (!plain) return;
-    if (!cell) {
-      this.lost++;
+// Takes the cells, and returns the coordinates of those that show numbers.
+function takeGrid(given, { puzzle, solution, block = '#', empty = 0, styles = {} }) {
+  /** @type {Map<string, string>} */
+  const numbered = new Map();
+  puzzle.forEach((cells, above) => cells.forEach((shown, before) => {
+    const [row, column] = [above + 1, before + 1];
+    const cell = shown?.cell === undefined ? shown : shown.cell;
+    if (cell === block || cell === null) {
+      if (cell === null) given.drops('a cell that is left out, which is a block now', 'cells that are left out, which are blocks now');
+      given.block(row, column);
       return;
     }
-    const isThere = !enumeration || hasEnumeration(plain);
-    this.#add(`clue ${cell} ${direction}`, isThere ? plain : `${plain} (${enumeration})`);
-  }
-
-  #add(field, text) {
-    const { near, count } = nearestText(text);
-    if (count) this.originals.push([field, text]);
-    this.lines.push(...textLines(field, escapeText(near)));
-  }
+    if (cell && cell !== empty && String(cell) !== '0') numbered.set(String(cell), `${row} ${column}`);
+    // a style may be the name of one
+    takeStyle(given, row, column, styles?.[shown?.style] ?? shown?.style ?? {});
+    const told = solution?.[above]?.[before];
+    const entry = told?.value ?? told ?? '';
+    if (entry !== '' && entry !== empty && String(entry) !== String(block)) given.entry(row, column, entry);
+  }));
+  return numbered;
 }
 
-// A text of the file without its marks, which are those of HTML.
-const plainOf = (text) => (/[<&]/.test(text) ? new DOMParser().parseFromString(String(text), 'text/html').body.textContent : String(text)).trim();
+function takeStyle(given, row, column, style) {
+  if (style.shapebg === 'circle') given.circle(row, column);
+  else if (style.shapebg) given.drops('a shape that is no circle', 'shapes that are no circles');
+  if (COLOURS.some((name) => style[name])) given.drops('the colour of a cell', 'colours of cells');
+  given.bar(row, column, ...String(style.barred ?? '').toLowerCase().split('').flatMap((side) => SIDES[side] ?? []));
+}
+
+function takeClue(given, clue, direction, numbered) {
+  const { number = '', clue: text = '', enumeration = '', cells = [] } = Array.isArray(clue) ? { number: clue[0], clue: clue[1] } : typeof clue === 'string' ? { clue } : clue;
+  const plain = plainOf(text);
+  const [column, row] = cells[0] ?? [];
+  const at = numbered.get(String(number)) ?? (row ? `${row} ${column}` : null);
+  given.clue({ at, number, direction, text: !plain || !enumeration || hasEnumeration(plain) ? plain : `${plain} (${enumeration})` });
+}

@@ -24,7 +24,7 @@ export const REFUSALS = {
   Arguments: 'that is not a letter or a word',
   Short: 'the file ends too early',
   Magic: 'this is no .puz file',
-  Version: 'this version of .puz is not known; only 1.3 is',
+  Version: 'this version of .puz is not known: it is none of 1.2, 1.3, 1.4 and 2.0',
   Scrambled: 'the solution of this file is scrambled',
   NoNul: 'a text of the file has no end',
   BadSum: 'a checksum of the file is wrong',

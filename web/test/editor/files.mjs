@@ -4,6 +4,8 @@ import { join } from 'node:path';
 import { Xw } from '../../dist/xw.js';
 import { begin, hush, menu, openFile, print, saved } from '../doing.mjs';
 import { browser, expect, module, page, picture, pictures, reload, room, runAlone } from '../page.mjs';
+import { puzOf } from '../puz.mjs';
+import { zipOf } from '../zip.mjs';
 
 export const CASES = {
   async 'a .puz opened and saved again'() {
@@ -196,6 +198,75 @@ export const CASES = {
     expect(csv.includes('"A \u201cquoted\u201d, listed clue","(1-1)","AT"'), csv);
     const html = (await saved('bars-circles.html', () => menu('clues-html'))).toString();
     expect(html.includes('<h1>Bars &amp; circles</h1>') && html.includes('<td>Firm =\u2192</td><td>(2)</td><td>CO</td>'), html);
+  },
+
+  async '.jpz and the XML of Crossword Compiler'() {
+    const cell = (x, y, more) => `<cell x="${x}" y="${y}" ${more}></cell>`;
+    const xml = `<?xml version="1.0" encoding="UTF-8"?>
+      <crossword-compiler-applet xmlns="http://crossword.info/xml/crossword-compiler"><applet-settings cursor-color="#00FF00"/>
+      <rectangular-puzzle xmlns="http://crossword.info/xml/rectangular-puzzle" alphabet="ABCDEFGHIJKLMNOPQRSTUVWXYZ">
+      <metadata><title>Bars &amp; circles</title><creator>A. Setter</creator><copyright/><description>Two \u2192 one</description></metadata>
+      <crossword><grid width="3" height="3"><grid-look numbering-scheme="normal"/>
+      ${cell(1, 1, 'solution="HEART" number="1"')}${cell(2, 1, 'solution="O" number="2" right-bar="true"')}${cell(3, 1, 'solution="T" background-shape="circle" background-color="#FF0000"')}
+      ${cell(1, 2, 'solution="A" top-bar="true" number="3"')}${cell(2, 2, 'type="block"')}${cell(3, 2, 'solution="o" solve-state="X" background-color="#FFFFFF"')}
+      ${cell(1, 3, 'solution="T" number="4"')}${cell(2, 3, 'solution="" left-bar="false"')}${cell(3, 3, 'type="void"')}</grid>
+      <word id="1" x="1-2" y="1"/><word id="2"><cells x="3" y="1-2"/></word><word id="3" x="1" y="2-3"/><word id="4"><cells x="1" y="3"/><cells x="2" y="3"/></word><word id="5" x="1-3" y="2"/>
+      <clues ordering="normal"><title><b>Across</b></title><clue word="1" number="1" format="5">A <i>firm</i> \u2665</clue><clue word="4" number="4" format="1,1">Ends</clue></clues>
+      <clues ordering="normal"><title><b>Down</b></title><clue word="2" number="2">Also</clue><clue word="3" number="3" format="2">Two (2)</clue><clue word="5" number="5">Nothing</clue></clues>
+      </crossword></rectangular-puzzle></crossword-compiler-applet>`;
+    const rows = 'HOT,A#O,T.#';
+    const parts = 'the rebus in row 1, column 1 (HEART is H now), the colour of a cell, the letters of a solver and a cell that is left out, which is a block now; 1 clue has no place in its grid';
+    const isOpen = async (name, pattern = new RegExp(`^${name} is open, but without ${parts.replace(/[()]/g, '\\$&')}; undo`)) => {
+      await openFile(join(room, name));
+      await page.statusIs(pattern);
+      expect((await page.rows()).join() === rows, `the grid is ${await page.rows()}`);
+      expect((await page.has('1-2', 'bar-right')) && (await page.has('1-1', 'bar-below')) && (await page.has('1-3', 'circled')), 'a bar or the circle is lost');
+      await browser.press('F3');
+      await browser.until("[...document.querySelectorAll('#clue-list input')].map(({ value }) => value).join('|') === 'A firm \u2665 (5)|Ends (1,1)|Also|Two (2)'");
+      await browser.press('F4');
+      await browser.until("document.getElementById('title').value === 'Bars & circles' && document.getElementById('notes').value === 'Two \u2192 one'");
+      await begin(6);
+    };
+    writeFileSync(join(room, 'given.xml'), xml);
+    await isOpen('given.xml');
+    writeFileSync(join(room, 'zipped.jpz'), zipOf([['given.xml', xml]]));
+    await isOpen('zipped.jpz');
+    await openFile(join(room, 'given.xml'));
+    await page.statusIs(/^given.xml is open/);
+    await saved('bars-circles.jpz', () => menu('save-jpz'));
+    await isOpen('bars-circles.jpz', /^bars-circles.jpz is open; undo/);
+    for (const [name, text, pattern] of [['half.jpz', xml.slice(0, 900), /^half.jpz: it is no XML$/], ['none.jpz', '<crossword-compiler/>', /^none.jpz: it is no crossword$/]]) {
+      writeFileSync(join(room, name), text);
+      await openFile(join(room, name));
+      await page.statusIs(pattern, 'bad');
+    }
+  },
+
+  async 'Exolve, and a .puz of version 2.0'() {
+    const rows = 'COT,A#O,TIE';
+    const isOpen = async (name, pattern) => {
+      await begin(6);
+      await openFile(join(room, name));
+      await page.statusIs(pattern);
+      expect((await page.rows()).join() === rows, `the grid is ${await page.rows()}`);
+      await browser.press('F3');
+      await browser.until("[...document.querySelectorAll('#clue-list input')].map(({ value }) => value).join('|') === 'Firm \u2665 & (3)|Ends|Also|Two'");
+    };
+    const text = `exolve-begin\n exolve-title: Three\n exolve-width: 3\n exolve-height: 3\n exolve-grid:\n  COT\n  A.O@\n  TIE
+ exolve-across:\n  1 Firm <i>\u2665</i> &amp; (3)\n  3 Ends\n exolve-down:\n  1 Also\n  2 Two\n exolve-colour: red a1\nexolve-end\n`;
+    writeFileSync(join(room, 'given.exolve'), text);
+    await isOpen('given.exolve', /^given.exolve is open, but without the section exolve-colour; undo/);
+    expect(await page.has('2-3', 'circled'), 'the circle is lost');
+    await saved('three.exolve', () => menu('save-exolve'));
+    await isOpen('three.exolve', /^three.exolve is open; undo/);
+    const texts = ['Three \u2192 four', '', '', 'Firm \u2665 & (3)', 'Also', 'Two', 'Ends', ''].map((one) => Buffer.from(one));
+    writeFileSync(join(room, 'later.puz'), puzOf({ version: '2.0\0', width: 3, height: 3, solution: 'COTA.OTIE', texts }));
+    await isOpen('later.puz', /^later.puz is open; undo/);
+    await browser.press('F4');
+    await browser.until("document.getElementById('title').value === 'Three \u2192 four'");
+    // as version 1.3, with near characters
+    await saved('three-four.puz', () => menu('save-puz'));
+    await page.statusIs(/^saved: three-four.puz, with near characters for “→”, “♥”/);
   },
 
   async 'printing'() {

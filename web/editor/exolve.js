@@ -1,0 +1,107 @@
+// Crosswords as text of Exolve: a section `exolve-…` a line or more, from `exolve-begin` to `exolve-end`.
+import { FileFault, Given, plainOf } from './given.js';
+
+const BEGIN = /^\s*exolve-begin\b/m;
+const SECTION = /^exolve-([a-z-]+)(?::\s*(.*))?$/;
+
+export const isExolve = (text) => BEGIN.test(text);
+
+// The file of a board. `textOf` gives the text of a field.
+export function exolveOf(board, textOf) {
+  const rows = Array.from({ length: board.height }, (_, row) => board.cells.slice(row * board.width, (row + 1) * board.width).map(spelled).join(' '));
+  // a line that begins with the word of a section would be one
+  const lines = (text) => text.split(/\r?\n/).map((line) => `    ${line.replace(/^\s*exolve-/, '')}`);
+  const line = (name, text) => (text ? [`  exolve-${name}: ${text.replace(/\s+/g, ' ')}`] : []);
+  const clues = (direction) => board.lights.filter((light) => light.direction === direction).map((light) => `    ${light.number} ${textOf(`clue ${light.name}`).replace(/\s+/g, ' ')}`.trimEnd());
+  const whole = [
+    'exolve-begin', ...line('title', textOf('title')), ...line('setter', textOf('author')), ...line('copyright', textOf('copyright')), `  exolve-width: ${board.width}`,
+    `  exolve-height: ${board.height}`, ...(textOf('notes') ? ['  exolve-preamble:', ...lines(textOf('notes'))] : []), '  exolve-grid:', ...rows.map((row) => `    ${row}`),
+    '  exolve-across:', ...clues('across'), '  exolve-down:', ...clues('down'), 'exolve-end',
+  ];
+  return `${whole.join('\n')}\n`;
+}
+
+function spelled(cell) {
+  if (cell.block) return '.';
+  return `${cell.letter || '0'}${cell.right && cell.below ? '+' : cell.right ? '|' : cell.below ? '_' : ''}${cell.circle ? '@' : ''}`;
+}
+
+// The sections of a text: what stands behind the name of each, and the lines below it.
+function sectionsOf(text) {
+  const lines = text.split(/\r?\n/).map((line) => line.trim());
+  const begin = lines.findIndex((line) => line.startsWith('exolve-begin'));
+  const end = lines.findIndex((line, at) => at > begin && line.startsWith('exolve-end'));
+  /** @type {{ name: string, value: string, lines: string[] }[]} */
+  const sections = [];
+  for (const line of lines.slice(begin + 1, end < 0 ? undefined : end)) {
+    const [, name, value = ''] = SECTION.exec(line) ?? [];
+    if (name) sections.push({ name, value: value.trim(), lines: [] });
+    else if (line && !line.startsWith('#')) sections.at(-1)?.lines.push(line);
+  }
+  return sections;
+}
+
+// The sections that are read, and those that say nothing of the puzzle itself.
+const FIELDS = { title: 'title', setter: 'author', copyright: 'copyright' };
+const READ = new Set(['width', 'height', 'grid', 'across', 'down', 'title', 'setter', 'copyright', 'preamble', 'id', 'maker', 'option', 'language', 'credits', 'email', 'prelude']);
+
+// The puzzle of a text. Throws a FileFault.
+export function readExolve(text) {
+  const sections = sectionsOf(text);
+  const of = (name) => sections.find((section) => section.name === name);
+  const grid = of('grid')?.lines ?? [];
+  const given = new Given(Number(of('width')?.value), Number(of('height')?.value));
+  if (grid.length !== given.height) throw new FileFault('the rows are not of the size that the file gives');
+  grid.forEach((line, at) => takeRow(given, at + 1, line));
+  for (const [name, field] of Object.entries(FIELDS)) given.text(field, plainOf(of(name)?.value ?? ''));
+  given.text('notes', plainOf((of('preamble') ?? of('prelude'))?.lines.join('\n') ?? ''));
+  for (const direction of /** @type {const} */ (['across', 'down'])) for (const clue of cluesIn(of(direction)?.lines ?? [])) takeClue(given, clue, direction);
+  for (const { name } of sections) if (!READ.has(name)) given.drops(`the section exolve-${name}`);
+  return given;
+}
+
+// What marks of a cell say.
+const MARKS = { '|': ['right'], _: ['below'], '+': ['right', 'below'] };
+
+// Takes a row of cells, each with its marks. With a space between all cells, they may have several letters.
+function takeRow(given, row, line) {
+  const spaced = line.split(/\s+/);
+  const spelled = spaced.length === given.width ? spaced : line.replace(/\s/g, '').match(/[^|_+@*!~][|_+@*!~]*/g) ?? [];
+  const cells = spelled.map((cell) => /^([^|_+@*!~]+)([|_+@*!~]*)$/.exec(cell));
+  if (cells.length !== given.width || cells.includes(null)) throw new FileFault(`row ${row} of the grid does not have ${given.width} cells`);
+  cells.forEach(([, entry, marks], before) => takeCell(given, row, before + 1, entry, marks));
+}
+
+function takeCell(given, row, column, entry, marks) {
+  if (entry === '.') {
+    given.block(row, column);
+    return;
+  }
+  if (marks.includes('@')) given.circle(row, column);
+  for (const mark of marks) given.bar(row, column, ...(MARKS[mark] ?? []));
+  if (marks.includes('!')) given.drops('that a letter is shown to solvers', 'that letters are shown to solvers');
+  if (marks.includes('*')) given.drops('a diagramless cell', 'diagramless cells');
+  if (entry === '?') given.drops('a diagramless cell', 'diagramless cells');
+  else if (entry !== '0') given.entry(row, column, entry);
+}
+
+// Clues begin with their number; other lines go on with the one before.
+function cluesIn(lines) {
+  /** @type {string[]} */
+  const clues = [];
+  for (const line of lines) {
+    if (/^\d+\b|^\[/.test(line) || !clues.length) clues.push(line);
+    else clues.push(`${clues.pop()} ${line}`);
+  }
+  return clues;
+}
+
+// A clue may have more numbers, of lights that go on with it, marks of its definition, and notes of the setter after its lengths.
+function takeClue(given, clue, direction) {
+  const [, number, others, told] = /^(\d+)[ad]?((?:\s*[,&/]\s*\d+[ad]?)*)[.:]?\s*(.*)$/i.exec(clue) ?? [];
+  if (!number) return given.drops('a clue without a number', 'clues without numbers');
+  if (others) given.drops('the link of a clue to other lights', 'links of clues to other lights');
+  const [, text, note] = /^(.*?\(\s*\d[\d\s,.;'’–—-]*\*?\))\s*(.*)$/.exec(told) ?? [null, told, ''];
+  if (note) given.drops('the note on a clue', 'notes on clues');
+  return given.clue({ number, direction, text: plainOf(text.replace(/~\{(.*?)\}~(?:\{.*?\})?/g, '$1')) });
+}

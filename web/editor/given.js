@@ -1,0 +1,142 @@
+// A puzzle as a file tells it: its cells, texts and clues, and what of it the page does not keep. Each reader of a format makes one.
+import { countText, rebusText } from './dropped.js';
+import { escapeText, nearestText, textLines } from './record.js';
+
+/** @typedef {import('./answers.js').Direction} Direction */
+// A clue is at a cell, or at the light that has its number.
+/** @typedef {{ at: string | null, number: string, direction: Direction, text: string }} GivenClue */
+// How the engine tells the lights of a grid: their names, directions and first cells.
+/** @typedef {{ name: string, direction: Direction, row: number, column: number }} FirstCell */
+
+export const FIELDS = ['title', 'author', 'copyright', 'notes'];
+
+// Why a file is not read. The message says it.
+export class FileFault extends Error {
+  status = 'File';
+}
+
+const isSide = (side) => Number.isInteger(side) && side >= 1 && side <= 255;
+
+export class Given {
+  width;
+  height;
+  /** @type {Map<string, string>} by field */
+  texts = new Map();
+  /** @type {GivenClue[]} */
+  clues = [];
+  #blocks = new Set();
+  #bars = new Set();
+  #circles = new Set();
+  /** @type {Map<string, string>} by coordinates */
+  #letters = new Map();
+  #rebus = [];
+  // what else is not kept, in a few words each, and how often
+  #dropped = new Map();
+
+  // Throws a FileFault if there is no such grid.
+  constructor(width, height) {
+    if (!isSide(width) || !isSide(height)) throw new FileFault('the grid has no size from 1 to 255');
+    this.width = width;
+    this.height = height;
+  }
+
+  has(row, column) {
+    return row >= 1 && column >= 1 && row <= this.height && column <= this.width;
+  }
+
+  block(row, column) {
+    this.#blocks.add(`${row} ${column}`);
+  }
+
+  isBlock(row, column) {
+    return this.#blocks.has(`${row} ${column}`);
+  }
+
+  circle(row, column) {
+    this.#circles.add(`${row} ${column}`);
+  }
+
+  // Sides of a cell: of `right`, `below`, `left` and `above`.
+  bar(row, column, ...sides) {
+    for (const side of sides) {
+      const [of, beside] = [row - Number(side === 'above'), column - Number(side === 'left')];
+      this.#bars.add(`${of} ${beside} ${side === 'above' || side === 'below' ? 'below' : 'right'}`);
+    }
+  }
+
+  // What is in a cell: letters, of which the first is kept. Throws a FileFault if it is something else.
+  entry(row, column, given) {
+    const entry = String(given).toUpperCase();
+    if (!/^[A-Z]+$/.test(entry)) throw new FileFault(`row ${row}, column ${column} has “${String(given).slice(0, 10)}” for a letter`);
+    const letter = entry.slice(0, 1);
+    this.#letters.set(`${row} ${column}`, letter);
+    if (entry.length > 1) this.#rebus.push({ row, column, entry, letter });
+  }
+
+  text(field, text) {
+    if (text) this.texts.set(field, text);
+  }
+
+  /** @param {{ at?: string | null, number?: string | number, direction: Direction, text: string }} clue */
+  clue({ at = null, number = '', direction, text }) {
+    if (text) this.clues.push({ at, number: String(number), direction, text });
+  }
+
+  // Counts what is not kept, under the words for one and those for several.
+  drops(one, several = one) {
+    this.#dropped.set(one, { several, count: (this.#dropped.get(one)?.count ?? 0) + 1 });
+  }
+
+  get dropped() {
+    const others = [...this.#dropped].flatMap(([one, { several, count }]) => (several === one ? [one] : countText(count, one, several)));
+    return [...rebusText(this.#rebus), ...others];
+  }
+
+  // The record of the grid and its letters.
+  get grid() {
+    const bars = [...this.#bars].filter((bar) => this.#isEdge(bar)).map((bar) => `bar ${bar}`);
+    const open = (lines) => lines.filter(([coordinates]) => !this.#blocks.has(coordinates)).map(([coordinates, letter]) => (letter ? `set ${coordinates} ${letter}` : `circle ${coordinates}`));
+    return [
+      `size ${this.width} ${this.height}`, 'sym none', ...[...this.#blocks].map((cell) => `block ${cell}`), ...bars, `sym ${this.#isHalf(bars) ? 'half' : 'none'}`,
+      ...open([...this.#circles].map((cell) => [cell, ''])), ...open([...this.#letters]), '',
+    ].join('\n');
+  }
+
+  // The whole record, the texts that have characters which a record cannot have, and how many clues have no light in the grid. `lights` are those that
+  // the engine finds in it.
+  /** @param {FirstCell[]} lights */
+  recordWith(lights) {
+    const byName = new Map(lights.map(({ name, row, column, direction }) => [name, `${row} ${column} ${direction}`]));
+    const all = new Set(byName.values());
+    const placed = this.clues.map(({ at, number, direction, text }) => ({ field: at ? `${at} ${direction}` : byName.get(`${number} ${direction}`), text }));
+    const known = placed.filter(({ field }) => all.has(field));
+    const originals = [];
+    const lines = [...this.texts, ...known.map(({ field, text }) => [`clue ${field}`, text])].flatMap(([field, text]) => {
+      const { near, count } = nearestText(text);
+      if (count) originals.push([field, text]);
+      return textLines(field, escapeText(near));
+    });
+    return { record: [this.grid, ...lines.map((line) => `${line}\n`)].join(''), originals, lost: placed.length - known.length };
+  }
+
+  // Whether a bar lies between two cells.
+  #isEdge(bar) {
+    const [row, column, side] = bar.split(' ');
+    return row > 0 && column > 0 && (side === 'right' ? column < this.width : row < this.height);
+  }
+
+  // Whether blocks and bars are their half turn.
+  #isHalf(bars) {
+    const turned = (row, column) => [this.height + 1 - row, this.width + 1 - column];
+    const isTurned = (cell) => this.#blocks.has(turned(...cell.split(' ')).join(' '));
+    const barTurned = (bar) => {
+      const [, row, column, side] = bar.split(' ');
+      const [other, beside] = turned(row, column);
+      return side === 'right' ? `bar ${other} ${beside - 1} right` : `bar ${other - 1} ${beside} below`;
+    };
+    return [...this.#blocks].every(isTurned) && bars.every((bar) => bars.includes(barTurned(bar)));
+  }
+}
+
+// A text without its marks, which are those of HTML.
+export const plainOf = (text) => (/[<&]/.test(text) ? new DOMParser().parseFromString(String(text), 'text/html').body.textContent : String(text)).trim();

@@ -1,0 +1,221 @@
+// Tests what the page reads in files of other programs that need no browser, and what it writes: .ipuz, Exolve, versions of .puz, and zips. The files
+// that are read are spelled here from the descriptions of the formats. .jpz files need a browser (editor/files.mjs).
+//
+//   node web/test/formats.mjs
+import { readFileSync } from 'node:fs';
+import { Xw, load, toText } from '../dist/xw.js';
+import { Count } from './count.mjs';
+import { pageModules } from './page-modules.mjs';
+import { puzOf } from './puz.mjs';
+import { zipOf } from './zip.mjs';
+
+const { Board, asVersion13, droppedOfPuz, exolveOf, firstFile, ipuzOf, isZip, kindOf, lights, originalsOf, readExolve, readIpuz, unescapeText } = await pageModules(
+  'answers', 'board', 'dropped', 'exolve', 'ipuz', 'kinds', 'puz-versions', 'record', 'zip',
+);
+const module = await load(readFileSync(new URL('../dist/xw.wasm', import.meta.url)));
+
+function expect(isSo, what) {
+  if (!isSo) throw new Error(what);
+}
+
+// with the names in order
+const sorted = (_, value) => (value && typeof value === 'object' && !Array.isArray(value) ? Object.fromEntries(Object.entries(value).sort(([one], [other]) => (one < other ? -1 : 1))) : value);
+const spelled = (value) => JSON.stringify(value, sorted);
+const same = (told, wanted) => expect(spelled(told) === spelled(wanted), `${spelled(told)}, and not ${spelled(wanted)}`);
+
+function lightsIn(xw) {
+  const { line, read } = lights();
+  return read(xw.line(line).lines);
+}
+
+// The board that the engine has, and the texts of it as the page shows them.
+function boardOf(xw, originals = []) {
+  const lines = (line) => xw.line(line).lines;
+  const board = new Board();
+  board.takeWhole({ show: lines('show'), lights: lines('lights'), cells: lines('cells'), counts: [], circles: lines('circles'), texts: lines('texts') });
+  const kept = new Map(originals);
+  const textOf = (field) => kept.get(field.startsWith('clue ') ? board.clueField(board.byName.get(field.slice(5))) : field) ?? unescapeText(board.texts.get(field) ?? '');
+  return { board, textOf };
+}
+
+// What the page has of a puzzle that was read.
+function openedOf(given) {
+  const { record, originals, lost } = given.recordWith(lightsIn(Xw.open(module, { record: given.grid })));
+  const xw = Xw.open(module, { record });
+  expect(!xw.reports, `the engine reports ${xw.reports}`);
+  const { board, textOf } = boardOf(xw, originals);
+  return { ...toldOf(board, textOf), lost, dropped: given.dropped, board, textOf };
+}
+
+// The rows, the bars and circles, and the texts.
+function toldOf(board, textOf) {
+  const rows = Array.from({ length: board.height }, (_, row) => board.cells.slice(row * board.width, (row + 1) * board.width).map(({ block, letter }) => (block ? '#' : letter || '.')).join(''));
+  const at = (isThere) => board.cells.filter(isThere).map(({ coordinates }) => coordinates).join();
+  const clues = board.lights.map(({ name }) => [name, textOf(`clue ${name}`)]).filter(([, text]) => text);
+  return {
+    rows: rows.join(), right: at(({ right }) => right), below: at(({ below }) => below), circles: at(({ circle }) => circle),
+    texts: ['title', 'author', 'copyright', 'notes'].map(textOf), clues: Object.fromEntries(clues),
+  };
+}
+
+function refused(read) {
+  try {
+    read();
+  } catch ({ status, message }) {
+    expect(status === 'File', `the status is ${status}: ${message}`);
+    return message;
+  }
+  throw new Error('it is read');
+}
+
+// What the page has of a .puz.
+function openedPuz(bytes) {
+  const { bytes: plain, texts } = asVersion13(bytes);
+  const record = toText(Xw.open(module, { puzzle: plain }).record());
+  const xw = Xw.open(module, { record });
+  const { board, textOf } = boardOf(xw, originalsOf(texts, lightsIn(xw)));
+  return { ...toldOf(board, textOf), dropped: droppedOfPuz(plain) };
+}
+
+const statusOf = (bytes) => {
+  try {
+    Xw.open(module, { puzzle: asVersion13(bytes).bytes });
+    return '';
+  } catch ({ status, message }) {
+    return status === 'File' ? message : status;
+  }
+};
+
+const IPUZ = { version: 'http://ipuz.org/v2', kind: ['http://ipuz.org/crossword#1'] };
+
+const CASES = {
+  '.ipuz: blocks, bars, circles, texts and clues'() {
+    const file = {
+      ...IPUZ, title: 'A \u2192 B', author: 'A. Setter', copyright: '\u00a9 2026', notes: 'Two\nlines', dimensions: { width: 3, height: 3 },
+      styles: { ring: { shapebg: 'circle' } }, puzzle: [[1, { cell: 2, style: { barred: 'R' } }, { cell: 0, style: 'ring' }], [{ cell: 3, style: { barred: 'TL' } }, '#', 0], [4, 0, 5]],
+      solution: [['C', 'o', { value: 'T' }], ['A', '#', 'O'], ['T', '', null]],
+      clues: { 'Across:Horizontal': [[1, 'Firm'], { number: 3, clue: 'No light' }, { number: 4, clue: 'Ends', enumeration: '1,2' }], Down: [{ clue: 'By its cells', cells: [[3, 1], [3, 2]] }] },
+    };
+    const { board, textOf, ...told } = openedOf(readIpuz(`ipuz(${JSON.stringify(file)});`));
+    same(told, {
+      rows: 'COT,A#O,T..', right: '1 2', below: '1 1', circles: '1 3', texts: ['A \u2192 B', 'A. Setter', '\u00a9 2026', 'Two\nlines'],
+      clues: { '1 across': 'Firm', '2 down': 'By its cells', '4 across': 'Ends (1,2)' }, lost: 1, dropped: [],
+    });
+    const saved = JSON.parse(ipuzOf(board, textOf));
+    same(saved.puzzle, [[{ cell: 1, style: { barred: 'B' } }, { cell: 0, style: { barred: 'R' } }, { cell: 2, style: { shapebg: 'circle' } }], [3, '#', 0], [4, 0, 0]]);
+    same(saved.solution, [['C', 'O', 'T'], ['A', '#', 'O'], ['T', null, null]]);
+    expect(saved.title === 'A \u2192 B' && saved.notes === 'Two\nlines', JSON.stringify(saved));
+  },
+
+  '.ipuz: what is not kept, and what is no crossword'() {
+    const file = {
+      ...IPUZ, intro: 'Hello', dimensions: { width: 3, height: 1 }, block: 'X', empty: '_', saved: [['A', 0, 0]], zones: [{}],
+      puzzle: [[{ cell: '_', style: { color: 'ff0000' } }, { cell: '_', style: { shapebg: 'star' } }, null]], solution: [['HEART', 'C', null]], clues: { Zones: [[1, 'All']], Across: ['No number'] },
+    };
+    const { rows, texts, lost, dropped } = openedOf(readIpuz(JSON.stringify(file)));
+    same([rows, texts[3], lost], ['HC#', 'Hello', 1]);
+    same(dropped, [
+      'the rebus in row 1, column 1 (HEART is H now)', 'the colour of a cell', 'a shape that is no circle', 'a cell that is left out, which is a block now',
+      'the letters of a solver', 'zones of the grid', 'the clues of Zones',
+    ]);
+    expect(/no JSON/.test(refused(() => readIpuz('{'))), 'half a file');
+    expect(/no crossword/.test(refused(() => readIpuz(JSON.stringify({ ...IPUZ, kind: 'http://ipuz.org/sudoku#1' })))), 'a sudoku');
+    expect(/size from 1/.test(refused(() => readIpuz(JSON.stringify({ ...IPUZ, dimensions: { width: 256, height: 1 } })))), 'a wide grid');
+    expect(/rows/.test(refused(() => readIpuz(JSON.stringify({ ...IPUZ, dimensions: { width: 2, height: 1 }, puzzle: [[0]] })))), 'a short row');
+    expect(/\u2665/.test(refused(() => readIpuz(JSON.stringify({ ...IPUZ, dimensions: { width: 1, height: 1 }, puzzle: [[0]], solution: [['\u2665']] })))), 'a heart');
+  },
+
+  'Exolve'() {
+    const text = `<script>createExolve(\`
+      exolve-begin
+        exolve-id: abc-1
+        exolve-title: Bars and circles
+        exolve-setter: A. Setter
+        exolve-copyright: \u00a9 2026
+        exolve-width: 3
+        exolve-height: 3
+        exolve-preamble:
+          First line
+          and \u2192 second
+        exolve-option: no-smart-coloring
+        exolve-nina: a1 a2
+        exolve-grid:
+          CO|T@
+          A_.O
+          T!0+0
+        exolve-across:
+          1 Firm (2) [Letters of no word]
+          3, 2 A ~{definition}~ that
+            goes on (3,1)
+          [A] No number
+        exolve-down:
+          1. Feline (3)
+          2 As well
+          9 No light
+      exolve-end
+    \`)</script>`;
+    const { board, textOf, ...told } = openedOf(readExolve(text));
+    same(told, {
+      rows: 'COT,A#O,T..', right: '1 2,3 2', below: '2 1', circles: '1 3', texts: ['Bars and circles', 'A. Setter', '\u00a9 2026', 'First line\nand \u2192 second'],
+      clues: { '1 across': 'Firm (2)', '3 across': 'A definition that goes on (3,1)', '1 down': 'Feline (3)', '2 down': 'As well' }, lost: 1,
+      dropped: ['that a letter is shown to solvers', 'the note on a clue', 'the link of a clue to other lights', 'a clue without a number', 'the section exolve-nina'],
+    });
+    same(exolveOf(board, textOf).split('\n').map((line) => line.trim()), [
+      'exolve-begin', 'exolve-title: Bars and circles', 'exolve-setter: A. Setter', 'exolve-copyright: \u00a9 2026', 'exolve-width: 3', 'exolve-height: 3', 'exolve-preamble:', 'First line',
+      'and \u2192 second', 'exolve-grid:', 'C O| T@', 'A_ . O', 'T 0| 0', 'exolve-across:', '1 Firm (2)', '3 A definition that goes on (3,1)', 'exolve-down:', '1 Feline (3)', '2 As well', 'exolve-end', '',
+    ]);
+    const spaced = openedOf(readExolve('exolve-begin\nexolve-width: 3\nexolve-height: 2\nexolve-grid:\nHEART A| E\nB C D\nexolve-end'));
+    same([spaced.rows, spaced.right, spaced.dropped], ['HAE,BCD', '1 2', ['the rebus in row 1, column 1 (HEART is H now)']]);
+    expect(/row 1 /.test(refused(() => readExolve('exolve-begin\nexolve-width: 3\nexolve-height: 1\nexolve-grid:\nAB\nexolve-end'))), 'a short row');
+    expect(/size from 1/.test(refused(() => readExolve('exolve-begin\nexolve-end'))), 'no grid');
+  },
+
+  '.puz of versions 1.2, 1.4 and 2.0'() {
+    const puzzle = { width: 3, height: 2, solution: 'CATO.O' };
+    const texts = (encoding, ...all) => all.map((text) => Buffer.from(text, encoding));
+    const wanted = { rows: 'CAT,O#O', right: '', below: '', circles: '', clues: { '1 across': 'Pet', '1 down': 'Firm', '2 down': 'Also' } };
+    const old = texts('latin1', 'T\u00eftle', '', '\u00a9', 'Pet', 'Firm', 'Also', 'A note');
+    for (const version of ['1.2\0', '1.2c', '1.3\0', '1.4\0']) {
+      const { dropped, ...told } = openedPuz(puzOf({ ...puzzle, version, texts: old }));
+      same(told, { ...wanted, texts: ['T\u00eftle', '', '\u00a9', 'A note'] });
+      same(dropped, []);
+    }
+    const later = texts('utf8', 'A \u2192 B', '\u0141ukasz', '', 'Pet', 'Firm \u2665', 'Also', 'Note \u2026');
+    const section = ['GEXT', Buffer.from([0x80, 0, 0, 0x40, 0, 0])];
+    const bytes = puzOf({ ...puzzle, version: '2.0\0', texts: later, sections: [section, ['LTIM', Buffer.from('1,1')]] });
+    const { dropped, ...told } = openedPuz(bytes);
+    same(told, { ...wanted, circles: '1 1', texts: ['A \u2192 B', '\u0141ukasz', '', 'Note \u2026'], clues: { ...wanted.clues, '1 down': 'Firm \u2665' } });
+    same(dropped, ['the mark of a cell', 'the timer']);
+    // what is wrong is found before the file is made another
+    const with1 = (at, value) => Buffer.from(bytes).fill(value, at, at + 1);
+    expect(/checksum/.test(statusOf(with1(0, bytes[0] ^ 1))) && /checksum/.test(statusOf(with1(0x12, bytes[0x12] ^ 1))), 'a wrong checksum');
+    expect(/checksum/.test(statusOf(puzOf({ ...puzzle, version: '1.2\0', texts: old }).fill('1.4', 0x18, 0x1b))), 'notes that are in no checksum');
+    same([statusOf(with1(0x32, 4)), statusOf(bytes.subarray(0, 70)), statusOf(with1(0x18, 0x33))], ['Scrambled', 'NoNul', 'Version']);
+  },
+
+  async 'zips'() {
+    const text = `<?xml version="1.0"?><crossword-compiler>${'x'.repeat(5000)}</crossword-compiler>`;
+    const most = 1 << 20;
+    for (const method of [0, 8]) {
+      const zip = zipOf([['folder/', ''], ['one.xml', text], ['two.xml', 'other']], method);
+      expect(isZip(zip), 'it is no zip');
+      const first = await firstFile(zip, most);
+      expect(toText(first) === text, `method ${method}: ${toText(first ?? new Uint8Array())}`);
+      expect((await firstFile(zip, 100)) === null, 'it is larger than it may be');
+    }
+    const zip = zipOf([['one.xml', text]]);
+    expect((await firstFile(zip.slice(0, 50), most)) === null && (await firstFile(zip.slice(0, -60), most)) === null, 'half a zip');
+    expect(!isZip(new Uint8Array([1, 2])) && !isZip(Buffer.from(text)), 'a text is a zip');
+  },
+
+  'what files are'() {
+    const kind = (name, text) => kindOf(name, new Uint8Array(Buffer.from(text)));
+    same(kind('a.xml', '<?xml version="1.0"?>\n<crossword-compiler-applet xmlns="http://crossword.info/xml/crossword-compiler">'), 'jpz');
+    same([kind('a.jpz', '<x/>'), kind('a.ipuz', '{'), kind('a.txt', 'exolve-begin\nexolve-end\n'), kind('a.txt', 'cat\ndog\nhorse\n')], ['jpz', 'ipuz', 'exolve', 'list']);
+    same(kind('a.html', `<p>${'text '.repeat(2000)}\n  exolve-begin\n`), 'exolve');
+  },
+};
+
+const count = new Count();
+await count.runAll(CASES);
+count.end();
