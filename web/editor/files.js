@@ -9,6 +9,7 @@ import { jpzOf, readJpz } from './jpz.js';
 import { SESSION_HEAD, hasCommands, isPuz, kindOf } from './kinds.js';
 import { refusalText, refuseAsIs as refuse, sayAsIs as say } from './messages.js';
 import { asVersion13, originalsOf } from './puz-versions.js';
+import { readDeck, readQxw } from './qxw.js';
 import { bodyOf, strangeCharacter } from './record.js';
 import { termed } from './terms.js';
 import { asVersion1, letterRows, recordOfRows } from './text-grids.js';
@@ -30,6 +31,8 @@ const READERS = {
   ipuz: (bytes) => readIpuz(new TextDecoder().decode(bytes)),
   jpz: (bytes) => readJpz(new DOMParser().parseFromString(listText(bytes), 'text/xml')),
   exolve: (bytes) => readExolve(listText(bytes)),
+  qxw: (bytes) => readQxw(listText(bytes)),
+  deck: (bytes) => readDeck(listText(bytes)),
 };
 const WRITERS = { ipuz: ipuzOf, jpz: jpzOf, exolve: exolveOf };
 
@@ -61,6 +64,8 @@ export class Files {
         case 'ipuz':
         case 'jpz':
         case 'exolve':
+        case 'qxw':
+        case 'deck':
           return await this.#openGiven(file.name, READERS[kind](bytes));
         case 'puzzles':
           return await this.#openPuzzles(file.name, new TextDecoder().decode(bytes));
@@ -70,7 +75,7 @@ export class Files {
         case 'empty':
           return this.#refuse(`${file.name} is empty: nothing is opened`);
         default:
-          return this.#refuse(`${file.name} is no puzzle (.puz, .ipuz, .jpz, Exolve or text), no session and no word list: nothing is opened`);
+          return this.#refuse(`${file.name} is no puzzle (.puz, .ipuz, .jpz, .qxw, Exolve or text), no session and no word list: nothing is opened`);
       }
     } catch (fault) {
       if (!fault.status) throw fault;

@@ -4,6 +4,7 @@ import { isExolve } from './exolve.js';
 import { isIpuz } from './ipuz.js';
 import { isJpz } from './jpz.js';
 import { isPuzzlesFile } from './puzzles-file.js';
+import { isQxw } from './qxw.js';
 import { isVersion2, letterRows } from './text-grids.js';
 import { isWordList, listText } from './word-list.js';
 
@@ -38,7 +39,7 @@ const isSixteenBits = (bytes) => (bytes[0] === 0xff && bytes[1] === 0xfe) || (by
 // Whether a puzzle is a .puz, and not a text.
 export const isPuz = (bytes) => toText(bytes.subarray(MAGIC_AT, MAGIC_AT + MAGIC.length)) === MAGIC;
 
-// What a file is: `puzzle` (.puz or text), `text2` (text of version 2), `ipuz`, `jpz`, `exolve`, `session`, `puzzles`, `list`, `rows` (a grid of letters, or a
+// What a file is: `puzzle` (.puz or text), `text2` (text of version 2), `ipuz`, `jpz`, `exolve`, `qxw`, `deck`, `session`, `puzzles`, `list`, `rows` (a grid of letters, or a
 // list of words of one length), `empty`, or `other`.
 export function kindOf(name, bytes) {
   if (!bytes.length) return 'empty';
@@ -49,6 +50,8 @@ export function kindOf(name, bytes) {
   if (isPuzzlesFile(head)) return 'puzzles';
   if (isIpuz(head) || /\.ipuz$/i.test(name)) return 'ipuz';
   if (isJpz(head) || /\.jpz$/i.test(name)) return 'jpz';
+  if (isQxw(head)) return 'qxw';
+  if (/\.qxd$/i.test(name)) return 'deck';
   if (isExolve(toText(bytes.subarray(0, SAMPLE)))) return 'exolve';
   if (isSession(name, head)) return 'session';
   // a text of bytes has no NUL, and pictures and archives have one soon
