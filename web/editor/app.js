@@ -74,6 +74,7 @@ const grid = new GridView(editor, $('grid'), {
   edit,
   mayEdit,
   why: () => reasons.ask().catch(() => {}),
+  askEntry,
   filter: () => tabs.toField('words', 'filter'),
   escape: () => {
     filler.stop();
@@ -139,6 +140,17 @@ const files = new Files(editor, {
   saved: () => shelf.saved(), askRows,
 });
 files.takeDrops(document.body);
+// Asks for the letters of a cell, which may be several.
+async function askEntry(index) {
+  const cell = editor.board.cells[index];
+  if (cell.block || !mayEdit()) return;
+  const field = /** @type {HTMLInputElement} */ ($('rebus'));
+  field.value = editor.entryOf(cell);
+  const answer = askDialog($('rebus-dialog'));
+  field.select();
+  if ((await answer) === 'enter') await edits.enter(index, field.value);
+}
+
 // Asks whether rows of letters are a grid or a list.
 function askRows(name, rows) {
   $('rows-told').textContent = `${name} has ${rows.length} lines of ${rows[0].length} letters: a grid, or a list of words?`;

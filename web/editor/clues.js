@@ -111,9 +111,10 @@ export class CluesView {
     const length = document.createElement('button');
     length.type = 'button';
     length.className = 'length';
-    length.textContent = `(${light.cells.length})`;
+    const { length: letters } = this.#editor.answerOf(light);
+    length.textContent = `(${letters})`;
     length.title = 'Put the length at the end of the clue';
-    length.setAttribute('aria-label', `put (${light.cells.length}) at the end of the clue of ${titleOf(light)}`);
+    length.setAttribute('aria-label', `put (${letters}) at the end of the clue of ${titleOf(light)}`);
     length.tabIndex = -1;
     const note = Object.assign(document.createElement('span'), { className: 'written', id: `written-${light.number}-${light.direction}` });
     field.setAttribute('aria-describedby', note.id);
@@ -142,7 +143,7 @@ export class CluesView {
 
   // Puts the length of a light at the end of its clue, and selects it, so that another one can be typed over it, such as 3,5.
   #addLength(field) {
-    field.value = withEnumeration(field.value, this.#editor.board.byName.get(field.dataset.light).cells.length);
+    field.value = withEnumeration(field.value, this.#editor.answerOf(this.#editor.board.byName.get(field.dataset.light)).length);
     this.#showLength(field);
     this.#change(field);
     field.focus();
@@ -159,7 +160,7 @@ export class CluesView {
 
   #addLengths() {
     const { board } = this.#editor;
-    return this.actions.texts(this.#withoutLengths.map((light) => [board.clueField(light), withEnumeration(this.#fields.get(light.name).field.value, light.cells.length)]));
+    return this.actions.texts(this.#withoutLengths.map((light) => [board.clueField(light), withEnumeration(this.#fields.get(light.name).field.value, this.#editor.answerOf(light).length)]));
   }
 
   // Letters come one after another: the words are shown once for those of a frame, and only in sight.

@@ -1,6 +1,6 @@
 // The tab of the puzzle: its texts, counts, repeats and words.
-import { dups, stats, unlisted } from './answers.js';
-import { whyUnlisted } from './faults.js';
+import { dups, stats } from './answers.js';
+import { faultsOf } from './faults.js';
 import { parseRecord } from './record.js';
 import { refuse, say } from './messages.js';
 import { warningsOf } from './rules.js';
@@ -69,10 +69,9 @@ export class DetailsView {
   async refresh() {
     if (this.#elements.panel.hidden) return;
     const editor = this.#editor;
-    const [counted, repeated, found] = await Promise.all([editor.ask(stats()), editor.ask(dups()), editor.ask(unlisted())]);
+    const [counted, repeated, found] = await Promise.all([editor.ask(stats()), editor.ask(dups()), faultsOf(editor)]);
     this.#showCounts(counted);
-    const whys = await whyUnlisted(editor, found.map(({ word }) => word));
-    this.#showChecks(repeated, found.map((light, at) => ({ ...light, why: whys[at] })));
+    this.#showChecks(repeated, found);
     this.#showChanged();
   }
 
@@ -118,7 +117,7 @@ export class DetailsView {
     }
     const dead = board.lights.filter((light) => light.count === 0 && !board.isEntered(light));
     if (dead.length) items.unshift(check(dead.length === 1 ? `${titleOf(dead[0])} has no word left` : `${dead.length} lights have no word left`, dead[0].name));
-    for (const warning of warningsOf(board)) {
+    for (const warning of warningsOf(board, (light) => this.#editor.answerOf(light))) {
       const item = element('li', '', 'warning');
       const place = warning.cell === undefined ? { light: warning.light ?? '' } : { cell: warning.cell };
       item.append(button(`⚠ ${warning.text}`, { ...place, ...(warning.isClue && { tab: 'clue' }) }));

@@ -1,6 +1,7 @@
 // The session: edits go to the engine in order, and each is kept in a history of records.
 import { Engine } from './engine.js';
 import { gradeOf, usualWeak } from './grades.js';
+import { entryOf, standing, withoutEntered } from './rebus.js';
 import { bodyOf, letterIn, nearestText, parseRecord, placeOf, transition, unescapeText } from './record.js';
 import { refusalText, refuse } from './messages.js';
 import { EditorState, NO_REASON, newPuzzleName, only } from './state.js';
@@ -136,6 +137,16 @@ export class Editor extends EditorState {
     return original !== undefined && nearestText(original).near === text ? original : text;
   }
 
+  // The letters of a cell; '' if it is empty.
+  entryOf(cell) {
+    return entryOf(cell, this.originals);
+  }
+
+  // The letters of a light, with a dot for an empty cell.
+  answerOf(light) {
+    return light.cells.map((cell) => this.entryOf(this.board.cells[cell]) || '.').join('');
+  }
+
   // Does one thing after another, each to its end. `lines` are those of an edit.
   inOrder(action, lines = null) {
     this.#queued++;
@@ -163,15 +174,15 @@ export class Editor extends EditorState {
    * @returns {Promise<string | null>}
    */
   edit(lines, options = {}) {
-    if (options.originals) this.#dueOriginals.push(options.originals);
-    const { at = this.#place, to = at } = options;
+    const { at = this.#place, to = at, originals = withoutEntered(this.dueOriginals, lines) } = options;
+    if (originals) this.#dueOriginals.push(originals);
     return this.inOrder(async () => {
       try {
-        return await this.#edit(lines, { from: at, to }, options);
+        return await this.#edit(lines, { from: at, to }, { ...options, originals });
       } catch (fault) {
         return fault.status ?? 'Engine';
       } finally {
-        if (options.originals) this.#dueOriginals.shift();
+        if (originals) this.#dueOriginals.shift();
       }
     }, lines);
   }
@@ -191,6 +202,8 @@ export class Editor extends EditorState {
     else this.#takeLetters(lines, told);
     if (!isWhole) await this.#idle();
     const record = await this.engine.call('record');
+    const entries = standing(this.originals, this.board);
+    if (entries !== this.originals) this.hold({ originals: entries });
     this.hold({ record, ...(isWhole && { sym: parseRecord(record).sym }) });
     this.#adopt(withoutWords(this.written, rewritten));
     if (only === null) this.#step(places, stroke);

@@ -3,6 +3,7 @@ import { changeBeside } from './changed.js';
 import { enumerated } from './enumeration.js';
 import { endingMessage, refusalText, refuse, say, sayAsIs } from './messages.js';
 import { $ } from './page.js';
+import { cellField } from './rebus.js';
 import { escapeText, nearestText, strangeCharacter, textLines } from './record.js';
 import { titleOf } from './words.js';
 
@@ -60,6 +61,21 @@ export class Edits {
     if (!first) return;
     const hidden = others.length ? `${others.length + 1} clues are hidden, since their lights are gone` : `the clue of ${first} is hidden, since its light is gone`;
     refuse(`${hidden}: undo brings ${others.length ? 'them' : 'it'} back`);
+  }
+
+  // Enters letters into a cell: several, of which the engine gets the first, one, or none.
+  async enter(index, typed) {
+    const editor = this.#editor;
+    const cell = editor.board.cells[index];
+    const entry = typed.normalize('NFD').replace(/[^A-Za-z]/g, '').toUpperCase();
+    if (typed.trim() && !entry) return refuse('a cell has letters from A to Z');
+    const originals = new Map(editor.dueOriginals);
+    originals.delete(cellField(cell.coordinates));
+    if (entry.length > 1) originals.set(cellField(cell.coordinates), entry);
+    const pencil = new Set([...editor.pencil].filter((other) => other !== cell.coordinates));
+    const lines = entry[0] === cell.letter ? [] : [entry ? `set ${cell.coordinates} ${entry[0]}` : `clear ${cell.coordinates}`];
+    if (cell.letter || entry) await this.edit(lines, { originals, pencil });
+    return undefined;
   }
 
   // Sets a text to what an element holds; returns what it is refused for, or null.

@@ -6,24 +6,25 @@ const SECTION = /^exolve-([a-z-]+)(?::\s*(.*))?$/;
 
 export const isExolve = (text) => BEGIN.test(text);
 
-// The file of a board. `textOf` gives the text of a field.
-export function exolveOf(board, textOf) {
-  const rows = Array.from({ length: board.height }, (_, row) => board.cells.slice(row * board.width, (row + 1) * board.width).map(spelled).join(' '));
+// The file of a board. `textOf` gives the text of a field, and `entryOf` the letters of a cell.
+export function exolveOf(board, textOf, entryOf = ({ letter }) => letter) {
+  const rows = Array.from({ length: board.height }, (_, row) => board.cells.slice(row * board.width, (row + 1) * board.width).map((cell) => spelled(cell, entryOf(cell))).join(' '));
+  const isRebus = board.cells.some((cell) => entryOf(cell).length > 1);
   // a line that begins with the word of a section would be one
   const lines = (text) => text.split(/\r?\n/).map((line) => `    ${line.replace(/^\s*exolve-/, '')}`);
   const line = (name, text) => (text ? [`  exolve-${name}: ${text.replace(/\s+/g, ' ')}`] : []);
   const clues = (direction) => board.lights.filter((light) => light.direction === direction).map((light) => `    ${light.number} ${textOf(`clue ${light.name}`).replace(/\s+/g, ' ')}`.trimEnd());
   const whole = [
     'exolve-begin', ...line('title', textOf('title')), ...line('setter', textOf('author')), ...line('copyright', textOf('copyright')), `  exolve-width: ${board.width}`,
-    `  exolve-height: ${board.height}`, ...(textOf('notes') ? ['  exolve-preamble:', ...lines(textOf('notes'))] : []), '  exolve-grid:', ...rows.map((row) => `    ${row}`),
+    `  exolve-height: ${board.height}`, ...(isRebus ? ['  exolve-option: rebus-cells'] : []), ...(textOf('notes') ? ['  exolve-preamble:', ...lines(textOf('notes'))] : []), '  exolve-grid:', ...rows.map((row) => `    ${row}`),
     '  exolve-across:', ...clues('across'), '  exolve-down:', ...clues('down'), 'exolve-end',
   ];
   return `${whole.join('\n')}\n`;
 }
 
-function spelled(cell) {
+function spelled(cell, entry) {
   if (cell.block) return '.';
-  return `${cell.letter || '0'}${cell.right && cell.below ? '+' : cell.right ? '|' : cell.below ? '_' : ''}${cell.circle ? '@' : ''}`;
+  return `${entry || '0'}${cell.right && cell.below ? '+' : cell.right ? '|' : cell.below ? '_' : ''}${cell.circle ? '@' : ''}`;
 }
 
 // The sections of a text: what stands behind the name of each, and the lines below it.

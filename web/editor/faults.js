@@ -1,7 +1,8 @@
 // Entered words that are not in use, or that stand twice: marked in the grid, and named for the light under the cursor.
-import { dups, unlisted } from './answers.js';
+import { dups, match, unlisted } from './answers.js';
 import { gradeOf } from './grades.js';
 import { whenIdle } from './idle.js';
+import { isCellField } from './rebus.js';
 import { parseRecord } from './record.js';
 import { isSameSet } from './state.js';
 import { readPersonal } from './word-list.js';
@@ -20,6 +21,21 @@ export async function whyUnlisted(editor, words) {
     if (score !== null && gradeOf(score, list.best) < list.grade) return `${word} (${score}) is below your least score, ${list.least}`;
     return hidden.has(word) ? `${word} is hidden by your words` : `${word} is not in your lists`;
   });
+}
+
+// The words of the grid that are not in use: their lights, and why. The engine is asked for the whole word of a light with several letters in a cell.
+/** @param {import('./editor.js').Editor} editor */
+export async function faultsOf(editor) {
+  const { board } = editor;
+  const found = (await editor.ask(unlisted())) ?? [];
+  const isAny = [...editor.originals.keys()].some(isCellField);
+  const longer = isAny ? board.lights.filter((light) => board.isEntered(light) && editor.answerOf(light).length > light.cells.length) : [];
+  const names = new Set(longer.map(({ name }) => name));
+  const words = longer.map((light) => ({ name: light.name, number: light.number, direction: light.direction, word: editor.answerOf(light) }));
+  const isListed = await Promise.all(words.map(async ({ word }) => Boolean((await editor.ask(match(word)))?.length)));
+  const all = [...found.filter(({ name }) => !names.has(name)), ...words.filter((_, at) => !isListed[at])];
+  const whys = await whyUnlisted(editor, all.map(({ word }) => word));
+  return all.map((light, at) => ({ ...light, why: whys[at] }));
 }
 
 export class Faults extends EventTarget {
@@ -45,10 +61,9 @@ export class Faults extends EventTarget {
   async #ask(turn) {
     const { board } = this.#editor;
     const isAny = board.lights.some((light) => board.isEntered(light));
-    const [found, repeated] = isAny ? await Promise.all([this.#editor.ask(unlisted()), this.#editor.ask(dups())]) : [[], []];
-    const whys = await whyUnlisted(this.#editor, found.map(({ word }) => word));
+    const [found, repeated] = isAny ? await Promise.all([faultsOf(this.#editor), this.#editor.ask(dups())]) : [[], []];
     if (turn !== this.#turn) return;
-    this.unlisted = new Map(found.map(({ name, word }, at) => [name, { word, why: whys[at] }]));
+    this.unlisted = new Map(found.map(({ name, word, why }) => [name, { word, why }]));
     this.repeated = new Map(repeated.map(({ name, first }) => [name, first.name]));
     const faulty = this.#editor.board.cellsOf([...this.unlisted.keys(), ...this.repeated.keys()]);
     if (!isSameSet(faulty, this.#editor.faulty)) this.#editor.change({ faulty });

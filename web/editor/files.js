@@ -1,15 +1,17 @@
 // Files: what is opened, dropped and saved.
 import { toBytes, toText } from '../xw.js';
 import { csvOf, htmlOf } from './clue-sheet.js';
-import { droppedOfPuz, joinedText } from './dropped.js';
+import { countText, droppedOfPuz, joinedText } from './dropped.js';
 import { enumerated } from './enumeration.js';
 import { exolveOf, readExolve } from './exolve.js';
 import { ipuzOf, readIpuz } from './ipuz.js';
 import { jpzOf, readJpz } from './jpz.js';
 import { SESSION_HEAD, hasCommands, isPuz, kindOf } from './kinds.js';
 import { refusalText, refuseAsIs as refuse, sayAsIs as say } from './messages.js';
+import { rebusOf, withRebus } from './puz-sections.js';
 import { asVersion13, originalsOf } from './puz-versions.js';
 import { readDeck, readQxw } from './qxw.js';
+import { isCellField, isRebus, keptRebus } from './rebus.js';
 import { bodyOf, strangeCharacter } from './record.js';
 import { termed } from './terms.js';
 import { asVersion1, letterRows, recordOfRows } from './text-grids.js';
@@ -95,9 +97,9 @@ export class Files {
   }
 
   async #openText2(name, bytes) {
-    const { text, circles, dropped } = asVersion1(listText(bytes));
+    const { text, lines, originals, dropped } = asVersion1(listText(bytes));
     const read = await this.#editor.engine.call('read', { puzzle: toBytes(text) });
-    await this.#editor.replace({ record: [read.trimEnd(), ...circles.map((cell) => `circle ${cell}`), ''].join('\n') });
+    await this.#editor.replace({ record: [read.trimEnd(), ...lines, ''].join('\n'), originals });
     return this.#opened(name, dropped);
   }
 
@@ -115,8 +117,9 @@ export class Files {
   async #openPuzzle(name, bytes) {
     const { bytes: puzzle, texts } = isPuz(bytes) ? asVersion13(bytes) : { bytes, texts: [] };
     const record = await this.#editor.engine.call('read', { puzzle });
-    const originals = texts.length ? originalsOf(texts, await this.#editor.engine.call('lights', { record })) : [];
-    await this.#editor.replace({ record, originals });
+    const strange = texts.length ? originalsOf(texts, await this.#editor.engine.call('lights', { record })) : [];
+    const { originals, lines } = keptRebus(isPuz(puzzle) ? rebusOf(puzzle) : []);
+    await this.#editor.replace({ record: [record.trimEnd(), ...lines, ''].join('\n'), originals: [...strange, ...originals] });
     return this.#opened(name, isPuz(puzzle) ? droppedOfPuz(puzzle) : []);
   }
 
@@ -188,8 +191,10 @@ export class Files {
 
   async save(form) {
     try {
+      if (form === 'puz') return this.#givePuzzle(await this.#puz(), this.#name('puz'), this.#nearNote());
       const bytes = await this.#editor.inOrder(() => this.#editor.engine.call('file', { form }));
-      this.#givePuzzle(bytes, this.#name(form === 'puz' ? 'puz' : 'txt'), this.#nearNote());
+      const [lost] = countText(this.#rebus.size, 'the first letter of the rebus', 'the first letters of rebus cells');
+      this.#givePuzzle(bytes, this.#name('txt'), `${lost ? `, with ${lost.replace(/^\d+ /, '')} alone` : ''}${this.#nearNote()}`);
     } catch (fault) {
       if (!fault.status) throw fault;
       this.#explain(fault.status);
@@ -199,16 +204,28 @@ export class Files {
   // Saves a .puz, or if the puzzle cannot be one yet, the session, and says which and why.
   async saveAny() {
     try {
-      this.#givePuzzle(await this.#editor.inOrder(() => this.#editor.engine.call('file', { form: 'puz' })), this.#name('puz'), this.#nearNote());
+      this.#givePuzzle(await this.#puz(), this.#name('puz'), this.#nearNote());
     } catch (fault) {
       if (!fault.status) throw fault;
       this.saveSession(`: the session, since ${this.#whyNoPuz(fault.status)}`);
     }
   }
 
+  // The cells with several letters, by index.
+  get #rebus() {
+    const entries = this.#editor.board.cells.map((cell, index) => /** @type {[number, string]} */ ([index, this.#editor.entryOf(cell)]));
+    return new Map(entries.filter(([, entry]) => isRebus(entry)));
+  }
+
+  // The .puz of the engine, with sections for cells with several letters.
+  async #puz() {
+    const bytes = await this.#editor.inOrder(() => this.#editor.engine.call('file', { form: 'puz' }));
+    return withRebus(bytes, this.#rebus);
+  }
+
   // What a .puz has near characters for.
   #nearNote() {
-    const strange = [...this.#editor.originals.values()].map(strangeCharacter);
+    const strange = [...this.#editor.originals].filter(([field]) => !isCellField(field)).map(([, text]) => strangeCharacter(text));
     return strange.length ? `, with near characters for ${[...new Set(strange)].map((one) => `“${one}”`).join(', ')}` : '';
   }
 
@@ -258,15 +275,16 @@ export class Files {
   }
 
   #textOf = (field) => this.#editor.textOf(field);
+  #entryOf = (cell) => this.#editor.entryOf(cell);
 
   // Saves a file that can be unfinished and have bars: `ipuz`, `jpz` or `exolve`.
   saveAs(form) {
-    this.#givePuzzle(new TextEncoder().encode(WRITERS[form](this.#editor.board, this.#textOf)), this.#name(form));
+    this.#givePuzzle(new TextEncoder().encode(WRITERS[form](this.#editor.board, this.#textOf, this.#entryOf)), this.#name(form));
   }
 
   // Saves the clues as a table: `csv` or `html`.
   saveClues(form) {
-    const of = [this.#editor.board, this.#textOf, enumerated];
+    const of = [this.#editor.board, this.#textOf, enumerated, (light) => this.#editor.answerOf(light)];
     this.#give(new TextEncoder().encode(form === 'csv' ? csvOf(...of) : htmlOf(...of)), this.#name(form));
   }
 

@@ -1,5 +1,6 @@
 // A puzzle as a file tells it: its cells, texts and clues, and what of it the page does not keep. Each reader of a format makes one.
-import { countText, rebusText } from './dropped.js';
+import { countText } from './dropped.js';
+import { cellField } from './rebus.js';
 import { escapeText, nearestText, textLines } from './record.js';
 
 /** @typedef {import('./answers.js').Direction} Direction */
@@ -29,6 +30,8 @@ export class Given {
   #circles = new Set();
   /** @type {Map<string, string>} by coordinates */
   #letters = new Map();
+  // the entries of several letters, as originals are kept
+  /** @type {[string, string][]} */
   #rebus = [];
   // what else is not kept, in a few words each, and how often
   #dropped = new Map();
@@ -64,13 +67,12 @@ export class Given {
     }
   }
 
-  // What is in a cell: letters, of which the first is kept. Throws a FileFault if it is something else.
+  // What is in a cell: a letter, or several. Throws a FileFault if it is something else.
   entry(row, column, given) {
     const entry = String(given).toUpperCase();
     if (!/^[A-Z]+$/.test(entry)) throw new FileFault(`row ${row}, column ${column} has “${String(given).slice(0, 10)}” for a letter`);
-    const letter = entry.slice(0, 1);
-    this.#letters.set(`${row} ${column}`, letter);
-    if (entry.length > 1) this.#rebus.push({ row, column, entry, letter });
+    this.#letters.set(`${row} ${column}`, entry.slice(0, 1));
+    if (entry.length > 1) this.#rebus.push([cellField(`${row} ${column}`), entry]);
   }
 
   text(field, text) {
@@ -88,8 +90,7 @@ export class Given {
   }
 
   get dropped() {
-    const others = [...this.#dropped].flatMap(([one, { several, count }]) => (several === one ? [one] : countText(count, one, several)));
-    return [...rebusText(this.#rebus), ...others];
+    return [...this.#dropped].flatMap(([one, { several, count }]) => (several === one ? [one] : countText(count, one, several)));
   }
 
   // The record of the grid and its letters.
@@ -102,7 +103,7 @@ export class Given {
     ].join('\n');
   }
 
-  // The whole record, the texts that have characters which a record cannot have, and how many clues have no light in the grid. `lights` are those that
+  // The whole record, the texts and the cells that have what a record cannot have, and how many clues have no light in the grid. `lights` are those that
   // the engine finds in it.
   /** @param {FirstCell[]} lights */
   recordWith(lights) {
@@ -110,7 +111,7 @@ export class Given {
     const all = new Set(byName.values());
     const placed = this.clues.map(({ at, number, direction, text }) => ({ field: at ? `${at} ${direction}` : byName.get(`${number} ${direction}`), text }));
     const known = placed.filter(({ field }) => all.has(field));
-    const originals = [];
+    const originals = [...this.#rebus];
     const lines = [...this.texts, ...known.map(({ field, text }) => [`clue ${field}`, text])].flatMap(([field, text]) => {
       const { near, count } = nearestText(text);
       if (count) originals.push([field, text]);

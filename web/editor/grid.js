@@ -14,6 +14,9 @@ const NARROW = 640;
 // Below this size of a cell its letter stands at the foot, and leaves no room for a line below it.
 const SMALL = 30;
 
+// cells with so many letters or more have letters of one size
+const MOST_SIZED = 6;
+
 const ARROWS = { ArrowLeft: ['across', -1], ArrowRight: ['across', 1], ArrowUp: ['down', -1], ArrowDown: ['down', 1] };
 
 export class GridView {
@@ -53,7 +56,7 @@ export class GridView {
       this.paste(event.clipboardData.getData('text'));
     });
     root.append(...this.#bands, this.#typing.element);
-    editor.on(['board', 'reason', 'unmatched', 'letters', 'faulty', 'weak', 'cursor', 'chosen'], (transaction) => this.#take(transaction));
+    editor.on(['board', 'reason', 'unmatched', 'letters', 'faulty', 'weak', 'cursor', 'chosen', 'originals'], (transaction) => this.#take(transaction));
     document.addEventListener('paste', (event) => {
       if (document.activeElement === document.body) this.paste(event.clipboardData.getData('text'));
     });
@@ -145,7 +148,8 @@ export class GridView {
     if (isOpen && cell.left.length === 1) classes.push('only');
     this.#marksOf(index, classes);
     if (isOpen && cell.left.length > 1) classes.push(`shade-${shadeOf(cell.left.length)}`);
-    const letter = cell.letter || (isOpen && cell.left.length === 1 ? cell.left : '');
+    const letter = this.#editor.entryOf(cell) || (isOpen && cell.left.length === 1 ? cell.left : '');
+    if (letter.length > 1) classes.push('rebus', `rebus-${Math.min(letter.length, MOST_SIZED)}`);
     this.#put(index, { classes: classes.join(' '), letter, number: cell.number, label: this.#nameOf(index) });
   }
 
@@ -171,7 +175,7 @@ export class GridView {
     const words = [`row ${board.rowOf(index)}, column ${board.columnOf(index)}`];
     if (cell.number) words.push(`number ${cell.number}`);
     if (cell.block) words.push('block');
-    else if (cell.letter) words.push(cell.letter);
+    else if (cell.letter) words.push(this.#editor.entryOf(cell));
     else if (!cell.left) words.push('empty, no letter is left');
     else if (cell.left.length === 1) words.push(`empty, only ${cell.left} is left`);
     else words.push(`empty, ${cell.left.length} letters are left`);
@@ -240,7 +244,7 @@ export class GridView {
     const isTurned = Boolean(letters) && this.isBlank !== this.#wasBlank;
     // each cell is painted once
     const painted = new Set([...(letters ? this.#takeUndrawn() : []), ...this.#changedBy(transaction)]);
-    if (isTurned || ['board', 'reason', 'unmatched'].some((name) => name in changes)) this.draw();
+    if (isTurned || ['board', 'reason', 'unmatched', 'originals'].some((name) => name in changes)) this.draw();
     else {
       for (const index of painted) if (this.#cells[index]) this.paint(index);
       if (changes.cursor !== undefined || changes.chosen) this.mark(painted);
@@ -339,6 +343,7 @@ export class GridView {
       Tab: () => this.#nextLight(shiftKey ? -1 : 1),
       Enter: () => (shiftKey ? this.#choose() : this.turn()),
       ' ': () => this.#clear(1),
+      Insert: () => this.actions.askEntry(this.#editor.cursor),
       Backspace: () => (shiftKey ? this.eraseLight() : this.#backspace()),
       Delete: () => (shiftKey ? this.eraseLight() : this.#clear(0)),
       Home: () => this.#toEnd(0),

@@ -7,14 +7,14 @@ const KIND = 'http://ipuz.org/crossword#1';
 
 export const isIpuz = (head) => /^\s*(ipuz\s*\()?\s*\{/.test(head) && head.includes('ipuz.org/');
 
-// The file of a board. `textOf` gives the text of a field.
-export function ipuzOf(board, textOf) {
+// The file of a board. `textOf` gives the text of a field, and `entryOf` the letters of a cell.
+export function ipuzOf(board, textOf, entryOf = ({ letter }) => letter) {
   const rows = (cellOf) => Array.from({ length: board.height }, (_, row) => Array.from({ length: board.width }, (__, column) => cellOf(board.cells[row * board.width + column])));
   const clues = (direction) => board.lights.filter((light) => light.direction === direction).map((light) => [Number(light.number), textOf(`clue ${light.name}`)]);
   const texts = Object.fromEntries(FIELDS.map((field) => [field, textOf(field)]).filter(([, text]) => text));
   const whole = {
     version: VERSION, kind: [KIND], ...texts, dimensions: { width: board.width, height: board.height }, puzzle: rows(shownIn),
-    solution: rows((cell) => (cell.block ? '#' : cell.letter || null)), clues: { Across: clues('across'), Down: clues('down') },
+    solution: rows((cell) => (cell.block ? '#' : entryOf(cell) || null)), clues: { Across: clues('across'), Down: clues('down') },
   };
   return `${JSON.stringify(whole, null, 1)}\n`;
 }

@@ -13,11 +13,11 @@ const spelled = (text) => String(text).replace(/[&<>"]/g, (one) => ({ '&': '&amp
 // the attributes that have values
 const attributes = (values) => Object.entries(values).filter(([, value]) => value !== '' && value !== false).map(([name, value]) => ` ${name}="${spelled(value)}"`).join('');
 
-// The file of a board. `textOf` gives the text of a field.
-export function jpzOf(board, textOf) {
+// The file of a board. `textOf` gives the text of a field, and `entryOf` the letters of a cell.
+export function jpzOf(board, textOf, entryOf = ({ letter }) => letter) {
   const place = (index) => ({ x: board.columnOf(index), y: board.rowOf(index) });
   const cells = board.cells.map((cell, index) => `<cell${attributes({
-    ...place(index), type: cell.block && 'block', solution: cell.letter, number: cell.number, 'background-shape': cell.circle && !cell.block && 'circle', 'right-bar': cell.right && 'true',
+    ...place(index), type: cell.block && 'block', solution: entryOf(cell), number: cell.number, 'background-shape': cell.circle && !cell.block && 'circle', 'right-bar': cell.right && 'true',
     'bottom-bar': cell.below && 'true',
   })}/>`);
   const words = board.lights.map(({ cells: [first, ...others], direction }, at) => {

@@ -82,9 +82,9 @@ export class Printer {
       heading.colSpan = 3;
       table.insertRow().append(heading);
       for (const light of board.lights.filter((one) => one.direction === direction)) {
-        const { text, enumeration } = enumerated(this.#text(`clue ${light.name}`), light.cells.length);
+        const { text, enumeration } = enumerated(this.#text(`clue ${light.name}`), this.#editor.answerOf(light).length);
         const row = table.insertRow();
-        const cells = [`${light.number}${direction === 'across' ? 'A' : 'D'}`, [text, this.hasLengths ? enumeration : ''].join(' ').trim(), board.spell(light).replaceAll('.', '_')];
+        const cells = [`${light.number}${direction === 'across' ? 'A' : 'D'}`, [text, this.hasLengths ? enumeration : ''].join(' ').trim(), this.#editor.answerOf(light).replaceAll('.', '_')];
         row.append(...cells.map((cell) => make('td', '', cell)));
       }
     }
@@ -122,7 +122,9 @@ export class Printer {
       parts.push(`<rect x="${x}" y="${y}" width="${size}" height="${size}" fill="${cell.block ? '#000' : '#fff'}" stroke="#000" stroke-width="0.8"/>`);
       if (cell.circle && !cell.block) parts.push(`<circle ${middle} fill="none" stroke="#666" stroke-width="0.7"/>`);
       if (cell.number) parts.push(`<text x="${x + 2}" y="${y + 9}" font-size="8">${cell.number}</text>`);
-      if (isSolution && cell.letter) parts.push(`<text x="${x + size / 2}" y="${y + 23}" font-size="18" text-anchor="middle">${cell.letter}</text>`);
+      const entry = isSolution ? this.#editor.entryOf(cell) : '';
+      // several letters are as small as they must be to fit
+      if (entry) parts.push(`<text x="${x + size / 2}" y="${y + 23}" font-size="${Math.min(18, 36 / entry.length)}" text-anchor="middle">${entry}</text>`);
     });
     board.cells.forEach((cell, index) => {
       const [x, y] = [board.columnOf(index) * size, board.rowOf(index) * size];
@@ -149,7 +151,7 @@ export class Printer {
         const clue = make('p', '');
         const text = this.#text(`clue ${light.name}`);
         clue.append(make('b', '', light.number), ` ${text} `);
-        if (this.hasLengths && !hasEnumeration(text)) clue.append(make('span', 'length', `(${light.cells.length})`));
+        if (this.hasLengths && !hasEnumeration(text)) clue.append(make('span', 'length', `(${this.#editor.answerOf(light).length})`));
         clues.append(clue);
       }
     }

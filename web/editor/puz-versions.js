@@ -2,6 +2,7 @@
 import { toBytes, toText } from '../xw.js';
 import { FileFault } from './given.js';
 import { refusalText } from './messages.js';
+import { sumOf } from './puz-sections.js';
 import { nearestText } from './record.js';
 
 /** @typedef {import('./given.js').FirstCell} FirstCell */
@@ -11,9 +12,6 @@ const HEADER = 0x34;
 const [FILE_SUM, CIB_SUM, VERSION, CIB, SCRAMBLED] = [0x00, 0x0e, 0x18, 0x2c, 0x32];
 const MASK = 'ICHEATED';
 const OTHERS = ['1.2', '1.4', '2.0'];
-
-// The checksum of bytes that goes on from another.
-const sumOf = (bytes, begin = 0) => bytes.reduce((sum, byte) => (((sum >> 1) | ((sum & 1) << 15)) + byte) & 0xffff, begin);
 
 // The bytes of a file as version 1.3, and its texts in order, with those characters that 1.3 cannot have; none if it is of version 1.3 or is refused by
 // the engine. Throws a FileFault if a checksum is wrong.

@@ -101,10 +101,10 @@ const rootOf = (word) => {
 };
 
 // Words that share a root, or more letters in a row than they may. Each part of a word leads to the first light that has it.
-function wordWarnings(board) {
+function wordWarnings(board, answerOf) {
   const [roots, parts, warnings] = [new Map(), new Map(), []];
   for (const light of board.lights.filter((one) => board.isEntered(one))) {
-    const word = board.spell(light);
+    const word = answerOf(light);
     const root = rootOf(word);
     const pieces = Array.from({ length: Math.max(0, word.length - MOST_SHARED) }, (_, at) => word.slice(at, at + MOST_SHARED + 1));
     const related = roots.get(root);
@@ -121,14 +121,16 @@ function wordWarnings(board) {
 }
 
 // Clues whose enumeration counts other letters than their light has. One that leads to other lights may count theirs too.
-function clueWarnings(board) {
+function clueWarnings(board, answerOf) {
   return board.lights.flatMap((light) => {
     const clue = unescapeText(board.texts.get(`clue ${light.name}`) ?? '');
     const length = enumeratedLength(clue);
-    if (length === null || length === light.cells.length || /\b(across|down|ac|dn)\b/i.test(clue)) return [];
-    return [{ text: `the clue of ${titled(light)} says ${clue.slice(clue.lastIndexOf('('))} and it has ${light.cells.length} letters`, light: light.name, isClue: true }];
+    const { length: own } = answerOf(light);
+    if (length === null || length === own || /\b(across|down|ac|dn)\b/i.test(clue)) return [];
+    return [{ text: `the clue of ${titled(light)} says ${clue.slice(clue.lastIndexOf('('))} and it has ${own} letters`, light: light.name, isClue: true }];
   });
 }
 
-// What the usual rules say against a grid: { text, light or cell to go to, isClue if it is about the clue }.
-export const warningsOf = (board) => [...gridWarnings(board), ...wordWarnings(board), ...clueWarnings(board)];
+// What the usual rules say against a grid: { text, light or cell to go to, isClue if it is about the clue }. `answerOf` gives the
+// letters of a light, of which a cell may have several.
+export const warningsOf = (board, answerOf = (light) => board.spell(light)) => [...gridWarnings(board), ...wordWarnings(board, answerOf), ...clueWarnings(board, answerOf)];

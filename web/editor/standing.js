@@ -21,7 +21,7 @@ export class StandingView {
   #fault({ name }) {
     const { board } = this.#editor;
     const unlisted = this.#faults.unlisted.get(name);
-    if (unlisted && unlisted.word === board.spell(board.byName.get(name))) {
+    if (unlisted && unlisted.word === this.#editor.answerOf(board.byName.get(name))) {
       return [unlisted.why, ['Add it', () => this.actions.add(unlisted.word)], ['Erase it', () => this.actions.erase()]];
     }
     const other = board.byName.get(this.#faults.repeated.get(name));

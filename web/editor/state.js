@@ -37,7 +37,8 @@ class Parts {
   // cells whose letters a fill entered; another fill may change them
   /** @type {ReadonlySet<string>} */
   pencil = new Set();
-  // what was typed into fields, as commands spell them, where it has characters that the engine cannot keep; the engine has near ones
+  // what was typed into fields, as commands spell them, where it has characters that the engine cannot keep; the engine has near ones. And the cells with
+  // several letters, of which the engine has the first
   /** @type {ReadonlyMap<string, string>} */
   originals = new Map();
   // the words that clues were written for

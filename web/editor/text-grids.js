@@ -1,5 +1,6 @@
 // Grids in text files that the engine does not read: the text format of Across Lite in version 2, and rows of letters.
 import { rebusText } from './dropped.js';
+import { keptRebus } from './rebus.js';
 import { recordOf } from './patterns.js';
 import { nearestText } from './record.js';
 
@@ -25,7 +26,8 @@ function partsOf(text) {
   return parts;
 }
 
-// The text as one of version 1, which the engine reads, the coordinates of its circles, which that version cannot have, and what of it is dropped.
+// The text as one of version 1, which the engine reads, the lines for what that version cannot have, the cells with several letters, and what of it is
+// dropped.
 export function asVersion1(text) {
   const parts = partsOf(text);
   const told = parts.REBUS.flatMap((line) => line.split(';')).map((one) => one.trim());
@@ -43,7 +45,8 @@ export function asVersion1(text) {
   }).join(''));
   const lines = TAGS.filter((tag) => tag !== 'REBUS').flatMap((tag) => [`<${tag}>`, ...(tag === 'GRID' ? rows : parts[tag])]);
   const { near, count } = nearestText(['<ACROSS PUZZLE>', ...lines.slice(0, parts.NOTEPAD.length ? undefined : -1)].join('\n'));
-  return { text: near, circles, dropped: [...rebusText(rebus), ...(count ? ['characters that a text file cannot have'] : [])] };
+  const { originals, lines: first, others } = keptRebus(rebus);
+  return { text: near, lines: [...circles.map((cell) => `circle ${cell}`), ...first], originals, dropped: [...rebusText(others), ...(count ? ['characters that a text file cannot have'] : [])] };
 }
 
 // Rows of letters.

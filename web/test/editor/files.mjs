@@ -2,7 +2,7 @@
 import { mkdirSync, rmSync, writeFileSync } from 'node:fs';
 import { join } from 'node:path';
 import { Xw } from '../../dist/xw.js';
-import { begin, hush, menu, openFile, print, saved } from '../doing.mjs';
+import { begin, hush, menu, openFile, openRecord, print, saved } from '../doing.mjs';
 import { browser, expect, module, page, picture, pictures, reload, room, runAlone } from '../page.mjs';
 import { puzOf } from '../puz.mjs';
 import { zipOf } from '../zip.mjs';
@@ -36,8 +36,8 @@ export const CASES = {
     ].join('\n');
     writeFileSync(join(room, 'two.txt'), text);
     await openFile(join(room, 'two.txt'));
-    await page.statusIs(/^two.txt is open, but without the rebus in row 1, column 2 \(HEART is H now\); undo/, 'bad');
-    expect((await page.rows()).join() === 'CHT,A#O,TEE', `the grid is ${await page.rows()}`);
+    await page.statusIs(/^two.txt is open; undo/, 'good');
+    expect((await page.rows()).join() === 'CHEARTT,A#O,TEE', `the grid is ${await page.rows()}`);
     expect((await page.has('2-1', 'circled')) && (await page.has('2-3', 'circled')) && !(await page.has('1-1', 'circled')), 'the marks are not circles');
     await browser.press('F3');
     await browser.until("[...document.querySelectorAll('#clue-list input')].map(({ value }) => value).join() === 'First,Last,One,Three'");
@@ -77,15 +77,16 @@ export const CASES = {
     const write = (name, ...sections) => writeFileSync(join(room, name), Buffer.concat([plain, ...sections]));
     write('heart.puz', section('GRBS', Buffer.from([0, 1, 0])), section('RTBL', Buffer.from(' 0:HEART;')));
     write('timed.puz', section('LTIM', Buffer.from('12,1')), section('GEXT', Buffer.from([0x80, 0x40, 0x10])), section('XYZZ', Buffer.from('?')));
-    write('rebus.puz', section('GRBS', Buffer.from([2, 1, 0])), section('RTBL', Buffer.from(' 0:HEART; 1:AB;')));
+    write('rebus.puz', section('GRBS', Buffer.from([2, 1, 0])), section('RTBL', Buffer.from(' 0:1/2; 1:3/4;')));
     const opening = async (name, pattern, tone) => {
       await openFile(join(room, name));
       await page.statusIs(pattern, tone);
     };
-    for (let time = 0; time < 2; time++) await opening('heart.puz', /^heart.puz is open, but without the rebus in row 1, column 2 \(HEART is C now\); undo/, 'bad');
+    await opening('heart.puz', /^heart.puz is open; undo/, 'good');
+    expect((await page.rows()).join() === 'AHEARTE', `the grid is ${await page.rows()}`);
     await opening('timed.puz', /^timed.puz is open, but without 2 marks of cells, the timer and the section XYZZ; undo/, 'bad');
     expect(await page.has('1-1', 'circled'), 'the circle is lost');
-    await opening('rebus.puz', /^rebus.puz is open, but without 2 rebus cells \(in row 1, column 1 AB is A now\); undo/, 'bad');
+    for (let time = 0; time < 2; time++) await opening('rebus.puz', /^rebus.puz is open, but without 2 rebus cells \(in row 1, column 1 3\/4 is A now\); undo/, 'bad');
     writeFileSync(join(room, 'plain.puz'), plain);
     await opening('plain.puz', /^plain.puz is open; undo/, 'good');
     const ipuz = {
@@ -94,9 +95,9 @@ export const CASES = {
       clues: { Across: [[1, 'Organ']], Zones: [[1, 'All']] },
     };
     writeFileSync(join(room, 'coloured.ipuz'), JSON.stringify(ipuz));
-    const parts = 'the rebus in row 1, column 1 (HEART is H now), the colour of a cell, a shape that is no circle, the letters of a solver and the clues of Zones';
+    const parts = 'the colour of a cell, a shape that is no circle, the letters of a solver and the clues of Zones';
     await opening('coloured.ipuz', new RegExp(`^coloured.ipuz is open, but without ${parts.replace(/[()]/g, '\\$&')}; undo`), 'bad');
-    expect((await page.rows()).join() === 'HCE', `the grid is ${await page.rows()}`);
+    expect((await page.rows()).join() === 'HEARTCE', `the grid is ${await page.rows()}`);
   },
 
   async 'files that are refused by name'() {
@@ -214,8 +215,8 @@ export const CASES = {
       <clues ordering="normal"><title><b>Across</b></title><clue word="1" number="1" format="5">A <i>firm</i> \u2665</clue><clue word="4" number="4" format="1,1">Ends</clue></clues>
       <clues ordering="normal"><title><b>Down</b></title><clue word="2" number="2">Also</clue><clue word="3" number="3" format="2">Two (2)</clue><clue word="5" number="5">Nothing</clue></clues>
       </crossword></rectangular-puzzle></crossword-compiler-applet>`;
-    const rows = 'HOT,A#O,T.#';
-    const parts = 'the rebus in row 1, column 1 (HEART is H now), the colour of a cell, the letters of a solver and a cell that is left out, which is a block now; 1 clue has no place in its grid';
+    const rows = 'HEARTOT,A#O,T.#';
+    const parts = 'the colour of a cell, the letters of a solver and a cell that is left out, which is a block now; 1 clue has no place in its grid';
     const isOpen = async (name, pattern = new RegExp(`^${name} is open, but without ${parts.replace(/[()]/g, '\\$&')}; undo`)) => {
       await openFile(join(room, name));
       await page.statusIs(pattern);
@@ -267,6 +268,82 @@ export const CASES = {
     // as version 1.3, with near characters
     await saved('three-four.puz', () => menu('save-puz'));
     await page.statusIs(/^saved: three-four.puz, with near characters for “→”, “♥”/);
+  },
+
+  async 'several letters in a cell'() {
+    writeFileSync(join(room, 'sweet.txt'), 'sweetheart\nhearts\nsets\ntea\nsweeth\n');
+    await openFile(join(room, 'sweet.txt'));
+    await page.factsAre(/sweet.txt, 5 words/);
+    // SWEET[HEART] across, and [HEART]S down
+    await openRecord('size 6 2\nblock 2 1\nblock 2 2\nblock 2 3\nblock 2 4\nblock 2 5\ntext title Sweet\ntext clue 1 1 across Darling (10)\ntext clue 1 6 down Suit\n');
+    await browser.type('sweet');
+    await page.factsAre(/· 5 of/);
+    const enter = async (letters) => {
+      await browser.press('Insert');
+      await browser.until("document.getElementById('rebus-dialog').open && document.activeElement.id === 'rebus'");
+      await browser.insert(letters);
+      await browser.press('Enter');
+      await browser.until("!document.getElementById('rebus-dialog').open");
+    };
+    await page.cursorAt('1-6');
+    await enter('heart');
+    await page.factsAre(/· 6 of/);
+    await browser.until("document.querySelector('#cell-1-6.rebus .letter').textContent === 'HEART'");
+    await picture('rebus');
+    expect((await browser.value("document.getElementById('cell-1-6').getAttribute('aria-label')")).includes('HEART'), 'the cell is named otherwise');
+    await browser.click('#cell-2-6');
+    await browser.type('s');
+    // SWEETHEART and HEARTS are in the list, and SWEETH is none of the words
+    await page.factsAre(/filled/);
+    await browser.press('F4');
+    await browser.until("/^Nothing is missing|⚠/.test(document.getElementById('checks').textContent) && !/not in your lists|says/.test(document.getElementById('checks').textContent)");
+    const bytes = (await saved('sweet.puz', () => browser.press('Control+s'))).toString('latin1');
+    expect(bytes.includes(' 0:HEART;') && bytes.includes('GRBS'), 'the .puz has no rebus');
+    const ipuz = JSON.parse((await saved('sweet.ipuz', () => menu('save-ipuz'))).toString());
+    expect(ipuz.solution[0].join() === 'S,W,E,E,T,HEART', JSON.stringify(ipuz.solution));
+    const csv = (await saved('sweet.csv', () => menu('clues-csv'))).toString();
+    expect(csv.includes('"(10)","SWEETHEART"') && csv.includes('"(6)","HEARTS"'), csv);
+    await menu('print');
+    await browser.until("[...document.querySelectorAll('#preview .solution text')].some(({ textContent }) => textContent === 'HEART')");
+    await browser.press('Escape');
+    await browser.until("!document.querySelector('dialog[open]')");
+    await saved('sweet.xw', () => menu('save-session'));
+    // another word there is told; letters over it take its place, and undo brings it back
+    await browser.click('#cell-1-6');
+    await enter('heat');
+    await browser.until("/SWEETHEAT is not in your lists/.test(document.getElementById('checks').textContent)");
+    await browser.press('Control+z');
+    await browser.until("document.querySelector('#cell-1-6 .letter').textContent === 'HEART'");
+    await browser.click('#cell-1-6');
+    await browser.type('h');
+    await browser.until("document.querySelector('#cell-1-6:not(.rebus) .letter').textContent === 'H'");
+    await browser.press('Control+z');
+    await browser.until("document.querySelector('#cell-1-6.rebus .letter').textContent === 'HEART'");
+    await browser.press('Control+y');
+    await browser.until("document.querySelector('#cell-1-6:not(.rebus) .letter').textContent === 'H'");
+    // all of it is in files, and in what the browser keeps
+    for (const name of ['sweet.puz', 'sweet.ipuz', 'sweet.xw']) {
+      await begin(6);
+      await openFile(join(room, name));
+      await page.statusIs(new RegExp(`^${name} is open; undo`));
+      expect((await page.rows()).join() === 'SWEETHEART,#####S', `${name}: the grid is ${await page.rows()}`);
+    }
+    await reload();
+    expect((await page.rows()).join() === 'SWEETHEART,#####S', `the grid is ${await page.rows()}`);
+    // Esc enters nothing, no letters empty the cell, and a block has none
+    await browser.click('#cell-1-6');
+    await browser.press('Insert');
+    await browser.until("document.activeElement.id === 'rebus' && document.activeElement.value === 'HEART'");
+    await browser.press('Escape');
+    await browser.until("!document.getElementById('rebus-dialog').open");
+    expect((await page.row(1)) === 'SWEETHEART', `the row is ${await page.row(1)}`);
+    await browser.press('Insert');
+    await browser.until("document.activeElement.id === 'rebus'");
+    await browser.press('Delete');
+    await browser.press('Enter');
+    await page.factsAre(/· 6 of/);
+    await menu('built-in');
+    await page.factsAre(/built-in list/);
   },
 
   async 'printing'() {

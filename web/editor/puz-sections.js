@@ -1,0 +1,58 @@
+// The sections behind the texts of a .puz, and those of cells with several letters: `GRBS` has a number for each cell, 0 or one more than that in the table
+// `RTBL`, such as ` 0:HEART; 1:AB;`.
+import { toBytes, toText } from '../xw.js';
+
+const HEADER = 0x34;
+const [WIDTH, HEIGHT, CLUES] = [0x2c, 0x2d, 0x2e];
+// name, length and checksum
+const HEAD = 8;
+
+// A checksum of .puz that goes on from another.
+export const sumOf = (bytes, begin = 0) => bytes.reduce((sum, byte) => (((sum >> 1) | ((sum & 1) << 15)) + byte) & 0xffff, begin);
+
+const pair = (number) => [number & 255, number >> 8];
+const sizeOf = (bytes) => bytes[WIDTH] * bytes[HEIGHT];
+
+// Where the texts end: title, author, copyright, clues and notes.
+function endOfTexts(bytes) {
+  let at = HEADER + 2 * sizeOf(bytes);
+  for (let text = 0; text < bytes[CLUES] + 256 * bytes[CLUES + 1] + 4; text++) at = bytes.indexOf(0, at) + 1 || bytes.length;
+  return at;
+}
+
+// The bytes of the sections, by their names.
+export function sectionsOf(bytes) {
+  let at = endOfTexts(bytes);
+  /** @type {Map<string, Uint8Array>} */
+  const sections = new Map();
+  while (at + HEAD <= bytes.length) {
+    const name = toText(bytes.subarray(at, at + 4));
+    const length = bytes[at + 4] + 256 * bytes[at + 5];
+    if (!/^[A-Z]{4}$/.test(name)) break;
+    sections.set(name, bytes.subarray(at + HEAD, at + HEAD + length));
+    at += HEAD + length + 1;
+  }
+  return sections;
+}
+
+// The cells with several letters, and the letters that they have in the grid.
+export function rebusOf(bytes) {
+  const [sections, width, solution] = [sectionsOf(bytes), bytes[WIDTH], bytes.subarray(HEADER, HEADER + sizeOf(bytes))];
+  const entries = new Map(toText(sections.get('RTBL') ?? new Uint8Array()).split(';').map((one) => one.split(':')).filter(([, entry]) => entry).map(([number, entry]) => [Number(number), entry]));
+  const cells = [...(sections.get('GRBS') ?? [])].map((number, at) => ({ number, at })).filter(({ number }) => number);
+  return cells.map(({ number, at }) => ({
+    row: Math.floor(at / width) + 1, column: (at % width) + 1, entry: (entries.get(number - 1) ?? 'what is there').toUpperCase(), letter: String.fromCharCode(solution[at]).toUpperCase(),
+  }));
+}
+
+// A .puz with sections for its cells with several letters, by their indices.
+/** @param {Map<number, string>} cells */
+export function withRebus(bytes, cells) {
+  if (!cells.size) return bytes;
+  const table = [...new Set(cells.values())];
+  const marks = Uint8Array.from({ length: sizeOf(bytes) }, (_, at) => (cells.has(at) ? table.indexOf(cells.get(at)) + 1 : 0));
+  const section = (name, data) => [...toBytes(name), ...pair(data.length), ...pair(sumOf(data)), ...data, 0];
+  const end = endOfTexts(bytes);
+  const spelled = toBytes(table.map((entry, at) => `${String(at).padStart(2)}:${entry};`).join(''));
+  return Uint8Array.from([...bytes.subarray(0, end), ...section('GRBS', marks), ...section('RTBL', spelled), ...bytes.subarray(end)]);
+}

@@ -1,0 +1,49 @@
+// Cells with several letters. The engine has the first letter of each, which is locked; all its letters are kept beside the record, as the texts are
+// that a record cannot have, under a name of the cell.
+const FIELD = 'cell ';
+
+export const cellField = (coordinates) => `${FIELD}${coordinates}`;
+export const isCellField = (field) => field.startsWith(FIELD);
+
+// Whether letters are a rebus.
+export const isRebus = (entry) => /^[A-Z]{2,}$/.test(entry);
+
+// The letters of a cell; '' if it is empty.
+/**
+ * @param {{ block: boolean, letter: string, coordinates: string }} cell
+ * @param {ReadonlyMap<string, string>} originals
+ */
+export function entryOf({ block, letter, coordinates }, originals) {
+  const entry = originals.get(cellField(coordinates));
+  return !block && letter && entry?.startsWith(letter) ? entry : letter;
+}
+
+// The originals without the cells that lines enter or clear; or null if that leaves them as they are.
+/** @param {ReadonlyMap<string, string>} originals */
+export function withoutEntered(originals, lines) {
+  const entered = lines.map((line) => /^(?:set|clear) (\d+ \d+)/.exec(line)?.[1]).filter((cell) => cell && originals.has(cellField(cell)));
+  return entered.length ? new Map([...originals].filter(([field]) => !entered.some((cell) => field === cellField(cell)))) : null;
+}
+
+// The originals without cells that have another first letter on a board now; the same if there are none.
+/**
+ * @param {ReadonlyMap<string, string>} originals
+ * @param {import('./board.js').Board} board
+ */
+export function standing(originals, board) {
+  const isGone = (field, entry) => isCellField(field) && !(entry.startsWith(board.at(field.slice(FIELD.length))?.letter || '-'));
+  const kept = [...originals].filter(([field, entry]) => !isGone(field, entry));
+  return kept.length < originals.size ? new Map(kept) : originals;
+}
+
+// The cells of a file with several letters, given with the letters that they have in its grid: the originals of those that can be kept, the lines that
+// enter their first letters where the grid has others, and the other cells.
+/** @param {{ row: number, column: number, entry: string, letter: string }[]} cells */
+export function keptRebus(cells) {
+  const kept = cells.filter(({ entry }) => isRebus(entry));
+  return {
+    originals: kept.map(({ row, column, entry }) => /** @type {[string, string]} */ ([cellField(`${row} ${column}`), entry])),
+    lines: kept.filter(({ entry, letter }) => entry[0] !== letter).map(({ row, column, entry }) => `set ${row} ${column} ${entry[0]}`),
+    others: cells.filter(({ entry }) => !isRebus(entry)),
+  };
+}
