@@ -30,7 +30,15 @@ printf '#!/bin/sh\\necho built\\n' >"$2"
 chmod +x "$2"
 """
 CRATES = ("low", "xw")
-MANUAL = ("commands.md", "embedding.md", "formats.md", "front-ends.md", "glossary.md", "performance.md")
+COMPLETIONS = {
+    "xw.bash": "bash-completion/completions/xw",
+    "_xw": "zsh/site-functions/_xw",
+    "xw.fish": "fish/vendor_completions.d/xw.fish",
+}
+# the documents that others cite are installed too
+MANUAL = ("commands.md", "embedding.md", "formats.md", "front-ends.md", "glossary.md", "performance.md", "promises.md", "python.md",
+          "setters.md", "DECISIONS.md")
+EXAMPLES = ("board.py", "library.py", "race.py", "search.mjs", "search.py", "test_board.py", "themeless15.xw")
 
 
 def tree(room, program):
@@ -43,9 +51,11 @@ def tree(room, program):
     for crate in CRATES:
         (room / "top/crates" / crate / "src").mkdir(parents=True)
     (room / "top/crates.txt").write_text("low:\nxw: low\n")
-    for name in ("build", "tools/proving.py", "docs/xw.1", *(f"docs/{name}" for name in MANUAL), "tools/xw.bash"):
-        (room / "top" / name).parent.mkdir(exist_ok=True)
+    (room / "top/tools").mkdir()
+    for name in ("build", "LICENSE", "CHANGELOG.md", "tools/proving.py", "tools/notices.py"):
         shutil.copy(TOP / name, room / "top" / name)
+    for name in ("docs", "examples", "completions"):
+        shutil.copytree(TOP / name, room / "top" / name)
 
 
 def call(room, *words, env=None, **more):
@@ -202,7 +212,8 @@ def installs(room, program):
     ended = call(room, "install", "/usr/local", env={"DESTDIR": str(room / "a stage")}, capture_output=True)
     compare("status", ended.returncode, ACCEPTED)
     stage = room / "a stage/usr/local"
-    names = ("bin/xw", "share/bash-completion/completions/xw", *(f"share/doc/xw/{name}" for name in MANUAL), "share/man/man1/xw.1")
+    documents = (*MANUAL, "LICENSE", "NOTICES", "CHANGELOG.md", *(f"examples/{name}" for name in EXAMPLES))
+    names = ("bin/xw", *(f"share/{place}" for place in COMPLETIONS.values()), *(f"share/doc/xw/{name}" for name in documents), "share/man/man1/xw.1")
     compare("files", sorted(str(path.relative_to(stage)) for path in stage.rglob("*") if path.is_file()), sorted(names))
     compare("program", subprocess.run([stage / "bin/xw"], capture_output=True, check=True).stdout, b"built\n")
 

@@ -184,22 +184,6 @@ def forms_are_listed(room, program):
     compare("one command each", shown, [answer for line in listed for answer in (line, "ok")])
 
 
-def completions_are_whole(room, program):
-    """The completions for bash are the options of the help, and files after an option that takes one."""
-    for words in ("", "edit --", "convert -", "check -", "edit --dict "):
-        typed = ["xw", *words.split(" ")]
-        code = '. "$0"; COMP_WORDS=("$@"); COMP_CWORD=$(($# - 1)); _xw; echo "${COMPREPLY[@]}"'
-        asked = ["bash", "-c", code, TOP / "tools/xw.bash", *typed]
-        offered = subprocess.run(asked, capture_output=True, timeout=SECONDS, check=True).stdout.decode().split()
-        if words == "":
-            wanted = {"edit", "convert", "check", "--version", "--help"}
-        elif words.endswith(" "):
-            wanted = set()
-        else:
-            wanted = options_in(call(room, program, f"{words.split()[0]} --help").stdout.decode())
-        compare(f"completions of xw {words}", set(offered), wanted)
-
-
 def forms_in_headings():
     """The commands with their arguments, in the headings of docs/commands.md."""
     return [form for heading in re.findall("^### ([a-z].*)$", text_of("docs/commands.md"), re.M) for form in heading.split(", ")]
@@ -263,7 +247,6 @@ CASES = {
     "options of docs/commands.md": [has_options],
     "manual page": [page_is_whole],
     "help on commands": [forms_are_listed],
-    "completions for bash": [completions_are_whole],
     "calls of docs/commands.md, accepted": [calls_accepted],
     "calls of docs/commands.md, with what they print": [puzzle_made, calls_print],
 }
