@@ -16,7 +16,7 @@ from xw import Session
 def fill(session, seconds):
     """Fills the grid for so many seconds. Returns the last fill, or None."""
     found, end = None, time.monotonic() + seconds
-    for found in session.best(progress=lambda placements: time.monotonic() > end):
+    for found in session.best(progress=lambda told: time.monotonic() > end):
         print(f"worst word {found.grade}; no fill has {found.bound} or better", file=sys.stderr)
     return found
 

@@ -1,9 +1,10 @@
 /*
- * xw: a crossword construction engine. docs/embedding.md has a whole program. Link libxw.so or libxw.a.
+ * xw: a crossword construction engine. docs/embedding.md has a whole program. Link libxw.so or libxw.a. xw_lines.h reads answers, searches in slices
+ * and copies a session, by these calls.
  *
- * SESSIONS. A session is a struct xw of yours. Set all its bytes to zero, open it, send lines, read answers, close it:
+ * SESSIONS. A session is a struct xw of yours. Begin with XW_NO_SESSION, or with all bytes zero, open it, send lines, read answers, close it:
  *
- *     struct xw xw = {0};
+ *     struct xw xw = XW_NO_SESSION;
  *     uint32_t status = xw_open(&xw, list, list_length, puzzle, puzzle_length);
  *     if (status != XW_ACCEPTED)
  *         return fail(xw_status_name(status));
@@ -53,6 +54,9 @@ struct xw {
     } held;
     bool is_open;
 };
+
+/* The value of a struct xw without a session, to begin with. */
+#define XW_NO_SESSION {{NULL}, false}
 
 /* How a call ends. The numbers stay; a later library may have more. */
 enum xw_status {
@@ -119,7 +123,7 @@ enum xw_status {
  *
  * Time: it grows with the list. 280,000 words in alphabetical order take 0.1 to 0.2 s.
  */
-uint32_t xw_open(struct xw *xw, const uint8_t *list, size_t list_length, const uint8_t *puzzle, size_t puzzle_length);
+uint32_t xw_open(struct xw *xw, const void *list, size_t list_length, const void *puzzle, size_t puzzle_length);
 
 /*
  * Replays the lines of a record, such as xw_record makes and `xw edit --save` writes. It stops after the first line that is not a command.
@@ -139,7 +143,7 @@ uint32_t xw_open(struct xw *xw, const uint8_t *list, size_t list_length, const u
  *
  * Time: the sum over its lines.
  */
-uint32_t xw_resume(struct xw *xw, const uint8_t *record, size_t record_length);
+uint32_t xw_resume(struct xw *xw, const void *record, size_t record_length);
 
 /*
  * Answers one line of commands, without a line feed at its end (docs/commands.md). The answer is what `xw edit` prints: lines and then
@@ -158,7 +162,7 @@ uint32_t xw_resume(struct xw *xw, const uint8_t *record, size_t record_length);
  * its number of placements allows, and cannot be stopped while it runs: send `autofill` with 1,000 to 3,000 placements, 0.1 to 0.3 s, again and
  * again (docs/embedding.md, "Searches").
  */
-uint32_t xw_line(struct xw *xw, const uint8_t *line, size_t line_length);
+uint32_t xw_line(struct xw *xw, const void *line, size_t line_length);
 
 /*
  * Makes a .puz file of the puzzle. The answer has its bytes.
@@ -200,7 +204,7 @@ uint32_t xw_record(struct xw *xw);
  *
  * Time: that of copying the bytes.
  */
-size_t xw_answer(struct xw *xw, uint8_t *out, size_t out_length);
+size_t xw_answer(struct xw *xw, void *out, size_t out_length);
 
 /*
  * Closes the session and frees all that it holds. All bytes of the struct that matter are zero again, so it can be opened again. Without an
@@ -216,7 +220,7 @@ void xw_close(struct xw *xw);
  *
  * This is the version of the library that is loaded. XW_LIBRARY_VERSION is that of the header.
  */
-size_t xw_version(uint8_t *out, size_t out_length);
+size_t xw_version(void *out, size_t out_length);
 
 /* The name of a status, as the program spells it, or "Unknown". The string is constant. */
 static inline const char *xw_status_name(uint32_t status) {

@@ -121,10 +121,10 @@ def borrow(kept, folder):
 
 
 class Build:
-    """A build of a crate, `root`, which makes the file `target`. A library has the name by which programs load it, and exports functions."""
+    """A build of a crate, `root`, which makes the file `target`."""
 
-    def __init__(self, root, target, soname="", exported=()):
-        self.root, self.target, self.soname, self.exported = root, target, soname, exported
+    def __init__(self, root, target):
+        self.root, self.target = root, target
         self.crates, self.begun, self.lanes = [*under(root), root], time.monotonic(), free_lanes()
         # the crates that are not proved, those of them at the start, the jobs of those that are being proved, and the processes at work
         self.due, self.at_start, self.at_work, self.running = [], [], {}, set()
@@ -278,18 +278,13 @@ class Build:
         self.run([*words, MADE / "xw/xw.o", kit() / "c/libos_c.a", kit() / "c/liblibc_c.a"], log)
 
     def archive(self, log):
-        """Joins what was compiled with the part of the kit's C library that it calls, which calls malloc, realloc and free; and makes a shared
-        object of both, which exports what the header declares, and needs the C library."""
-        tools, folder, names = kit() / "toolchain/bin", MADE / "xw_c/objects", MADE / "xw_c/exported"
+        """Joins what was compiled with the part of the kit's C library that it calls, which calls malloc, realloc and free."""
+        tools, folder = kit() / "toolchain/bin", MADE / "xw_c/objects"
         folder.mkdir()
         self.run([tools / "llvm-ar", "x", "../libxw_c.a"], log, folder)
         self.run([tools / "llvm-ar", "x", kit() / "c/liblibc_c.a", "heap.pic.o"], log, folder)
         LIBRARY.unlink(missing_ok=True)
-        objects = sorted(folder.iterdir())
-        self.run([tools / "llvm-ar", "rcs", LIBRARY, *objects], log)
-        names.write_text(f"{{ global: {' '.join(f'{it};' for it in self.exported)} local: *; }};\n")
-        flags = ["-shared", "-soname", self.soname, f"--version-script={names}", "--no-undefined-version", "-z", "defs"]
-        self.run([tools / "ld.lld", *flags, "-o", LIBRARY.with_suffix(".so"), *objects, kit() / "toolchain/lib/libc.so.6"], log)
+        self.run([tools / "llvm-ar", "rcs", LIBRARY, *sorted(folder.iterdir())], log)
 
     # ---- the target
 

@@ -44,7 +44,7 @@ export class Fault extends Error {
   constructor(status: Status | 'Character', answer?: string, message?: string);
   /** Why: one of `STATUSES`, or `Character` for a string that is not Windows-1252. */
   status: Status | 'Character';
-  /** The lines that were written, or the character. */
+  /** The lines that were written, the name of the refusal after `Refused` of `ask`, or the character. */
   answer: string;
 }
 
@@ -94,3 +94,113 @@ export class Xw {
   /** Closes the session, and lets its memory go. Every later call throws a `Fault` with the status `Closed`, except `close`. */
   close(): void;
 }
+
+/** The name of a light: its number and direction. */
+export type Light = string;
+
+/** A cell with its feasible letters, which are empty if it has none. */
+export interface Cell {
+  row: number;
+  column: number;
+  letters: string;
+}
+
+/** What a search found: a fill, that there is none, which is proved, or neither. */
+export type Found = 'filled' | 'nofill' | 'limit';
+
+/** The answer to `best`. `grade` is that of the worst new word of the fill. No fill has only words of the grade `bound` and better. */
+export interface Best {
+  answer: Found;
+  grade: number | null;
+  bound: number | null;
+}
+
+/** The answer to `stats`. */
+export interface Stats {
+  cells: number;
+  blocks: number;
+  bars: number;
+  entered: number;
+  lights: number;
+  /** How many lights have each length that occurs. */
+  lengths: Record<number, number>;
+  unchecked: number;
+  mean: number;
+  /** How many cells have each letter that is entered. */
+  letters: Record<string, number>;
+}
+
+/** The answers to the commands that are not changes: docs/commands.md describes each. */
+export interface Answers {
+  help: string[];
+  match: string[];
+  show: string[];
+  lights: { light: Light; row: number; column: number; letters: string }[];
+  stats: Stats;
+  longest: { light: Light; length: number } | null;
+  /** The number of feasible words, and the first of them. */
+  words: { total: number; words: string[] };
+  /** What each word leaves: 0 for a dead end, null if it completes the grid. */
+  choices: { word: string; left: number | null }[];
+  letters: string;
+  /** The words that each letter leaves; null for a direction without a light. */
+  tally: { letter: string; across: number | null; down: number | null }[];
+  cells: Cell[];
+  counts: { light: Light; words: number }[];
+  unmatched: { light: Light; pattern: string }[];
+  dups: { light: Light; first: Light; word: string }[];
+  unlisted: { light: Light; word: string }[];
+  grades: { light: Light; grade: number | null }[];
+  suggest: { kind: 'try' | 'noword' | 'dead' | 'done'; light: Light | null; word: string | null };
+  why: { row: number; column: number; letter: string }[];
+  fill: Found;
+  autofill: Found;
+  best: Best;
+  /** The texts that are not empty: `title`, `author`, `copyright`, `notes`, and the clues by the names of their lights. */
+  texts: Record<string, string>;
+  circles: { row: number; column: number }[];
+  record: string[];
+}
+
+/** The commands that change the session. They answer the cells that the watch lists. */
+export type Change =
+  | 'add' | 'strike' | 'least' | 'size' | 'sym' | 'set' | 'clear' | 'place' | 'erase' | 'block' | 'bar' | 'watch'
+  | 'clue' | 'title' | 'author' | 'copyright' | 'notes' | 'text' | 'more' | 'circle';
+
+/** What a command answers, with its arguments. Throws a `Fault` with the status `Refused` for a refused command, with the name as its `answer`. */
+export function ask<C extends keyof Answers>(xw: Xw, command: C, ...given: (string | number)[]): Answers[C];
+export function ask(xw: Xw, command: Change, ...given: (string | number)[]): Cell[];
+
+/** How far a search is, and the best fill so far. */
+export interface Progress {
+  /** At most so many placements were made. */
+  placements: number;
+  /** The grade of the worst new word of the best fill, if `best` found one. */
+  grade: number | null;
+  /** No fill has only words of this grade and better. */
+  bound: number;
+}
+
+/** What to search for. */
+export interface Search {
+  /** The most placements. */
+  limit?: number;
+  /** Another seed takes another way. */
+  seed?: number;
+  /** The lights to fill, as `1 across`; all, if none is named. */
+  lights?: readonly Light[];
+  /** Is called after each slice of some 0.1 s. A true value ends the search, as if its placements were used up. */
+  progress?: (progress: Progress) => unknown;
+}
+
+/**
+ * Fills lights, in slices; other events come between them. The answer is `limit` if the search is ended or its placements are used up. The grid is then as
+ * it was.
+ */
+export function autofill(xw: Xw, search?: Search): Promise<Found>;
+
+/**
+ * Looks for the fill whose worst new word has the best grade, and is at least `least`, in slices. However it ends, the best fill so far stands in the grid
+ * whole, or the grid is as it was. `least` is the least grade of the session afterwards.
+ */
+export function best(xw: Xw, search?: Search & { least?: number }): Promise<Best & { bound: number }>;

@@ -5,6 +5,9 @@
 //   xw.line('words 1 across 3')  →  { lines: ['55', 'CAB'], ok: true, refusal: null }
 //   xw.puz(), xw.text(), xw.record()  →  the bytes of a file
 //   xw.close()
+//
+// ask, autofill and best give answers as values, and search in slices.
+export { ask, autofill, best } from './asking.js';
 
 // The statuses of include/xw.h, in the order of their numbers.
 export const STATUSES = [

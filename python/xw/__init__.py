@@ -7,13 +7,13 @@
         session.fill(1000)
         print(session.show())
 """
-from .answers import Best, Cell, Choice, Entry, Light, LightName, Suggestion, Tally, Words
+from .answers import Best, Cell, Choice, Entry, Light, LightName, Progress, Suggestion, Tally, Words
 from .errors import Error, Fault, Refusal
 from .library import STATUSES, version
 from .session import Session
 from .text import decode, encode
 
 __all__ = [
-    "Best", "Cell", "Choice", "Entry", "Error", "Fault", "Light", "LightName", "Refusal", "STATUSES", "Session", "Suggestion", "Tally", "Words",
+    "Best", "Cell", "Choice", "Entry", "Error", "Fault", "Light", "LightName", "Progress", "Refusal", "STATUSES", "Session", "Suggestion", "Tally", "Words",
     "decode", "encode", "version",
 ]

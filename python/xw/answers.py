@@ -66,6 +66,15 @@ class Suggestion(NamedTuple):
     word: Optional[str] = None
 
 
+class Progress(NamedTuple):
+    """How far a search is: at most so many placements were made. `best` also tells the grade of the worst new word of the best fill so far, or None,
+    and a grade that no fill has; 101 says nothing."""
+
+    placements: int
+    grade: Optional[int] = None
+    bound: int = 101
+
+
 class Best(NamedTuple):
     """A fill: the grade of its worst new word, a grade that no fill has, and the rows of the grid with `#` for a block and `-` for an empty
     cell. The fill is the best one if the bound is one more than the grade."""

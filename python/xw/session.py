@@ -5,9 +5,9 @@ import itertools
 import os
 import pathlib
 from types import TracebackType
-from typing import Any, Callable, FrozenSet, Iterable, Iterator, List, Mapping, Optional, Tuple, Type, Union
+from typing import Any, Callable, FrozenSet, Generator, Iterable, Iterator, List, Mapping, Optional, Tuple, Type, Union
 
-from .answers import Best, Cell, Choice, Entry, Light, LightName, Suggestion, Tally, Words
+from .answers import Best, Cell, Choice, Entry, Light, LightName, Progress, Suggestion, Tally, Words
 from .errors import Fault, Refusal
 from .ipuz import clues_of, commands_of
 from .library import Handle
@@ -18,8 +18,8 @@ Word = Union[str, Tuple[str, int]]
 WordList = Union[bytes, str, "os.PathLike[str]", Iterable[Word]]
 # A puzzle: the bytes of a file, a file, an object of the package `puz`, or one of the package `ipuz`.
 Puzzle = Union[bytes, "os.PathLike[str]", Mapping[str, Any], Any]
-# Told the placements of a search so far; ends the search by a true value.
-Progress = Callable[[int], Any]
+# Told how far a search is; ends the search by a true value.
+Told = Callable[[Progress], Any]
 
 # The placements of the first slices of a search, and how many slices later they get twice as many: a slice that is too short for a hard grid
 # never ends the search.
@@ -243,13 +243,13 @@ class Session:
         (answer,) = self.line(f"fill {limit}")
         return answer
 
-    def autofill(self, limit: Optional[int] = None, seed: int = 0, lights: Iterable[LightName] = (), progress: Optional[Progress] = None) -> str:
+    def autofill(self, limit: Optional[int] = None, seed: int = 0, lights: Iterable[LightName] = (), progress: Optional[Told] = None) -> str:
         """Fills the named lights, or all of them. Returns `filled`, `nofill`, which is proved, or `limit`: after so many placements, or when
-        `progress`, which is called after some 0.1 s with the placements so far, returns a true value. Nothing is entered then."""
+        `progress`, which is called after each slice of some 0.1 s, returns a true value. Nothing is entered then."""
         named = " ".join(map(_name, lights))
         for placements, made in self._slices(limit, progress is None):
             (answer,) = self.line(f"autofill {placements} {seed} {named}")
-            if answer != "limit" or (progress and progress(made)):
+            if answer != "limit" or (progress and progress(Progress(made))):
                 return answer
         return "limit"
 
@@ -267,11 +267,12 @@ class Session:
                 return
 
     def best(
-        self, limit: Optional[int] = None, seed: int = 0, lights: Iterable[LightName] = (), least: int = 0, progress: Optional[Progress] = None
-    ) -> Iterator[Best]:
+        self, limit: Optional[int] = None, seed: int = 0, lights: Iterable[LightName] = (), least: int = 0, progress: Optional[Told] = None
+    ) -> Generator[Best, None, str]:
         """Yields better and better fills of the named lights, or of all of them, with words of the grade `least` and better. Each stands in the
         grid when it is yielded. It ends when no fill is better, after so many placements, or when `progress` returns a true value. Leave it
-        at any time: the last fill stays in the grid. The session is left with the least grade `least`."""
+        at any time: the last fill stays in the grid. The session is left with the least grade `least`. The generator returns `filled`, `nofill` or
+        `limit`."""
         return _Climb(self, seed, " ".join(map(_name, lights)), least).run(limit, progress)
 
     # ---- clues, texts and circles
@@ -348,23 +349,26 @@ class _Climb:
         self.start = session.rows()
         self.bound, self.found = 101, None  # type: int, Optional[Best]
 
-    def run(self, limit: Optional[int], progress: Optional[Progress]) -> Iterator[Best]:
+    def run(self, limit: Optional[int], progress: Optional[Told]) -> Generator[Best, None, str]:
         try:
             for placements, made in self.session._slices(limit, False):
                 least = self.found.grade + 1 if self.found else self.least
-                if least >= self.bound:
-                    return
                 self.session.least(least)
                 if self.is_better(placements, least):
                     self.session.least(self.least)
                     yield self.found  # type: ignore[misc]
                     self.enter(self.start)
-                if progress and progress(made):
-                    return
+                if self.is_proved() or (progress and progress(Progress(made, self.found.grade if self.found else None, self.bound))):
+                    break
+            return "filled" if self.found else "nofill" if self.is_proved() else "limit"
         finally:
             self.session.least(self.least)
             if self.found:
                 self.enter(self.found.rows)
+
+    def is_proved(self) -> bool:
+        """Whether nothing is left to search for: there is no fill, or no better one."""
+        return self.bound <= (self.found.grade + 1 if self.found else self.least)
 
     def is_better(self, placements: int, least: int) -> bool:
         """Searches with so many placements. Returns whether it found a better fill."""

@@ -150,7 +150,7 @@ def best_is_left():
 def progress_ends_a_search():
     told = []
     session = Session(["cat", "cot", "dog", "tag"])
-    assert session.autofill(limit=2500, progress=lambda made: told.append(made) or True) in ("limit", "nofill")
+    assert session.autofill(limit=2500, progress=lambda step: told.append(step.placements) or True) in ("limit", "nofill")
     assert told in ([], [1000]), told
 
 

@@ -51,10 +51,9 @@ def tree(room, program):
     for crate in CRATES:
         (room / "top/crates" / crate / "src").mkdir(parents=True)
     (room / "top/crates.txt").write_text("low:\nxw: low\n")
-    (room / "top/tools").mkdir()
-    for name in ("build", "LICENSE", "CHANGELOG.md", "tools/proving.py", "tools/notices.py"):
+    for name in ("build", "LICENSE", "CHANGELOG.md"):
         shutil.copy(TOP / name, room / "top" / name)
-    for name in ("docs", "examples", "completions"):
+    for name in ("docs", "examples", "completions", "tools"):
         shutil.copytree(TOP / name, room / "top" / name)
 
 

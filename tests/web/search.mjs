@@ -1,0 +1,30 @@
+// Searches by autofill and best of xw.js, and tells each step, as tests/c/search.c.
+//
+//   node search.mjs WORDS RECORD autofill|best LIMIT STOP SEED [LIGHTS]
+import { readFileSync } from 'node:fs';
+import { Fault, Xw, ask, autofill, best, load } from '../../web/dist/xw.js';
+
+const [words, record, search, limit, stop, seed, lights = ''] = process.argv.slice(2);
+const xw = Xw.open(await load(), { list: readFileSync(words), record: readFileSync(record) });
+let told = 0;
+
+// Searches to the end, or until `stop` steps were told.
+const options = {
+  limit: Number(limit) || Infinity,
+  seed: Number(seed),
+  lights: lights ? [lights] : [],
+  progress: ({ placements, grade, bound }) => {
+    console.log(placements, grade ?? -1, bound);
+    return ++told === Number(stop);
+  },
+};
+try {
+  const found = search === 'best' ? await best(xw, options) : { answer: await autofill(xw, options), grade: null };
+  console.log(found.answer);
+  if (found.grade !== null) console.log(found.grade, found.bound);
+} catch (fault) {
+  if (!(fault instanceof Fault)) throw fault;
+  console.log(fault.status);
+}
+console.log(ask(xw, 'show').join('\n'));
+xw.close();
