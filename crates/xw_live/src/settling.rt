@@ -20,6 +20,7 @@ use xw_grid::grid::Grid;
 use xw_letters::letter_set::LetterSet;
 use xw_net::change::Change;
 use xw_net::net::Net;
+use xw_net::trial::Trial;
 use xw_words::WordFault;
 use xw_words::bank::Added;
 use xw_words::counted::Counted;
@@ -46,7 +47,7 @@ pub fn settle(net: &mut Net, spent: u64, change: &Change<'_>, position: &Positio
 }
 
 /// Updates a net as `settle` does, but stops at the first watched light that has no feasible word after the change,
-/// and returns it. Also returns the ticks so far. See `Net::try_settle` for `in_turn`.
+/// and returns it. Also returns the ticks so far. See `Trial` for `in_turn`.
 pub fn try_settle(
     net: &mut Net,
     spent: u64,
@@ -71,14 +72,12 @@ pub fn try_settle(
 {
     known_distinct(&position.bank);
     let mut reads = Counted::new(&position.bank, spent);
-    let dead = net.try_settle(
-        &mut reads,
-        change,
-        &position.grid,
-        &position.lights,
+    let trial = Trial {
         watched,
         in_turn,
-    );
+        words: Some(&position.bank),
+    };
+    let dead = net.try_settle(&mut reads, change, &position.grid, &position.lights, trial);
     (dead, reads.spent())
 }
 

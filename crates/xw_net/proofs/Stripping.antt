@@ -9,6 +9,8 @@ pub mod FoundSupports
 pub mod KeptSupports
 pub mod EndOfStripping
 pub mod LeftByStripping
+pub mod DroppedLetters
+pub mod PassedLights
 pub mod EmptiedCells
 pub mod EmptiedAtOnce
 pub mod NotedLight

@@ -3,3 +3,4 @@ pub mod Blank
 pub mod Chain
 pub mod Forget
 pub mod Lost
+pub mod Passed

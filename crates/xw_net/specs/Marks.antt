@@ -91,11 +91,14 @@ module _ (board : Board) (dictionary : Dictionary) where
   abbrev pub puts : ℕ → ℕ → ℕ → ℕ → Bool
   puts light position letter choice = letter_of light choice position == letter
 
-  -- the letter has a support: the word held for it is in the net, or the entered word is
-  abbrev pub IsHeld : Marks → ℕ → ℕ → ℕ → Type 0
-  IsHeld marks light position letter =
-      ((marks.held (slot_at board light position) letter < known light) × (marks.words light (marks.held (slot_at board light position) letter) ≡ true))
-      ⊎ (marks.words light (known light) ≡ true)
+  -- the letter has a support
+  pub data IsHeld (marks : Marks) (light position letter : ℕ) : Type 0 where
+    -- the word held for it is in the net
+    by_held : marks.held (slot_at board light position) letter < known light → marks.words light (marks.held (slot_at board light position) letter) ≡ true → IsHeld marks light position letter
+    -- a word that has it is in the net
+    by_word : (choice : ℕ) → marks.words light choice ≡ true → puts light position letter choice ≡ true → IsHeld marks light position letter
+    -- the entered word is in the net
+    by_entered : marks.words light (known light) ≡ true → IsHeld marks light position letter
 
   -- each held known word has the letter that it is held for, even if the letter is not in the net
   abbrev pub IsHolding : Marks → Type 0

@@ -1,10 +1,11 @@
 -- What a step of stripping keeps.
 use Rattle.std.specs.Prelude.{◌≡◌, ◌⊎◌, ℕ, ◌<◌, ◌≤◌, ◌+◌, ◌||◌, ◌==◌, Bool, true, false, List, length}
+use Rattle.xw_letters.specs.LetterSet.{has}
 use Rattle.xw_words.specs.Dictionary.{Dictionary, Entry}
 use Rattle.xw_feas.specs.Board.{Board}
 use Rattle.xw_feas.specs.Choices.{IsExact}
 use Rattle.xw_feas.specs.Feasible.{IsFeasibleWord}
-use Rattle.xw_net.specs.Marks.{IsPositionIn, IsSlot, IsSetting, IsHeld, IsHolding, IsReady, IsSettledNet, Stays, cell_at, slot_at}
+use Rattle.xw_net.specs.Marks.{IsPositionIn, IsSlot, IsSetting, IsHeld, IsHolding, IsReady, IsSettledNet, Stays, AreSlotsApart, puts, cell_at, slot_at}
 use Rattle.xw_net.specs.Due.{Measure, IsUnderway, IsClosed, HasQueued, and_light, set_cost}
 use Rattle.xw_net.specs.Nets.{marks_of, word_stands, letter_stands, pending_in, queued_in, Waits, left_of, IsShaped, IsLeft, HasBits}
 use Rattle.xw_net.specs.Filled.{IsUnstripped, IsFilled}
@@ -45,6 +46,10 @@ IsEmptied net light = (choice : ℕ) → word_stands net light choice ≡ false
 abbrev pub StandFewer : Net → Net → Type 0
 StandFewer old new = (cell letter : ℕ) → letter_stands new cell letter ≡ true → letter_stands old cell letter ≡ true
 
+-- each letter of the cell is in the set
+abbrev pub StandListed : ℕ → ℕ → Net → Type 0
+StandListed cell listed net = (letter : ℕ) → letter_stands net cell letter ≡ true → has listed letter ≡ true
+
 -- no other letter of the cell was removed
 abbrev pub OthersStand : ℕ → ℕ → Net → Net → Type 0
 OthersStand cell letter old new = (other : ℕ) → (other ≡ letter → ⊥) → letter_stands old cell other ≡ true → letter_stands new cell other ≡ true
@@ -57,6 +62,14 @@ module _ (board : Board) where
   -- letters became pending only at slots of the board's lights
   abbrev pub PendAtSlots : Net → Net → Type 0
   PendAtSlots old new = (slot letter : ℕ) → pending_in new slot letter ≡ true → (pending_in old slot letter ≡ true) ⊎ IsSlot board slot
+
+  -- removing the letters at a position that are not in a set, which has each letter that a word of the light has there, keeps the
+  -- invariant and costs nothing
+  abbrev pub ListsOn : ℕ → ℕ → ℕ → Net → Net → Type 0
+  ListsOn light position listed old new =
+      (dictionary : Dictionary) (measure : Measure) (ticks : ℕ) → AreSlotsApart board → measure.member light ≡ true
+      → ((letter choice : ℕ) → word_stands old light choice ≡ true → puts board dictionary light position letter choice ≡ true → has listed letter ≡ true)
+      → IsUnderway board dictionary measure (marks_of old) (and_light (queued_in old) light) ticks → IsUnderway board dictionary measure (marks_of new) (and_light (queued_in new) light) ticks
 
   module _ (entries : ℕ → List Entry) where
     -- what stripping needs of a net: its arrays have the right sizes, with a bit for each known word

@@ -2,6 +2,7 @@
 use crate::position::{Position, position_of, side};
 use crate::room::{NOWHERE, Spare};
 use crate::support::{find_support, next_lost, strike_row};
+use crate::trial::Trial;
 use crate::worklist::Worklist;
 use std::alloc::Global;
 use xw_bits::bit_row::BitRow;
@@ -54,6 +55,7 @@ impl Net {
     ghost use Rattle.std.specs.Prelude.{◌≡◌, ℕ, ◌+◌, ◌-◌, ◌*◌, ◌<◌, ◌≤◌, true, false, not, ◌||◌, ◌&&◌, ◌==◌, length, slice_index, slice_index_or, IfSome, IfNone};
     ghost use Rattle.xw_letters.specs.Letter.{IsLetter};
     ghost use Rattle.xw_letters.specs.LetterSet.{has};
+    ghost use Rattle.xw_words.specs.Dictionary.{row as words_of};
     ghost use Rattle.xw_feas.specs.Board.{light_at};
     ghost use Rattle.xw_net.specs.Marks.{side_of, IsPositionIn, Drops, LeavesPending, cell_at, slot_at};
     ghost use Rattle.xw_net.specs.Inner.Lost.{IsLost};
@@ -144,7 +146,7 @@ impl Net {
     }
 
     /// Removes a letter from a cell, and makes it pending for the crossing light.
-    fn drop_letter(&mut self, board: &Board<'_>, here: Position, letter: Letter)
+    pub(crate) fn drop_letter(&mut self, board: &Board<'_>, here: Position, letter: Letter)
         requires shaped { IsShaped board.now self.old }
         requires there { IsThere board.now here }
         requires stood { letter_stands self.old here.cell letter ≡ true }
@@ -271,7 +273,7 @@ impl Net {
 
     /// Checks each letter at each position of a light. A light whose entered word is in the net
     /// needs no check.
-    fn keep_light<R: Rows>(&mut self, rows: &mut R, board: &Board<'_>, light: usize)
+    pub(crate) fn keep_light<R: Rows>(&mut self, rows: &mut R, board: &Board<'_>, light: usize)
         requires net { IsStrippable board.now (R.entries rows.old) self.old }
         requires light { light < length board.now.lights }
         ensures entries { R.entries rows.new ≡ R.entries rows.old }
@@ -310,10 +312,11 @@ impl Net {
         rows: &mut R,
         board: &Board<'_>,
         light: usize,
-        watched: &[bool],
+        trial: Trial<'_>,
     ) -> bool
         requires net { IsStrippable board.now (R.entries rows.old) self.old }
         requires light { light < length board.now.lights }
+        requires words { IfSome trial.words (λ bank. R.entries rows.old ≡ words_of bank.now.words) }
         requires queued { queued_in self.old light ≡ true }
         requires taken { is_waiting self.old.queue.lights light ≡ false }
         ensures entries { R.entries rows.new ≡ R.entries rows.old }
@@ -324,15 +327,15 @@ impl Net {
         ensures holding { result ≡ false → KeepsHolding board.now (R.entries rows.old) self.old self.new }
         ensures pending { result ≡ false → PendAtSlots board.now self.old self.new }
         ensures kept { StepsOn board.now (R.entries rows.old) self.old (R.ticks rows.old) self.new (R.ticks rows.new) }
-        ensures watched { result ≡ true → slice_index_or watched.now light false ≡ true }
+        ensures watched { result ≡ true → slice_index_or trial.entry.watched.now light false ≡ true }
         ensures emptied { result ≡ true → IsEmptied self.new light }
     {
         self.strike_light(rows, board, light);
-        if self.is_dead(light, watched) {
+        if self.is_dead(light, trial.watched) {
             return true;
         }
         self.queue.release(light);
-        self.keep_light(rows, board, light);
+        self.check_light(rows, board, light, trial.words);
         false
     }
 
@@ -396,36 +399,35 @@ impl Net {
     }
 
     /// Strips the net: processes queued lights until the words and letters left support one
-    /// another. Stops at the first watched light without a word, and returns it. `in_turn` decides in
-    /// which order, and so which light that is.
+    /// another. Stops at the first watched light without a word, and returns it.
     pub(crate) fn strip_watching<R: Rows>(
         &mut self,
         rows: &mut R,
         board: &Board<'_>,
-        watched: &[bool],
-        in_turn: bool,
+        trial: Trial<'_>,
     ) -> Option<usize>
         requires net { IsStrippable board.now (R.entries rows.old) self.old }
         requires queue { IsQueue self.old }
+        requires words { IfSome trial.words (λ bank. R.entries rows.old ≡ words_of bank.now.words) }
         ensures entries { R.entries rows.new ≡ R.entries rows.old }
         ensures risen { R.ticks rows.old ≤ R.ticks rows.new }
         ensures step { IsStep board.now (R.entries rows.old) self.old self.new }
         ensures filled { IfNone result (FillsNet board.now (R.entries rows.old) self.old self.new) }
         ensures cost { StripsWithin board.now (R.entries rows.old) self.old (R.ticks rows.old) (R.ticks rows.new) }
-        ensures watched { IfSome result (λ light. slice_index_or watched.now light false ≡ true) }
+        ensures watched { IfSome result (λ light. slice_index_or trial.entry.watched.now light false ≡ true) }
         ensures within { IfSome result (λ light. light < length board.now.lights) }
         ensures dies { IfSome result (Dies board.now (R.entries rows.old) self.old) }
         ensures stands { IfSome result (λ light. StandsOnBoard board.now (R.entries rows.old) self.old self.new) }
     {
         self.emptied = NOWHERE;
-        let mut at = self.index_of_next(NOWHERE, in_turn);
+        let mut at = self.index_of_next(NOWHERE, trial.in_turn);
         while let Some(light) = self.queue.take_at(at) {
-            if self.see_to(rows, board, light, watched) {
+            if self.see_to(rows, board, light, trial) {
                 self.note_dead(light);
                 return Some(light);
             }
             self.note_emptied(board, light);
-            at = self.index_of_next(at, in_turn);
+            at = self.index_of_next(at, trial.in_turn);
         }
         None
     }
@@ -440,6 +442,11 @@ impl Net {
         ensures filled { FillsNet board.now (R.entries rows.old) self.old self.new }
         ensures cost { StripsWithin board.now (R.entries rows.old) self.old (R.ticks rows.old) (R.ticks rows.new) }
     {
-        let _ = self.strip_watching(rows, board, &[], false);
+        let edit = Trial {
+            watched: &[],
+            in_turn: false,
+            words: None,
+        };
+        let _ = self.strip_watching(rows, board, edit);
     }
 }

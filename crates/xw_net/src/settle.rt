@@ -4,6 +4,7 @@ use crate::change::Change;
 use crate::forget::forget_lights;
 use crate::net::Net;
 use crate::touch::{filled_in, touch};
+use crate::trial::Trial;
 use xw_feas::board::Board;
 use xw_grid::grid::Grid;
 use xw_grid::lights::Lights;
@@ -12,6 +13,7 @@ use xw_words::rows::Rows;
 
 impl Net {
     ghost use Rattle.std.specs.Prelude.{◌≡◌, ℕ, ◌<◌, ◌≤◌, true, false, None, IfSome, IfNone, [], length, replicate, slice_index_or, vec_len};
+    ghost use Rattle.xw_words.specs.Dictionary.{row as words_of};
     ghost use Rattle.xw_grid.specs.Light.{lights_of};
     ghost use Rattle.xw_feas.specs.Board.{board_of};
     ghost use Rattle.xw_net.specs.Brought.{CostsAtMost};
@@ -218,41 +220,40 @@ impl Net {
         rows: &mut R,
         grid: &Grid,
         lights: &Lights,
-        watched: &[bool],
-        in_turn: bool,
+        trial: Trial<'_>,
     ) -> Option<usize>
         requires lights { lights.now ≡ lights_of grid.now }
         requires shaped { IsShaped (board_of grid.now) self.old }
         requires bits { HasBits (board_of grid.now) (R.entries rows.old) self.old }
         requires queue { IsQueue self.old }
+        requires words { IfSome trial.words (λ bank. R.entries rows.old ≡ words_of bank.now.words) }
         ensures entries { R.entries rows.new ≡ R.entries rows.old }
         ensures risen { R.ticks rows.old ≤ R.ticks rows.new }
         ensures rest { IsLeft self.old self.new }
         ensures settled { IfNone result (StripsTo grid.now (R.entries rows.old) self.old self.new) }
         ensures stopped { IfSome result (StripsUntil grid.now (R.entries rows.old) self.old self.new) }
         ensures within { IfSome result (λ light. light < length lights.now) }
-        ensures watched { IfSome result (λ light. slice_index_or watched.now light false ≡ true) }
+        ensures watched { IfSome result (λ light. slice_index_or trial.entry.watched.now light false ≡ true) }
     {
         let board = Board::new(grid, lights);
-        let Some(dead) = self.strip_watching(rows, &board, watched, in_turn) else {
+        let Some(dead) = self.strip_watching(rows, &board, trial) else {
             return None;
         };
         self.halt();
         Some(dead)
     }
     /// Updates the net as `settle` does, but stops at the first watched light that has no feasible word after the edit, and
-    /// returns it. The net is not settled then: copy another net over it. Lights with few words are stripped first; with
-    /// `in_turn`, those that were queued first are, so that the light returned tells more about the change.
+    /// returns it. The net is not settled then: copy another net over it. Words of `trial.words` are read without a tick.
     pub fn try_settle<R: Rows>(
         &mut self,
         rows: &mut R,
         change: &Change<'_>,
         grid: &Grid,
         lights: &Lights,
-        watched: &[bool],
-        in_turn: bool,
+        trial: Trial<'_>,
     ) -> Option<usize>
         requires lights { lights.now ≡ lights_of grid.now }
+        requires words { IfSome trial.words (λ bank. R.entries rows.old ≡ words_of bank.now.words) }
         requires inside { AreInside grid.now (cells_of change.now) }
         requires long { AreLong (board_of grid.now) (R.entries rows.old) }
         requires cells { vec_len self.old.letters ≡ length grid.now.squares }
@@ -264,10 +265,10 @@ impl Net {
         ensures settled { IfNone result (Settles grid.now (R.entries rows.old) (fields_of lights.now change.now) self.old self.new) }
         ensures stopped { IfSome result (SettlesUntil grid.now (R.entries rows.old) (fields_of lights.now change.now) self.old self.new) }
         ensures within { IfSome result (λ light. light < length lights.now) }
-        ensures watched { IfSome result (λ light. slice_index_or watched.now light false ≡ true) }
+        ensures watched { IfSome result (λ light. slice_index_or trial.entry.watched.now light false ≡ true) }
     {
         self.revive(rows, change, grid, lights);
-        let stop = self.try_strip(rows, grid, lights, watched, in_turn);
+        let stop = self.try_strip(rows, grid, lights, trial);
         if stop.is_none() {
             self.keep_counts();
         }

@@ -9,6 +9,7 @@ use Rattle.xw_feas.specs.Board.{Board}
 use Rattle.xw_feas.specs.WellFormed.{IsLaidOut}
 use Rattle.xw_net.specs.Revival.{IsMatching}
 use Rattle.xw_net.specs.Marks.{Marks, IsPositionIn, cell_at, slot_at, side_of, letter_of, known, IsSettledNet}
+use Rattle.xw_net.specs.Marks.IsHeld.{by_held, by_word, by_entered}
 use Rattle.xw_net.specs.Brought.{IsBegun, IsReadyBut, IsCarried}
 use Rattle.xw_net.proofs.Revivals.RevivalCovers.{was-gives, was-from}
 use Rattle.xw_net.proofs.BaseRows.BaseLetters.{base_letter_may}
@@ -103,10 +104,8 @@ module _ (before after : Board) (old new : Dictionary) (same : ℕ → Option �
         let is_held : settled.held (slot_at before other position) letter ≡ start.held (slot_at after light position) letter = ap (λ s. settled.held s letter) there.slot ∙ sym (carried.held light position letter here (capital (cell_at after light position) letter stands) no_seed) in
         let stood : settled.letters (cell_at before other position) letter ≡ true = ap (λ c. settled.letters c letter) there.cell ∙ letter_stood light position letter here no_seed stands in
         elim (net.ready.held other position letter there.here (net.none_queued other there.here.0) stood) [
-          | inl known_word ↦ inl (
-            omega (arith, is_held, is_known, known_word.0),
-            subst (λ n. start.words light n ≡ true) is_held (word_stays light other (settled.held (slot_at before other position) letter) here.0 no_seed at calm known_word.1),
-          )
-          | inr entered ↦ inr (subst (λ n. start.words light n ≡ true) (sym is_known) (word_stays light other (known before old other) here.0 no_seed at calm entered))
+          | by_held below had ↦ by_held (omega (arith, is_held, is_known, below)) (subst (λ n. start.words light n ≡ true) is_held (word_stays light other (settled.held (slot_at before other position) letter) here.0 no_seed at calm had))
+          | by_word choice had puts_it ↦ by_word choice (word_stays light other choice here.0 no_seed at calm had) (ap (λ l. eqb l letter) (sym (same_letter light other choice position here.0 no_seed at had)) ∙ puts_it)
+          | by_entered had ↦ by_entered (subst (λ n. start.words light n ≡ true) (sym is_known) (word_stays light other (known before old other) here.0 no_seed at calm had))
         ];
   }

@@ -14,6 +14,7 @@ use Rattle.xw_words.specs.Dictionary.{IsDictionary}
 use Rattle.xw_net.specs.Revival.{IsMatching, IsRevived}
 use Rattle.xw_net.specs.Region.{IsRegion}
 use Rattle.xw_net.specs.Marks.{Marks, IsPositionIn, cell_at, slot_at, letter_of, known, puts, AreSlotsApart, IsSound, IsReady}
+use Rattle.xw_net.specs.Marks.IsHeld.{by_held, by_word, by_entered}
 use Rattle.xw_net.specs.Spread.{IsReachClosed}
 use Rattle.xw_net.specs.Brought.{IsBrought, IsBegun, IsReadyBut}
 use Rattle.xw_net.proofs.Revivals.RevivalCovers.{revival_covers}
@@ -169,11 +170,9 @@ module _ (board : Board) (dictionary : Dictionary) (laid_out : IsLaidOut board) 
       | inr off ↦
           let is = brought.held (slot_at board light position) letter in
           elim (was_ready.held light position letter here (off_seed light off) (sym (brought.queued_off light off) ∙ calm) (stood_off light position letter here off stands)) [
-            | inl known_word ↦ inl (
-              subst (λ n. n < known board dictionary light) (sym is) known_word.0,
-              brought.words_off light (now.held (slot_at board light position) letter) off ∙ ap (start.words light) is ∙ known_word.1,
-            )
-            | inr entered ↦ inr (brought.words_off light (known board dictionary light) off ∙ entered)
+            | by_held below had ↦ by_held (subst (λ n. n < known board dictionary light) (sym is) below) (brought.words_off light (now.held (slot_at board light position) letter) off ∙ ap (start.words light) is ∙ had)
+            | by_word choice had puts_it ↦ by_word choice (brought.words_off light choice off ∙ had) puts_it
+            | by_entered had ↦ by_entered (brought.words_off light (known board dictionary light) off ∙ had)
           ]
     ];
   }

@@ -6,28 +6,13 @@ use Rattle.xw_words.specs.Dictionary.{Dictionary}
 use Rattle.xw_feas.specs.Board.{Board}
 use Rattle.xw_net.specs.Marks.{Marks, IsPositionIn, cell_at, slot_at, known, AreSlotsApart, Drops}
 use Rattle.xw_net.specs.Due.{Measure, IsUnderway, and_light}
-use Rattle.xw_net.proofs.Costs.DueTicks.{IsFrom}
-use Rattle.xw_net.proofs.Stripping.StepsKeepInvariant.{IsDropped, same_stays, drops_sound, drops_paid}
+use Rattle.xw_net.proofs.Stripping.DroppedLetters.{from_of, from_is, dropped_under}
+use Rattle.xw_net.proofs.Stripping.StepsKeepInvariant.{IsDropped}
 
 -- whether some number below a bound passes
 abbrev pub any : (ℕ → Bool) → ℕ → Bool
 any f zero = false
 any f (suc k) = any f k || f k
-
--- the chunk from which the next search starts
-from_of : ℕ → ℕ → Bool → ℕ
-from_of n h again = cond (ltb h n && not again) (h / 64) 0
-
-from_is : (n h : ℕ) (again : Bool) → IsFrom n h again (from_of n h again)
-unfolding from_of
-from_is n h again = (
-  (λ lt never. ap (λ b. cond (b && not again) (h / 64) 0) (lt-ltb h n lt) ∙ ap (λ b. cond (true && not b) (h / 64) 0) never),
-  (λ le. ap (λ b. cond (b && not again) (h / 64) 0) (le-ltb h n le)),
-  (λ is. ap (λ b. cond (ltb h n && not b) (h / 64) 0) is ∙ off (ltb h n)),
-) where
-  off : (b : Bool) → cond (b && false) (h / 64) 0 ≡ 0
-  off true = refl
-  off false = refl
 
 below_next : (d k : ℕ) → ltb d (suc k) ≡ (ltb d k || eqb d k)
 below_next d k = elim (cases_lt d k) [
@@ -161,22 +146,7 @@ module _ (board : Board) (dictionary : Dictionary) (apart : AreSlotsApart board)
           no_word = λ n stands has. both_ways (old.words i n) (none_stands n) stands;
           from_is = from_is (known board dictionary i) (old.held s k) (old.restart s k);
         } in
-        record {
-          kept = record {
-            sound = drops_sound board dictionary apart (stage k) (stage (suc k)) i q k position letter from dropped under.kept.sound;
-            held = λ j r d here off alive.
-                let before : (stage k).letters (cell_at board j r) d ≡ true = (and_parts ((stage k).letters (cell_at board j r) d) (not (eqb (cell_at board j r) (cell_at board i q) && eqb d k)) (sym (drops.letters (cell_at board j r) d) ∙ alive)).0 in
-                same_stays board dictionary apart (stage k) (stage (suc k)) (λ a b. refl) (λ a b. refl) j r d (under.kept.held j r d here (free_before j off) before);
-          };
-          paid = drops_paid board dictionary apart (stage k) (stage (suc k)) i q k position letter from dropped measure ticks ticks under.kept.sound under.paid in_set (omega arith);
-        } where
-          free_before : (j : ℕ) → and_light (stage (suc k)).queued i j ≡ false → and_light (stage k).queued i j ≡ false
-          free_before j off = false_from_ne_true (and_light (stage k).queued i j) (λ h.
-              both_ways (and_light (stage (suc k)).queued i j) off
-              (elim (or_cases ((stage k).queued j) (eqb j i) h) [
-                | inl waits ↦ or_left ((stage (suc k)).queued j) (eqb j i) ((stage_drops k alive).queued_more j waits)
-                | inr same ↦ or_right ((stage (suc k)).queued j) (eqb j i) same
-              ]))
+        dropped_under board dictionary apart (stage k) (stage (suc k)) i q k from position letter dropped measure ticks ticks in_set (omega arith) under
 
     under_next : (k : ℕ) → is_under k → is_under (suc k)
     unfolding is_under

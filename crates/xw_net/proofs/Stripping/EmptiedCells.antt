@@ -11,6 +11,7 @@ use Rattle.xw_net.specs.Nets.{marks_of, bits_for, word_stands, letter_stands, he
 use Rattle.xw_net.specs.declared.net.Net.{Net}
 use Rattle.xw_net.proofs.Stripping.RemovedLetters.{crossed_drops, alone_drops}
 use Rattle.xw_net.proofs.Stripping.EmptiedAtOnce.{emptied_under}
+use Rattle.xw_net.proofs.Stripping.DroppedLetters.{words_struck, held_struck, restart_struck}
 use Rattle.xw_net.proofs.Stripping.HeldWords.{same_holding}
 use Rattle.xw_net.proofs.Stripping.StepsKeepInvariant.{same_stays}
 use Rattle.xw_net.proofs.Stripping.StruckRows.{set_letter}
@@ -34,30 +35,18 @@ module _ (board : Board) (entries : ℕ → List Entry) (dictionary : Dictionary
     (same : new ≡ record old { letters = new.letters; pending = new.pending; queue = new.queue })
     (letters : (cell letter : ℕ) → letter_stands new cell letter ≡ (letter_stands old cell letter && not (eqb cell (cell_at board i q))))
     (leaves : LeavesPending board i q (letter_stands old (cell_at board i q)) (marks_of old) (marks_of new)) where
-  words : (j k : ℕ) → word_stands new j k ≡ word_stands old j k
-  unfolding word_stands
-  words j k = ap (λ (net : Net). word_stands net j k) same
-
-  held : (s d : ℕ) → held_in new s d ≡ held_in old s d
-  unfolding held_in
-  held s d = ap (λ (net : Net). held_in net s d) same
-
-  restart : (s d : ℕ) → restart_in new s d ≡ restart_in old s d
-  unfolding restart_in
-  restart s d = ap (λ (net : Net). restart_in net s d) same
-
   are_letters : (y d : ℕ) → letter_stands old y d ≡ true → IsLetter d
   unfolding letter_stands
   are_letters y d h = set_letter (get_or old.letters.items y 0) d h
 
   pub still_held : (j r d : ℕ) → IsHeld board dictionary (marks_of old) j r d → IsHeld board dictionary (marks_of new) j r d
-  still_held j r d = same_stays board dictionary setting.apart (marks_of old) (marks_of new) words held j r d
+  still_held j r d = same_stays board dictionary setting.apart (marks_of old) (marks_of new) (words_struck old new same) (held_struck old new same) j r d
 
   pub alive_before : (cell letter : ℕ) → letter_stands new cell letter ≡ true → letter_stands old cell letter ≡ true
   alive_before cell letter alive = (and_parts (letter_stands old cell letter) (not (eqb cell (cell_at board i q))) (sym (letters cell letter) ∙ alive)).0
 
   pub still_holding : IsHolding board dictionary (marks_of old) → IsHolding board dictionary (marks_of new)
-  still_holding = same_holding board dictionary (marks_of old) (marks_of new) held
+  still_holding = same_holding board dictionary (marks_of old) (marks_of new) (held_struck old new same)
 
   pub still_under : ((k : ℕ) → word_stands old i k ≡ false) → (first : ℕ) → letter_stands old (cell_at board i q) first ≡ true → (measure : Measure) (ticks : ℕ) → measure.member i ≡ true
       → IsUnderway board dictionary measure (marks_of old) (and_light (queued_in old) i) ticks → IsUnderway board dictionary measure (marks_of new) (and_light (queued_in new) i) ticks
@@ -67,12 +56,12 @@ module _ (board : Board) (entries : ℕ → List Entry) (dictionary : Dictionary
         emptied_under board dictionary setting.apart i q position (marks_of old)
         (λ s. eqb s (2 * cell_at board i q + side_of (light_at board other))) (λ j. eqb j other)
         (λ b from to ls ps qs. crossed_drops board i q b position from to ls other crossing only ps qs)
-        none are_letters measure ticks in_set (marks_of new) words held restart letters pending queued first stood under
+        none are_letters measure ticks in_set (marks_of new) (words_struck old new same) (held_struck old new same) (restart_struck old new same) letters pending queued first stood under
     go (alone none_crosses pending queued) =
         emptied_under board dictionary setting.apart i q position (marks_of old)
         (λ s. false) (λ j. false)
         (λ b from to ls ps qs. alone_drops board i q b position from to ls none_crosses (λ s d. ps s d ∙ or_none (from.pending s d)) (λ j. qs j ∙ or_none (from.queued j)))
-        none are_letters measure ticks in_set (marks_of new) words held restart letters
+        none are_letters measure ticks in_set (marks_of new) (words_struck old new same) (held_struck old new same) (restart_struck old new same) letters
         (λ s d. pending s d ∙ sym (or_none (pending_in old s d))) (λ j. queued j ∙ sym (or_none (queued_in old j))) first stood under
 
 -- a letter that became pending is pending at a slot of the board

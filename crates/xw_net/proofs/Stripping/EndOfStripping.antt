@@ -10,6 +10,7 @@ use Rattle.xw_feas.specs.Board.{Board, light_at, entry, is_open, allows, agrees,
 use Rattle.xw_feas.specs.Choices.{SupportsItself, IsExact}
 use Rattle.xw_feas.proofs.Support.{exact_when_none_unsupported}
 use Rattle.xw_net.specs.Marks.{Marks, IsPositionIn, cell_at, slot_at, IsSetting, known, letter_of, IsHeld, IsSound, IsReady, IsSettledNet}
+use Rattle.xw_net.specs.Marks.IsHeld.{by_held, by_word, by_entered}
 use Rattle.xw_net.specs.Due.{due_letter, Measure, IsUnderway, and_light}
 use Rattle.xw_net.proofs.Costs.DueTicks.{due-le}
 use Rattle.xw_net.proofs.Stripping.WordsByNumber.{letter_entered}
@@ -35,6 +36,13 @@ module _ (board : Board) (dictionary : Dictionary) (marks : Marks) (queued : ℕ
         | inr n ↦ or_left (queued j) (eqb j i) (still_queued j n h)
       ]))
 
+  still_held : (j r d : ℕ) → IsHeld board dictionary marks j r d → IsHeld board dictionary taken j r d
+  still_held j r d held = elim held [
+    | by_held lt stands ↦ by_held lt stands
+    | by_word choice stands has ↦ by_word choice stands has
+    | by_entered stands ↦ by_entered stands
+  ]
+
   taken_sound : ((position letter : ℕ) → IsPositionIn board i position → marks.pending (slot_at board i position) letter ≡ false) → IsSound board dictionary marks → IsSound board dictionary taken
   taken_sound cleared sound = record {
     within = sound.within;
@@ -56,7 +64,7 @@ module _ (board : Board) (dictionary : Dictionary) (marks : Marks) (queued : ℕ
   taken_under measure spent cleared under = record {
     kept = record {
       sound = taken_sound cleared under.kept.sound;
-      held = λ j r d here off alive. under.kept.held j r d here (taken_off j off) alive;
+      held = λ j r d here off alive. still_held j r d (under.kept.held j r d here (taken_off j off) alive);
     };
     paid = record {
       closed = under.paid.closed;
@@ -137,8 +145,9 @@ module _ (board : Board) (entries : ℕ → List Entry) (dictionary : Dictionary
         ];
     letters = λ k below letter alive.
         elim (settled.ready.held light k letter (lt, below) (settled.none_queued light lt) alive) [
-          | inl held ↦ (marks.held (slot_at board light k) letter, held.1, eqb-true (letter_of board dictionary light (marks.held (slot_at board light k) letter) k) letter (settled.ready.sound.hits light k letter (lt, below) alive held.0))
-          | inr stands ↦ (known board dictionary light, stands, entered_has light k letter (lt, below) stands alive)
+          | by_held known_one stands ↦ (marks.held (slot_at board light k) letter, stands, eqb-true (letter_of board dictionary light (marks.held (slot_at board light k) letter) k) letter (settled.ready.sound.hits light k letter (lt, below) alive known_one))
+          | by_word choice stands has ↦ (choice, stands, eqb-true (letter_of board dictionary light choice k) letter has)
+          | by_entered stands ↦ (known board dictionary light, stands, entered_has light k letter (lt, below) stands alive)
         ];
   }
 

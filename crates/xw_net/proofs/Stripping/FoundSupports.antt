@@ -8,6 +8,7 @@ use Rattle.xw_words.specs.Columns.{has_letter}
 use Rattle.xw_feas.specs.Board.{Board, light_at}
 use Rattle.xw_feas.specs.Flags.{set_has}
 use Rattle.xw_net.specs.Marks.{IsPositionIn, cell_at, slot_at, IsSetting, known, puts, IsHeld, IsHolding, IsSound, Drops}
+use Rattle.xw_net.specs.Marks.IsHeld.{by_held}
 use Rattle.xw_net.specs.Due.{Measure, IsUnderway, and_light}
 use Rattle.xw_net.specs.Support.{Held, index_for, search_from, supports, Finds}
 use Rattle.xw_net.specs.Support.Finds.{stands, moves, nowhere}
@@ -15,7 +16,8 @@ use Rattle.xw_net.specs.Nets.{bits_for, word_stands, letter_stands, held_in, res
 use Rattle.xw_net.specs.declared.net.Net.{Net}
 use Rattle.xw_net.proofs.Costs.DueTicks.{IsFrom}
 use Rattle.xw_net.proofs.Stripping.StruckRows.{set_letter}
-use Rattle.xw_net.proofs.Stripping.StepsKeepInvariant.{IsHung, IsMoved, IsDropped, hung_held, hung_stays, same_stays, moves_sound, moves_paid, drops_sound, drops_paid}
+use Rattle.xw_net.proofs.Stripping.StepsKeepInvariant.{IsHung, IsMoved, IsDropped, hung_held, hung_stays, same_stays, moves_sound, moves_paid}
+use Rattle.xw_net.proofs.Stripping.DroppedLetters.{dropped_under}
 use Rattle.xw_net.proofs.Stripping.HeldWords.{hung_holding, same_holding}
 use Rattle.xw_net.proofs.Stripping.WordsByNumber.{listed_is, word_cases, bits_known, letter_listed}
 use Rattle.xw_net.proofs.Stripping.WordsByNumber.WordOf.{listed, spelled_one}
@@ -32,11 +34,11 @@ from_cases held slot letter n =
       off true = refl
       off false = refl
 
-supports-parts : (row : List Bool) (words : List Entry) (position letter k : ℕ) → supports row words position letter k ≡ true → (get_or row k false ≡ true) × (has_letter words position letter k ≡ true)
+pub supports-parts : (row : List Bool) (words : List Entry) (position letter k : ℕ) → supports row words position letter k ≡ true → (get_or row k false ≡ true) × (has_letter words position letter k ≡ true)
 unfolding supports
 supports-parts row words position letter k h = and_parts (get_or row k false) (has_letter words position letter k) h
 
-supports-from : (row : List Bool) (words : List Entry) (position letter k : ℕ) → get_or row k false ≡ true → has_letter words position letter k ≡ true → supports row words position letter k ≡ true
+pub supports-from : (row : List Bool) (words : List Entry) (position letter k : ℕ) → get_or row k false ≡ true → has_letter words position letter k ≡ true → supports row words position letter k ≡ true
 unfolding supports
 supports-from row words position letter k in_row has = and_from (get_or row k false) (has_letter words position letter k) in_row has
 
@@ -149,7 +151,7 @@ module _ (board : Board) (entries : ℕ → List Entry) (dictionary : Dictionary
   found_held (stands has_word lt bit same none) is =
       let at = held_in old (slot_at board i q) b in
       let here = same_held same (slot_at board i q) b in
-      inl (omega (arith, here, lt, size), ap (word_stands new i) here ∙ words_same i at ∙ listed_is old i at lt ∙ bit)
+      by_held (omega (arith, here, lt, size)) (ap (word_stands new i) here ∙ words_same i at ∙ listed_is old i at lt ∙ bit)
   found_held (moves word has_word gone low sup none indices long again cost) is = hung_held board dictionary setting.apart (marks_of old) (marks_of new) i q b position letter word (hung word sup indices)
   found_held (nowhere lacks gone none same cost) is = absurd (both_ways found lacks is)
 
@@ -279,13 +281,4 @@ module _ (board : Board) (entries : ℕ → List Entry) (dictionary : Dictionary
               both_ways (supports (bits_for old i) (entries (length (light_at board i))) q b k) (none k (not_before sound stood k stands_there has)) (supported k stands_there has);
           from_is = from_held;
         } in
-        record {
-          kept = record {
-            sound = drops_sound board dictionary setting.apart (marks_of old) (marks_of last) i q b position letter from dropped sound;
-            held = λ j r d here off alive.
-                let alive_before : letter_stands old (cell_at board j r) d ≡ true =
-                (and_parts (letter_stands old (cell_at board j r) d) (not (eqb (cell_at board j r) (cell_at board i q) && eqb d b)) (sym (all_drops.letters (cell_at board j r) d) ∙ alive)).0 in
-                same_stays board dictionary setting.apart (marks_of old) (marks_of last) all_words all_held j r d (under.kept.held j r d here (free_less (queued_in last) (queued_in old) all_drops.queued_more j off) alive_before);
-          };
-          paid = drops_paid board dictionary setting.apart (marks_of old) (marks_of last) i q b position letter from dropped measure ticks ticks' sound under.paid in_set (omega (arith, cost, spent_is, size));
-        }
+        dropped_under board dictionary setting.apart (marks_of old) (marks_of last) i q b from position letter dropped measure ticks ticks' in_set (omega (arith, cost, spent_is, size)) under

@@ -12,6 +12,7 @@ use Rattle.xw_feas.specs.Feasible.{Family, IsSupported, may_stand}
 use Rattle.xw_feas.specs.Choices.{choice_at, Covers}
 use Rattle.xw_feas.proofs.Support.{number_of_base, base_words_here}
 use Rattle.xw_net.specs.Marks.{Marks, side_of, Drops, IsPositionIn, cell_at, slot_at, AreSlotsApart, known, letter_of, puts, IsHeld, IsSound, IsKept}
+use Rattle.xw_net.specs.Marks.IsHeld.{by_held, by_word, by_entered}
 use Rattle.xw_net.specs.Due.{sum_letters, chunks, due_of, due_letter, due_position, Measure, IsPaid}
 use Rattle.xw_net.proofs.Costs.SumsBelow.{sum_to-le, sum_to-add, sum_to-times}
 use Rattle.xw_net.proofs.Costs.DueTicks.{due-same, due-fewer, due-cleared, due-dies, due-alike, due-nowhere, due-moves, due-falls, position-falls, IsFrom}
@@ -145,8 +146,9 @@ module _ (board : Board) (dictionary : Dictionary) (apart : AreSlotsApart board)
           let n : j ≢ i = λ e. both_ways (marks.queued i) (ap marks.queued (sym e) ∙ sym (is.queued j) ∙ off) queued in
           let same = is.held (slot_at board j r) d in
           elim (kept.held j r d here (sym (is.queued j) ∙ off) (sym (is.letters (cell_at board j r) d) ∙ alive)) [
-            | inl held ↦ inl (omega (arith, same, held.0), ap (new.words j) same ∙ is.rest j (marks.held (slot_at board j r) d) n ∙ held.1)
-            | inr entered ↦ inr (is.rest j (known board dictionary j) n ∙ entered)
+            | by_held lt stands ↦ by_held (omega (arith, same, lt)) (ap (new.words j) same ∙ is.rest j (marks.held (slot_at board j r) d) n ∙ stands)
+            | by_word choice stands has ↦ by_word choice (is.rest j choice n ∙ stands) has
+            | by_entered stands ↦ by_entered (is.rest j (known board dictionary j) n ∙ stands)
           ];
     }
 
@@ -186,8 +188,9 @@ module _ (board : Board) (dictionary : Dictionary) (apart : AreSlotsApart board)
   same_stays marks new words_same held_same j r d held =
       let same = held_same (slot_at board j r) d in
       elim held [
-        | inl known_one ↦ inl (omega (arith, same, known_one.0), ap (new.words j) same ∙ words_same j (marks.held (slot_at board j r) d) ∙ known_one.1)
-        | inr entered ↦ inr (words_same j (known board dictionary j) ∙ entered)
+        | by_held lt stands ↦ by_held (omega (arith, same, lt)) (ap (new.words j) same ∙ words_same j (marks.held (slot_at board j r) d) ∙ stands)
+        | by_word choice stands has ↦ by_word choice (words_same j choice ∙ stands) has
+        | by_entered stands ↦ by_entered (words_same j (known board dictionary j) ∙ stands)
       ]
 
   module _ (marks new : Marks) (i q b : ℕ) (position : IsPositionIn board i q) (letter : IsLetter b) where
@@ -211,7 +214,7 @@ module _ (board : Board) (dictionary : Dictionary) (apart : AreSlotsApart board)
 
     module _ (word : ℕ) (hung : IsHung board dictionary marks new i q b word) where
       pub hung_held : IsHeld board dictionary new i q b
-      hung_held = inl (omega (arith, hung.held_here, hung.within), ap (new.words i) hung.held_here ∙ hung.words i word ∙ hung.stands)
+      hung_held = by_held (omega (arith, hung.held_here, hung.within)) (ap (new.words i) hung.held_here ∙ hung.words i word ∙ hung.stands)
 
       pub hung_stays : (j r d : ℕ) → IsPositionIn board j r → IsLetter d → IsHeld board dictionary marks j r d → IsHeld board dictionary new j r d
       hung_stays j r d here is_letter held =
@@ -220,8 +223,9 @@ module _ (board : Board) (dictionary : Dictionary) (apart : AreSlotsApart board)
             | another n ↦
                 let same = hung.held_rest (slot_at board j r) d is_letter n in
                 elim held [
-                  | inl known_one ↦ inl (omega (arith, same, known_one.0), ap (new.words j) same ∙ hung.words j (marks.held (slot_at board j r) d) ∙ known_one.1)
-                  | inr entered ↦ inr (hung.words j (known board dictionary j) ∙ entered)
+                  | by_held lt stands ↦ by_held (omega (arith, same, lt)) (ap (new.words j) same ∙ hung.words j (marks.held (slot_at board j r) d) ∙ stands)
+                  | by_word choice stands has ↦ by_word choice (hung.words j choice ∙ stands) has
+                  | by_entered stands ↦ by_entered (hung.words j (known board dictionary j) ∙ stands)
                 ]
           ]
 

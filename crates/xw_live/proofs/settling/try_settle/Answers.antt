@@ -15,6 +15,9 @@ pub try_settle-dead-requires-clause-cells : goal.try_settle-dead-requires-clause
 unfolding sets_of
 try_settle-dead-requires-clause-cells c = omega (arith, c.requires.cells)
 
+pub try_settle-dead-requires-clause-words : goal.try_settle-dead-requires-clause-words
+try_settle-dead-requires-clause-words c = ap (λ (words : Dictionary). row words) c.new-reads.ensures.words
+
 pub try_settle-dead-requires-clause-stood : goal.try_settle-dead-requires-clause-stood
 try_settle-dead-requires-clause-stood c = subst (λ (words : Dictionary). StoodFor (before_of c.args.position.now.lights c.args.change.now) (word_of c.args.change.now) (known_counts words) c.args.net.now) (sym c.new-reads.ensures.words) c.requires.stood
 

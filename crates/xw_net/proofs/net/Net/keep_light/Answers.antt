@@ -3,6 +3,7 @@ use Rattle.std.proofs.lemmas.Bool.{cases_lt}
 use Rattle.std.proofs.lemmas.List.{get_or_default}
 use Rattle.xw_words.specs.Dictionary.{Dictionary}
 use Rattle.xw_net.specs.Marks.{IsSetting, IsHeld, cell_at, known}
+use Rattle.xw_net.specs.Marks.IsHeld.{by_entered}
 use Rattle.xw_net.specs.Nets.{HasBits, marks_of, letter_stands}
 use Rattle.xw_net.proofs.Stripping.LeftByStripping.{left_left}
 use Rattle.xw_net.proofs.Stripping.WordsByNumber.{entered_is, bits_known}
@@ -59,5 +60,5 @@ returns-then-index-clause-held g c dictionary setting position letter here alive
     let old = c.args.self.now in
     let i = c.args.light in
     let within : i < length old.entered.items = omega (arith, c.requires.light, c.requires.net.shaped.entered) in
-    inr (entered_is old i (known c.args.board.now dictionary i) (bits_known c.args.board.now (g.R.Rows.entries c.args.rows.now) dictionary setting old c.requires.net.bits i c.requires.light)
+    by_entered (entered_is old i (known c.args.board.now dictionary i) (bits_known c.args.board.now (g.R.Rows.entries c.args.rows.now) dictionary setting old c.requires.net.bits i c.requires.light)
     ∙ sym (get_or_default old.entered.items i c.index.result.now false within) ∙ sym c.index.ensures ∙ c.if-index.true)

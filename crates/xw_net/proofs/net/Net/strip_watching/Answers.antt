@@ -1,8 +1,8 @@
 use Rattle.std.proofs.Common.{◌≡◌, ◌+◌, ◌-◌, ◌^◌, ℕ, true, false, [], ◌∷◌, length, get_or, refl, sym, ap, ◌∙◌, subst, inl, inr, arith, rules}
-use Rattle.std.specs.Prelude.{vec_items}
+use Rattle.std.specs.Prelude.{vec_items, IfSome}
 use Rattle.std.proofs.lemmas.Bool.{false_from_ne_true, both_ways}
 use Rattle.std.proofs.lemmas.List.Sorted.{length_permutation}
-use Rattle.xw_words.specs.Dictionary.{Dictionary, row}
+use Rattle.xw_words.specs.Dictionary.{Dictionary, row, row as words_of}
 use Rattle.xw_feas.specs.Board.{light_at}
 use Rattle.xw_net.specs.Room.{row_at}
 use Rattle.xw_net.specs.Worklist.{ListOfLights, is_marked, is_waiting}
@@ -31,6 +31,9 @@ note_emptied-requires-clause-light g c = omega (arith, c.in-Some.ensures.within,
 pub see_to-requires-clause-queued : goal.see_to-requires-clause-queued
 unfolding queued_in is_marked
 see_to-requires-clause-queued g c = ap (λ marks. is_marked marks c.in-Some.light) (ap (λ (l : ListOfLights). l.marks) c.take_at.ensures.rest) ∙ c.in-Some.ensures.marked
+
+pub see_to-requires-clause-words : goal.see_to-requires-clause-words
+see_to-requires-clause-words g c = subst (λ e. IfSome c.args.trial.words (λ bank. e ≡ words_of bank.now.words)) (sym c.loop-light.invariant.same) c.requires.words
 
 pub see_to-requires-clause-net : goal.see_to-requires-clause-net
 see_to-requires-clause-net g c =

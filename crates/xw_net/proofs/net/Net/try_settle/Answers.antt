@@ -1,7 +1,7 @@
-use Rattle.std.proofs.Common.{ℕ, List, ◌∙◌, ap}
-use Rattle.std.specs.Prelude.{Option, Some, None, IfNone}
+use Rattle.std.proofs.Common.{◌≡◌, ℕ, List, ◌∙◌, ap, sym, subst}
+use Rattle.std.specs.Prelude.{Option, Some, None, IfNone, IfSome}
 use Rattle.std.proofs.lemmas.Option.{IfSome_then}
-use Rattle.xw_words.specs.Dictionary.{Entry}
+use Rattle.xw_words.specs.Dictionary.{Entry, row as words_of}
 use Rattle.xw_net.specs.Layout.{layout_of}
 use Rattle.xw_net.proofs.Nets.NetsAlike.{roomier_alike}
 use Rattle.xw_net.proofs.net.Net.try_settle.Goals as goal
@@ -10,6 +10,9 @@ use Rattle.xw_net.proofs.net.Net.try_settle.Goals as goal
 none_then : {A B : Type 0} (result : Option ℕ) → IfNone result A → (A → B) → IfNone result B
 none_then None is then = then is
 none_then (Some light) is then = is
+
+pub try_strip-stop-requires-clause-words : goal.try_strip-stop-requires-clause-words
+try_strip-stop-requires-clause-words g c = subst (λ e. IfSome c.args.trial.words (λ bank. e ≡ words_of bank.now.words)) (sym c.revive.ensures.entries) c.requires.words
 
 pub returns-then-is_none-clause-settled : goal.returns-then-is_none-clause-settled
 returns-then-is_none-clause-settled g c =

@@ -1,0 +1,165 @@
+//! The letters of the words of a row, read word by word. Where a row has few words, this takes less time than a search
+//! for a word with each letter. No tick counts these reads, so they are for trials only.
+ghost use Rattle.std.specs.Prelude.{◌≡◌, ℕ, ◌+◌, ◌<◌, ◌≤◌, ◌||◌, true, false, length, slice_get, IfSome, IfNone};
+ghost use Rattle.xw_letters.specs.LetterSet.{has};
+ghost use Rattle.xw_words.specs.Columns.{letter_is};
+ghost use Rattle.xw_words.specs.Dictionary.{row as words_of};
+ghost use Rattle.xw_feas.specs.Flags.{set_has};
+ghost use Rattle.xw_net.specs.Inner.Passed.{AreLettersOf, AreListed};
+
+use crate::net::Net;
+use crate::position::position_of;
+use xw_bits::bit_row::BitRow;
+use xw_feas::board::Board;
+use xw_letters::letter::Letter;
+use xw_letters::letter_set::LetterSet;
+use xw_words::bank::Bank;
+use xw_words::rows::Rows;
+
+/// The most words of a light that are read one by one.
+const FEW_WORDS: usize = 64;
+
+/// The most cells of a light whose words are read one by one. Hardly any light has more.
+const FEW_CELLS: usize = 32;
+
+/// Adds each letter of a word to the set of its position.
+fn add_letters(sets: &mut [LetterSet], word: &[Letter])
+    requires { length word.now ≤ length sets.old }
+    ensures len { length sets.new ≡ length sets.old }
+    ensures added { (position letter : ℕ) → set_has sets.new position letter ≡ (set_has sets.old position letter || letter_is (slice_get word.now position) letter) }
+{
+    for position in 0..word.len() {
+        sets[position].insert(word[position]);
+    }
+}
+
+/// The letters that the words of a row have at each position. `len` is the length of the words.
+fn letters_of(bank: &Bank, row: &BitRow, len: usize) -> [LetterSet; FEW_CELLS]
+    requires row { length row.now.bits ≡ length (words_of bank.now.words len) }
+    requires len { len ≤ 32 }
+    ensures long { length result ≡ 32 }
+    ensures letters { AreLettersOf row.now.bits (words_of bank.now.words len) result }
+{
+    let mut sets = [LetterSet::new(); FEW_CELLS];
+    let mut from = 0;
+    while let Some(index) = row.next_one(from) {
+        add_letters(&mut sets, bank.word(len, index));
+        from = index + 1;
+    }
+    sets
+}
+
+/// The first letter of a set, by its index in the alphabet from `from` on, that is not in another.
+fn next_unlisted(letters: LetterSet, listed: LetterSet, from: u32) -> Option<u32>
+    ensures set { IfSome result (λ index. (from ≤ index) × (index < 26) × (has letters (65 + index) ≡ true)) }
+    ensures unlisted { IfSome result (λ index. has listed (65 + index) ≡ false) }
+    ensures passed { IfSome result (AreListed letters listed from) }
+    ensures none { IfNone result (AreListed letters listed from 26) }
+{
+    if letters.common(listed).is_same(letters) {
+        return None;
+    }
+    let mut at = from;
+    while let Some(index) = letters.next_index(at) {
+        if !listed.has(Letter::at(index)) {
+            return Some(index);
+        }
+        at = index + 1;
+    }
+    None
+}
+
+impl Net {
+    ghost use Rattle.std.specs.Prelude.{◌≡◌, ℕ, ◌<◌, ◌≤◌, true, false, length, slice_index_or, IfSome};
+    ghost use Rattle.xw_words.specs.Dictionary.{row as words_of};
+    ghost use Rattle.xw_feas.specs.Board.{light_at};
+    ghost use Rattle.xw_net.specs.Marks.{IsPositionIn, cell_at};
+    ghost use Rattle.xw_net.specs.Nets.{IsShaped, IsLeft, left_of};
+    ghost use Rattle.xw_net.specs.Steps.{IsStrippable, IsStep, IsCheck, IsStruckFrom, WaitMore, PendAtSlots, StandFewer, StandListed, ListsOn, AreLightHeld, ChecksOn};
+
+    /// Removes from the cell at a position the letters that are not among `listed`.
+    fn keep_listed(&mut self, board: &Board<'_>, light: usize, position: usize, listed: LetterSet)
+        requires shaped { IsShaped board.now self.old }
+        requires position { IsPositionIn board.now light position }
+        ensures shaped { IsShaped board.now self.new }
+        ensures rest { IsLeft self.old self.new }
+        ensures same { IsStruckFrom self.old self.new }
+        ensures fewer { left_of self.new ≤ left_of self.old }
+        ensures waits { WaitMore self.old self.new }
+        ensures pending { PendAtSlots board.now self.old self.new }
+        ensures alive { StandFewer self.old self.new }
+        ensures listed { StandListed (cell_at board.now light position) listed self.new }
+        ensures kept { ListsOn board.now light position listed self.old self.new }
+    {
+        let here = position_of(board, light, position);
+        let alive = self.letters[here.cell];
+        let mut from = 0;
+        while let Some(number) = next_unlisted(alive, listed, from) {
+            self.drop_letter(board, here, Letter::at(number));
+            from = number + 1;
+        }
+    }
+
+    /// Whether a light has few words, none of them entered, and few cells.
+    fn is_narrow(&self, board: &Board<'_>, light: usize) -> bool
+        requires light { light < length board.now.lights }
+        requires rows { light < length self.now.rows.items }
+        requires entered { light < length self.now.entered.items }
+        ensures open { result ≡ true → slice_index_or self.now.entered.items light false ≡ false }
+        ensures short { result ≡ true → length (light_at board.now light) ≤ 32 }
+    {
+        if self.entered[light] || self.rows[light].count() > FEW_WORDS {
+            return false;
+        }
+        if board.light(light).len() > FEW_CELLS {
+            return false;
+        }
+        true
+    }
+
+    /// Checks each letter at each position of a light without an entered word: reads all words of the light, and removes
+    /// the letters that none of them has. It costs no tick, whatever it reads.
+    fn pass_light(&mut self, bank: &Bank, board: &Board<'_>, light: usize)
+        requires net { IsStrippable board.now (words_of bank.now.words) self.old }
+        requires light { light < length board.now.lights }
+        requires open { slice_index_or self.old.entered.items light false ≡ false }
+        requires short { length (light_at board.now light) ≤ 32 }
+        ensures step { IsStep board.now (words_of bank.now.words) self.old self.new }
+        ensures check { IsCheck board.now (words_of bank.now.words) self.old self.new }
+        ensures held { AreLightHeld board.now (words_of bank.now.words) self.new light }
+        ensures kept { (ticks : ℕ) → ChecksOn board.now (words_of bank.now.words) light self.old ticks self.new ticks }
+    {
+        let len = board.light(light).len();
+        let listed = letters_of(bank, &self.rows[light], len);
+        for position in 0..len {
+            self.keep_listed(board, light, position, listed[position]);
+        }
+    }
+
+    /// Checks each letter at each position of a light. If it has few words, and they may be read, it reads them all.
+    pub(crate) fn check_light<R: Rows>(
+        &mut self,
+        rows: &mut R,
+        board: &Board<'_>,
+        light: usize,
+        words: Option<&Bank>,
+    )
+        requires net { IsStrippable board.now (R.entries rows.old) self.old }
+        requires light { light < length board.now.lights }
+        requires words { IfSome words (λ bank. R.entries rows.old ≡ words_of bank.now.words) }
+        ensures entries { R.entries rows.new ≡ R.entries rows.old }
+        ensures risen { R.ticks rows.old ≤ R.ticks rows.new }
+        ensures step { IsStep board.now (R.entries rows.old) self.old self.new }
+        ensures check { IsCheck board.now (R.entries rows.old) self.old self.new }
+        ensures held { AreLightHeld board.now (R.entries rows.old) self.new light }
+        ensures kept { ChecksOn board.now (R.entries rows.old) light self.old (R.ticks rows.old) self.new (R.ticks rows.new) }
+    {
+        if let Some(bank) = words {
+            if self.is_narrow(board, light) {
+                self.pass_light(bank, board, light);
+                return;
+            }
+        }
+        self.keep_light(rows, board, light);
+    }
+}
