@@ -1,6 +1,6 @@
 -- The parsed subcommand.
 use Rattle.std.proofs.Common.{◌≡◌, ◌∙◌, ◌⊎◌, inl, inr, [], sym, ap, refl, arith, codes, subst, slice_index_or, List, Option, Some, None}
-use Rattle.std.specs.Prelude.{Bool, true, false, is_some, map, option_map, IfSome}
+use Rattle.std.specs.Prelude.{Bool, is_some, map, option_map, IfSome}
 use Rattle.std.specs.Borrow.{Bor}
 use Rattle.std.specs.Option.{option_map_or}
 use Rattle.clap.specs.Words.{Row, Text, all_of, first_of, subcommand_name_of, subcommand_rows_of}
@@ -85,14 +85,6 @@ pub given : (found : Option (Bor Text)) (value : Option Text) (is : Bool) → op
 given None value is same is_so = is_so ∙ ap (λ (o : Option Text). is_some o) same
 given (Some text) value is same is_so = is_so ∙ ap (λ (o : Option Text). is_some o) same
 
-none_there : (found : Option Clash) → is_some found ≡ false → found ≡ None
-none_there None h = refl
-none_there (Some clash) h = cc
-
-pub fits : (rows : List Row) (found : Option Clash) (is : Bool) → found ≡ clash_in rows → is ≡ is_some found → is ≡ false → clash_in rows ≡ None
-fits rows found is found_so is_so not = sym found_so ∙ none_there found (sym is_so ∙ not)
-
 -- if two options clash, no files of a session exist
-pub fits_not : (rows : List Row) (found : Option Clash) (is : Bool) → found ≡ clash_in rows → is ≡ is_some found → is ≡ true → (files : SessionFiles) → AreFiles files rows → ⊥
-fits_not rows found is found_so is_so so files are =
-    let bad : true ≡ false = sym so ∙ is_so ∙ ap (λ (o : Option Clash). is_some o) (found_so ∙ are.fits) in cc
+pub clashed : (rows : List Row) (clash : Clash) → clash_in rows ≡ Some clash → (files : SessionFiles) → AreFiles files rows → ⊥
+clashed rows clash is files are = let bad : Some clash ≡ None = sym is ∙ are.fits in cc

@@ -1,14 +1,17 @@
 -- The reports for arguments that are no call.
-use Rattle.std.proofs.Common.{◌≡◌, ◌∙◌, ◌⊎◌, inl, inr, sym, true, refl, subst, List, Option, None, []}
+use Rattle.std.proofs.Common.{◌≡◌, ◌∙◌, ◌⊎◌, inl, inr, sym, true, refl, subst, List, Option, None, [], codes}
 use Rattle.std.specs.Prelude.{Result, Ok, Err, IfOk, IfErr, OnOk}
 use Rattle.clap.specs.Kinds.{Kinds, IsAmong}
 use Rattle.clap.specs.Words.{App, Row, Text, fault_of, is_simple_and_free}
 use Rattle.clap.specs.declared.error.kind.ErrorKind.{ErrorKind}
 use Rattle.clap.specs.declared.error.kind.ErrorKind.TheVariants.{DisplayHelp, DisplayVersion, OutOfMemory}
 use Rattle.xw_arguments.specs.Shapes as shapes
-use Rattle.xw_arguments.specs.Usage.{IsMisnamed, IsTold, IsUsageOf}
+use Rattle.xw_arguments.specs.Usage.{IsMisnamed, IsNoCallFor, IsNoCallTold, IsTold, IsUsageOf}
 use Rattle.xw_arguments.specs.Calls.{IsCall, misnaming_in}
 use Rattle.xw_arguments.specs.declared.arguments.Call.{Call}
+use Rattle.xw_arguments.specs.declared.arguments.NoCall.{NoCall}
+use Rattle.xw_arguments.specs.declared.arguments.NoCall.TheVariants as reasons
+use Rattle.xw_arguments.proofs.Rows.{clashed, no_call, no_edit}
 use Rattle.xw_arguments.specs.declared.arguments.Usage.{Usage}
 use Rattle.xw_arguments.specs.declared.arguments.Usage.TheVariants.{Help, Wrong, Memory}
 
@@ -28,6 +31,17 @@ told_of kinds words found kind (Help text) (inr among) told = (kind, among, told
 told_of kinds words found kind (Wrong text) (inl memory) told = absurd (told.2 memory)
 told_of kinds words found kind (Wrong text) (inr among) told = inl (kind, among, told)
 told_of kinds words found kind Memory has told = tt
+
+-- parsed arguments that are no call are reported
+pub no_call_told : (kinds : Kinds) (words : List Text) (found : Option (Text × List Row)) (reason : NoCall) (usage : Usage) → kinds ≡ [] → IsNoCallFor found reason → IsNoCallTold reason usage → IsUsageOf kinds words found usage
+no_call_told kinds words found (reasons.Clash clash) (Wrong text) none why told =
+    inr (none, inl (no_call found (codes "edit") why.0 why.1 (no_edit why.0 (clashed why.0 clash why.2)), reasons.Clash clash, why, told))
+no_call_told kinds words found reasons.Incomplete (Wrong text) none why told = inr (none, inl (why, reasons.Incomplete, why, told))
+no_call_told kinds words found reasons.Memory (Wrong text) none why told = absurd told
+no_call_told kinds words found (reasons.Clash clash) (Help text) none why told = absurd told
+no_call_told kinds words found reasons.Incomplete (Help text) none why told = absurd told
+no_call_told kinds words found reasons.Memory (Help text) none why told = absurd told
+no_call_told kinds words found reason Memory none why told = tt
 
 -- the names of a call are reported
 pub misnamed_of : (kinds : Kinds) (words : List Text) (found : Option (Text × List Row)) (call : Call) (usage : Usage) → kinds ≡ [] → IsCall call found → IsMisnamed call usage → IsUsageOf kinds words found usage

@@ -34,6 +34,11 @@ clash_of from resume journal sync = None
 abbrev pub clash_in : List Row → Option Clash
 clash_in rows = clash_of (is_some (first_of (codes "from") rows)) (is_some (first_of (codes "resume") rows)) (is_some (first_of (codes "journal") rows)) (is_set (first_of (codes "sync") rows))
 
+abbrev pub clash_text : Clash → Text
+clash_text TwoStarts = codes "xw: --from and --resume cannot be given together\n"
+clash_text JournalAndStart = codes "xw: --journal cannot be given with --from or --resume\n"
+clash_text SyncAlone = codes "xw: --sync needs --journal\n"
+
 -- Each file is the value of its option, and no options clash.
 pub record AreFiles (files : SessionFiles) (rows : List Row) : Type 0 where
   pub dict : IsNameOf (codes "dict") rows files.dict

@@ -4,8 +4,8 @@ ghost use Rattle.std.specs.Prelude.{◌≡◌, ◌==◌, length, ◌⊎◌, All,
 ghost use Rattle.clap.specs.Values.{kind_of};
 ghost use Rattle.clap.specs.Words.{all_of, app_of, first_of, found_of, rows_of, rule_of, subcommand_rows_of};
 ghost use Rattle.clap.specs.declared.builder.command.Command.TheViews.{out-Command as fields_of};
-ghost use Rattle.xw_arguments.specs.Calls.{AreFiles, IsCall, IsCallOf, is_explained, has_nameless, is_empty, is_nameless, is_set, clash_in, clash_of, misnaming_in, misnaming_text, reads_input_twice};
-ghost use Rattle.xw_arguments.specs.Usage.{IsMisnamed, IsTold, IsNoCall, IsUsageOf};
+ghost use Rattle.xw_arguments.specs.Calls.{AreFiles, IsCall, IsCallOf, is_explained, has_nameless, is_empty, is_nameless, is_set, clash_in, clash_of, clash_text, misnaming_in, misnaming_text, reads_input_twice};
+ghost use Rattle.xw_arguments.specs.Usage.{IsMisnamed, IsNoCallFor, IsNoCallTold, IsTold, IsUsageOf};
 ghost use Rattle.xw_arguments.specs.Shapes as shapes;
 ghost use Rattle.xw_arguments.specs.Shapes.{HasNoGlobals, IsLocal};
 
@@ -96,13 +96,24 @@ pub enum Clash {
 
 impl Clash {
     /// Returns the message.
-    pub fn message(self) -> &'static str {
+    pub fn message(self) -> &'static str
+        ensures { result.now ≡ clash_text self }
+    {
         match self {
             Clash::TwoStarts => "xw: --from and --resume cannot be given together\n",
             Clash::JournalAndStart => "xw: --journal cannot be given with --from or --resume\n",
             Clash::SyncAlone => "xw: --sync needs --journal\n",
         }
     }
+}
+
+/// Why parsed arguments are no call.
+#[derive(Clone, Copy, Debug, PartialEq, Eq)]
+pub enum NoCall {
+    Clash(Clash),
+    /// A file is missing. `clap` reports this itself.
+    Incomplete,
+    Memory,
 }
 
 /// Why the names of a call are no names of files.
@@ -393,9 +404,9 @@ pub fn arguments<'a, S: AsStr>(alloc: Global, words: &'a [S]) -> Result<Call<'a>
         Ok(matches) => matches,
         Err(error) => return Err(explanation(alloc, words, &error)),
     };
-    match call_of(alloc, &matches)? {
-        Some(call) => named(alloc, call),
-        None => Err(Usage::Wrong(String::from_str(alloc, message(&matches))?)),
+    match call_of(alloc, &matches) {
+        Ok(call) => named(alloc, call),
+        Err(reason) => Err(usage_of(alloc, reason)),
     }
 }
 
@@ -410,12 +421,18 @@ fn named<'a>(alloc: Global, call: Call<'a>) -> Result<Call<'a>, Usage>
     }
 }
 
-/// Returns the message for parsed arguments that are no call. The reason is always that two options do not go
-/// together: `clap` reports all other errors.
-fn message(matches: &ArgMatches<'_>) -> &'static str {
-    match matches.subcommand() {
-        Some((_, options)) => clash_found(options).unwrap_or(Clash::TwoStarts).message(),
-        None => Clash::TwoStarts.message(),
+/// Returns what to print for parsed arguments that are no call.
+fn usage_of(alloc: Global, reason: NoCall) -> Usage
+    ensures { IsNoCallTold reason result }
+{
+    let message = match reason {
+        NoCall::Clash(clash) => clash.message(),
+        NoCall::Incomplete => "xw: a file is missing\n",
+        NoCall::Memory => return Usage::Memory,
+    };
+    match String::from_str(alloc, message) {
+        Ok(text) => Usage::Wrong(text),
+        Err(_) => Usage::Memory,
     }
 }
 
@@ -457,15 +474,15 @@ fn clash_found(matches: &ArgMatches<'_>) -> Option<Clash>
     clash_among(from, resume, journal, sync)
 }
 
-/// Returns the files of a session, or `None` if two options do not go together.
-fn session_files<'a>(matches: &ArgMatches<'a>) -> Option<SessionFiles<'a>>
-    ensures files { IfSome result (λ files. AreFiles files (rows_of (found_of matches.now))) }
-    ensures none { result ≡ None → (files : SessionFiles) → AreFiles files (rows_of (found_of matches.now)) → ⊥ }
+/// Returns the files of a session, or the options that do not go together.
+fn session_files<'a>(matches: &ArgMatches<'a>) -> Result<SessionFiles<'a>, Clash>
+    ensures files { IfOk result (λ files. AreFiles files (rows_of (found_of matches.now))) }
+    ensures clash { IfErr result (λ clash. clash_in (rows_of (found_of matches.now)) ≡ Some clash) }
 {
-    if clash_found(matches).is_some() {
-        return None;
+    if let Some(clash) = clash_found(matches) {
+        return Err(clash);
     }
-    Some(SessionFiles {
+    Ok(SessionFiles {
         dict: matches.get_str("dict"),
         from_file: matches.get_str("from"),
         resume_file: matches.get_str("resume"),
@@ -483,12 +500,12 @@ fn is_explained(matches: &ArgMatches<'_>) -> bool
     is_set(matches, "explain")
 }
 
-/// Returns the `edit` call of these matches, or `None` if two options do not go together.
-fn edit_of<'a>(matches: &ArgMatches<'a>) -> Option<Call<'a>>
-    ensures call { IfSome result (λ call. IsCallOf (codes "edit") call (rows_of (found_of matches.now))) }
-    ensures none { result ≡ None → (files : SessionFiles) → AreFiles files (rows_of (found_of matches.now)) → ⊥ }
+/// Returns the `edit` call of these matches, or the options that do not go together.
+fn edit_of<'a>(matches: &ArgMatches<'a>) -> Result<Call<'a>, Clash>
+    ensures call { IfOk result (λ call. IsCallOf (codes "edit") call (rows_of (found_of matches.now))) }
+    ensures clash { IfErr result (λ clash. clash_in (rows_of (found_of matches.now)) ≡ Some clash) }
 {
-    Some(Call::Edit {
+    Ok(Call::Edit {
         files: session_files(matches)?,
         explain: is_explained(matches),
     })
@@ -520,19 +537,22 @@ fn check_of<'a>(alloc: Global, matches: &ArgMatches<'a>) -> Result<Option<Call<'
     }))
 }
 
-/// Returns the call of the parsed arguments, or `None` if a file is missing or two options do not go together.
-fn call_of<'a>(alloc: Global, matches: &ArgMatches<'a>) -> Result<Option<Call<'a>>, AllocError>
-    ensures call { IfOk result (λ found. IfSome found (λ call. IsCall call (subcommand_rows_of matches.now))) }
-    ensures none { IfOk result (λ found. found ≡ None → IsNoCall (subcommand_rows_of matches.now)) }
+/// Returns the call of the parsed arguments, or why there is none.
+fn call_of<'a>(alloc: Global, matches: &ArgMatches<'a>) -> Result<Call<'a>, NoCall>
+    ensures call { IfOk result (λ call. IsCall call (subcommand_rows_of matches.now)) }
+    ensures none { IfErr result (IsNoCallFor (subcommand_rows_of matches.now)) }
 {
     let Some((name, values)) = matches.subcommand() else {
-        return Ok(None);
+        return Err(NoCall::Incomplete);
     };
     match name {
-        "edit" => Ok(edit_of(values)),
-        "convert" => Ok(convert_of(values)),
-        "check" => check_of(alloc, values),
-        _ => Ok(None),
+        "edit" => edit_of(values).map_err(NoCall::Clash),
+        "convert" => convert_of(values).ok_or(NoCall::Incomplete),
+        "check" => match check_of(alloc, values) {
+            Ok(found) => found.ok_or(NoCall::Incomplete),
+            Err(AllocError) => Err(NoCall::Memory),
+        },
+        _ => Err(NoCall::Incomplete),
     }
 }
 
