@@ -75,7 +75,8 @@ export class LeastView {
     while (this.#wanted !== null) {
       const grade = this.#wanted;
       this.#wanted = null;
-      await this.actions.use(scoreOf(grade, this.#editor.list.best));
+      // to use the one that is in use would end a search for nothing
+      if (grade !== this.#editor.list.grade) await this.actions.use(scoreOf(grade, this.#editor.list.best));
     }
   }
 
