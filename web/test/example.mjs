@@ -15,6 +15,7 @@ const FILES = {
   '/': ['text/html', '<!doctype html><meta charset="utf-8"><title>example</title>'],
   '/example.js': ['text/javascript', code],
   '/xw.js': ['text/javascript', readFileSync(new URL('../dist/xw.js', import.meta.url))],
+  '/asking.js': ['text/javascript', readFileSync(new URL('../dist/asking.js', import.meta.url))],
   '/xw.wasm': ['application/wasm', readFileSync(new URL('../dist/xw.wasm', import.meta.url))],
 };
 
