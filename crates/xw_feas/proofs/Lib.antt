@@ -21,4 +21,5 @@ pub mod GreatestLemmas
 pub mod Elements
 pub mod PlacedLemmas
 pub mod WellFormedLemmas
+pub mod SnapshotLemmas
 pub mod JudgeLemmas

@@ -2,7 +2,7 @@
 ghost use Rattle.std.specs.Prelude.{◌≡◌, ℕ, ◌<◌, length, IfOk};
 ghost use Rattle.xw_grid.specs.Light.{lights_of};
 ghost use Rattle.xw_feas.specs.Board.{board_of, light_at};
-ghost use Rattle.xw_feas.specs.Snapshot.{IsTwin};
+ghost use Rattle.xw_feas.specs.Snapshot.{IsTwin, CanSave};
 ghost use Rattle.xw_feas.specs.State.{State, entry_action};
 ghost use Rattle.xw_feas.specs.Trying.{IsTried};
 ghost use Rattle.xw_feas.specs.Queries.{tally_of};
@@ -27,9 +27,9 @@ pub trait Searchable: Feasible {
     fn snapshot(&self) -> Result<Self::Snapshot, AllocError>
         ensures { IfOk result (λ snapshot. saved snapshot ≡ Self.state self.now) };
 
-    /// Saves the state in a snapshot, in place of the one it holds.
+    /// Saves the state in a snapshot, in place of the one it holds. The least grade may have changed since.
     fn save(&self, snapshot: &mut Self::Snapshot)
-        requires twin { IsTwin (saved snapshot.old) (Self.state self.now) }
+        requires { CanSave (saved snapshot.old) (Self.state self.now) }
         ensures saved { saved snapshot.new ≡ Self.state self.now };
 
     /// Returns to the saved state. The snapshot then holds the state before.

@@ -13,13 +13,16 @@ use Rattle.xw_fill.specs.NamedFill.{flags, AreFlags, IsFillOf}
 use Rattle.xw_fill.specs.Best.{at_least, IsFillAt, HasNoneAt, IsBound, IsFilledAt, IsBest}
 use Rattle.xw_fill.specs.declared.best.Best.{Best}
 use Rattle.xw_fill.specs.declared.best.Best.TheVariants.{Filled, NoFill, Limit}
-use Rattle.xw_fill.specs.Inner.Climbing.{IsClimbing, HasClimbed, IsAtLeast, IsTaken, grade_above, next_grade, work_left, best_of}
+use Rattle.xw_fill.specs.Inner.Climbing.{IsProber, IsClimbing, HasClimbed, IsAtLeast, IsTaken, grade_above, next_grade, work_left, best_of}
 use Rattle.xw_fill.specs.declared.allowance.Allowance.{Allowance}
+use Rattle.xw_fill.specs.declared.best.probe.Prober.{Prober}
 use Rattle.xw_fill.specs.declared.best.probe.Probe.{Probe}
 use Rattle.xw_fill.specs.declared.best.probe.Probe.TheVariants as probes
 use Rattle.xw_fill.specs.declared.best.climb.Climb.{Climb}
+use Rattle.xw_fill.specs.declared.named_lights.plan.Plan.{Plan}
 use Rattle.xw_feas.proofs.BoardLemmas.{length-lights}
-use Rattle.xw_fill.proofs.MarksLemmas.{IsTwin-turned, filled_twin}
+use Rattle.xw_feas.proofs.SnapshotLemmas.{IsTwin-turned}
+use Rattle.xw_fill.proofs.MarksLemmas.{filled_twin}
 use Rattle.xw_fill.proofs.LeastLemmas.{at_least-same, least_within}
 use Rattle.xw_fill.proofs.GradeLemmas.{none_up}
 use Rattle.xw_fill.proofs.Naming.{fill_same}
@@ -35,12 +38,20 @@ none_left named state bound formed is below entries fill =
 pub filled_at_twin : (named : ℕ → Bool) (before after : State) (grade : ℕ) → IsFilledAt named before after grade → IsTwin before after
 filled_at_twin named before after grade is = subst (IsTwin before) (sym is.holds) (filled_twin before is.entries)
 
+-- the same climb with a prober that has served one more probe
+pub probed : {E S : Type 0} (saved : S → State) (climb : Climb E S) (prober : Prober E S) (start : State) → IsClimbing saved climb start → IsProber saved prober start → prober.plan ≡ climb.prober.plan → IsClimbing saved (record climb { prober = prober }) start
+probed saved climb prober start is served same = record {
+  prober = served;
+  began = is.began;
+  best = is.best;
+  found = subst (λ (plan : Plan). IfSome climb.found (IsFilledAt (flags plan.named.items) start (saved climb.best))) (sym same) is.found;
+  bound = subst (λ (plan : Plan). IsBound (flags plan.named.items) start climb.bound) (sym same) is.bound;
+}
+
 -- a better bound
-pub bounded : {E S : Type 0} (saved : S → State) (climb : Climb E S) (grade : ℕ) (start : State) → IsClimbing saved climb start → grade ≤ best_grade → HasNoneAt (flags climb.plan.named.items) start grade → IsClimbing saved (record climb { bound = grade }) start
+pub bounded : {E S : Type 0} (saved : S → State) (climb : Climb E S) (grade : ℕ) (start : State) → IsClimbing saved climb start → grade ≤ best_grade → HasNoneAt (flags climb.prober.plan.named.items) start grade → IsClimbing saved (record climb { bound = grade }) start
 bounded saved climb grade start is within none = record {
-  plan = is.plan;
-  fresh = is.fresh;
-  least = is.least;
+  prober = is.prober;
   began = is.began;
   best = is.best;
   found = is.found;
@@ -48,26 +59,25 @@ bounded saved climb grade start is within none = record {
 }
 
 -- another fill
-pub found_more : {E S : Type 0} (saved : S → State) (climb : Climb E S) (start_now best_now : S) (grade : ℕ) (start filled : State) → IsClimbing saved climb start → IsFilledAt (flags climb.plan.named.items) start filled grade → saved start_now ≡ start → saved best_now ≡ filled
+pub found_more : {E S : Type 0} (saved : S → State) (climb : Climb E S) (start_now best_now : S) (grade : ℕ) (start filled : State) → IsClimbing saved climb start → IsFilledAt (flags climb.prober.plan.named.items) start filled grade → saved start_now ≡ start → saved best_now ≡ filled
     → IsClimbing saved (record climb { start = start_now; best = best_now; found = Some grade }) start
 found_more saved climb start_now best_now grade start filled is fill start_is best_is = record {
-  plan = is.plan;
-  fresh = is.fresh;
-  least = is.least;
+  prober = is.prober;
   began = start_is;
-  best = subst (λ s. IsTwin s start) (sym best_is) (IsTwin-turned start filled (filled_at_twin (flags climb.plan.named.items) start filled grade fill));
-  found = subst (λ s. IsFilledAt (flags climb.plan.named.items) start s grade) (sym best_is) fill;
+  best = subst (λ s. IsTwin s start) (sym best_is) (IsTwin-turned start filled (filled_at_twin (flags climb.prober.plan.named.items) start filled grade fill));
+  found = subst (λ s. IsFilledAt (flags climb.prober.plan.named.items) start s grade) (sym best_is) fill;
   bound = is.bound;
 }
 
 -- ---- what a step keeps
 
 -- a step that found nothing
-pub climbed_same : {E S : Type 0} (saved : S → State) (climb : Climb E S) (from to : Allowance) → from.made ≤ to.made → to.limit ≡ from.limit → HasClimbed saved climb climb from to
-climbed_same saved climb from to made limit = record {
-  plan = refl;
-  least = refl;
-  found = omega arith;
+pub climbed_same : {E S : Type 0} (saved : S → State) (climb : Climb E S) (prober : Prober E S) (from to : Allowance) → prober.plan ≡ climb.prober.plan → prober.least ≡ climb.prober.least → from.made ≤ to.made → to.limit ≡ from.limit
+    → HasClimbed saved climb (record climb { prober = prober }) from to
+climbed_same saved climb prober from to plan least made limit = record {
+  plan = plan;
+  least = least;
+  found = omega (arith, ap (grade_above climb.found) least);
   bound = omega arith;
   made = made;
   limit = limit;
@@ -87,12 +97,12 @@ climbed_bound saved climb grade from to below made limit = record {
 }
 
 -- a step that found a better fill
-pub climbed_found : {E S : Type 0} (saved : S → State) (before now : Climb E S) (grade : ℕ) (from to : Allowance) → now.plan ≡ before.plan → now.least ≡ before.least → now.bound ≡ before.bound → now.found ≡ Some grade → next_grade before ≤ grade
+pub climbed_found : {E S : Type 0} (saved : S → State) (before now : Climb E S) (grade : ℕ) (from to : Allowance) → now.prober ≡ before.prober → now.bound ≡ before.bound → now.found ≡ Some grade → next_grade before ≤ grade
     → from.made ≤ to.made → to.limit ≡ from.limit → (to.made ≡ from.made → saved now.best ≡ saved now.start) → HasClimbed saved before now from to
-climbed_found saved before now grade from to plan least bound found better made limit idle = record {
-  plan = plan;
-  least = least;
-  found = omega (arith, better, ap (λ f. grade_above f now.least) found);
+climbed_found {E} {S} saved before now grade from to prober bound found better made limit idle = record {
+  plan = ap (λ (p : Prober E S). p.plan) prober;
+  least = ap (λ (p : Prober E S). p.least) prober;
+  found = omega (arith, better, ap (λ f. grade_above f now.prober.least) found);
   bound = omega (arith, bound);
   made = made;
   limit = limit;
@@ -121,7 +131,7 @@ work_kept saved before now from to climbed = omega (arith, climbed.found, climbe
 pub work_done : {E S : Type 0} (saved : S → State) (before now : Climb E S) (from to : Allowance) (grade : ℕ) (probe : Probe) → HasClimbed saved before now from to → next_grade before ≤ grade → grade < before.bound → from.made < to.until → IsAtLeast grade probe → IsTaken grade before now to probe
     → work_left now to < work_left before from
 work_done saved before now from to grade (probes.Filled least) climbed new below share above taken =
-    omega (arith, climbed.made, climbed.limit, new, below, above.0, taken.1, ap (λ f. grade_above f now.least) taken.0)
+    omega (arith, climbed.made, climbed.limit, new, below, above.0, taken.1, ap (λ f. grade_above f now.prober.least) taken.0)
 work_done saved before now from to grade probes.NoFill climbed new below share above taken =
     omega (arith, climbed.made, climbed.limit, climbed.found, new, below, taken.1)
 work_done saved before now from to grade probes.Limit climbed new below share above taken =

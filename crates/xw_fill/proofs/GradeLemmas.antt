@@ -16,14 +16,19 @@ use Rattle.xw_fill.specs.declared.search.Filling.{Filling}
 use Rattle.xw_fill.specs.declared.search.Filling.TheVariants.{Filled, NoFill, Limit}
 use Rattle.xw_fill.specs.Inner.Progress.{entries_of, HasEntered, is_target, is_watched, AreAlive, IsPlan}
 use Rattle.xw_fill.specs.declared.named_lights.plan.Plan.{Plan}
-use Rattle.xw_fill.specs.Inner.Climbing.{DiffersInLeast, IsDeadAt, AreAliveAt, AreActiveAt, AreFresh}
+use Rattle.xw_fill.specs.declared.named_lights.frame.Frame.{Frame}
+use Rattle.xw_fill.specs.declared.best.probe.Prober.{Prober}
+use Rattle.xw_fill.specs.declared.stack.Stack.{Stack}
+use Rattle.xw_fill.specs.Inner.Stack.{IsReady}
+use Rattle.xw_fill.specs.Inner.Climbing.{DiffersInLeast, IsDeadAt, AreAliveAt, AreActiveAt, AreFresh, IsProber}
 use Rattle.xw_fill.proofs.BelowLemmas.{Among, Among-contained, Contains-among}
 use Rattle.xw_fill.proofs.FeasibleWordsLemmas.{feasible-gives, feasible-from, is_feasible_word-gives}
 use Rattle.xw_fill.proofs.SearchLemmas.{open_base}
 use Rattle.xw_fill.proofs.FillLemmas.{active_base, entered_base, has_words}
 use Rattle.xw_fill.proofs.NamedFills.{entered_only, in_board, has_word, any_at, entered_start, watched_changes}
 use Rattle.xw_fill.proofs.LetterSearch.{refuted_has_none, position_at}
-use Rattle.xw_fill.proofs.LeastLemmas.{with_least-again, active_down, at_least-again, at_least-same}
+use Rattle.xw_feas.proofs.SnapshotLemmas.{with_least-again}
+use Rattle.xw_fill.proofs.LeastLemmas.{active_down, at_least-again, at_least-same}
 
 -- the position with the words of a grade and better
 abbrev pub at_grade : Position → ℕ → Position
@@ -182,6 +187,19 @@ module _ (named fresh watched : List Bool) (before now : State) (grade : ℕ) (i
   }
 
 -- ---- a search with the words of a grade and better
+
+-- ---- the prober
+
+-- a prober whose stack has served one more search
+pub served : {E S : Type 0} (saved : S → State) (prober : Prober E S) (stack : Stack E Frame S) (start : State) → IsProber saved prober start → IsReady saved stack start → IsProber saved (record prober { stack = stack }) start
+served saved prober stack start is ready = record { plan = is.plan; fresh = is.fresh; least = is.least; ready = ready }
+
+-- the same facts about an equal prober
+pub same_prober : {E S : Type 0} (saved : S → State) (start : State) {one other : Prober E S} → one ≡ other → IsProber saved other start → IsProber saved one start
+same_prober {E} {S} saved start same is = subst (λ (prober : Prober E S). IsProber saved prober start) (sym same) is
+
+pub same_least : {E S : Type 0} {one other : Prober E S} → one ≡ other → one.least ≡ other.least
+same_least {E} {S} same = ap (λ (prober : Prober E S). prober.least) same
 
 -- the plan for a state is one with another least grade
 pub plan_at : (state : State) (grade : ℕ) (plan : Plan) → IsPlan (position_of state) plan → IsPlan (position_of (at_least state grade)) plan

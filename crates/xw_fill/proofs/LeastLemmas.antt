@@ -5,12 +5,12 @@ use Rattle.std.specs.Str.{bytes_eq}
 use Rattle.std.proofs.lemmas.Bool.{cases_lt, and_parts, and_from, le-leb, leb-true, false≢true}
 use Rattle.std.proofs.lemmas.List.{get_or-map, length-map}
 use Rattle.std.proofs.lemmas.List.Quantifiers.{position-Some}
-use Rattle.std.proofs.lemmas.Simd.{map-map}
 use Rattle.std.proofs.lemmas.Slice.Eq.{bytes_eq-Decides}
 use Rattle.xw_words.specs.Dictionary.{Dictionary, Entry, no_entry, row, entry_at, index_of_word, best_grade, capped, is_left, AreLeft, limited, all_limited, with_least}
 use Rattle.xw_words.proofs.DictionaryLemmas.{length-limited, row-with_least}
 use Rattle.xw_feas.specs.State.{State}
 use Rattle.xw_feas.specs.WellFormed.{IsWellFormed}
+use Rattle.xw_feas.proofs.SnapshotLemmas.{with_least-again, with_least-same}
 use Rattle.xw_fill.specs.Position.{position_of}
 use Rattle.xw_fill.specs.Search.{light_count, is_entered, spelling}
 use Rattle.xw_fill.specs.Fill.{IsActive}
@@ -18,37 +18,6 @@ use Rattle.xw_fill.specs.Best.{at_least}
 use Rattle.xw_fill.specs.Inner.Climbing.{DiffersInLeast, IsActiveAt}
 use Rattle.xw_fill.proofs.Shaped.{HasDistinctWords}
 use Rattle.xw_fill.proofs.WordsLemmas.{no_index}
-
--- ---- dictionaries
-
--- the least grade that is chosen last counts
-limited-again : (grade other : ℕ) (entries : List Entry) → all_limited grade (all_limited other entries) ≡ all_limited grade entries
-limited-again grade other entries = map-map (limited grade) (limited other) entries
-
-rows-again : (grade other : ℕ) (rows : List (List Entry)) → map (all_limited grade) (map (all_limited other) rows) ≡ map (all_limited grade) rows
-rows-again grade other [] = refl
-rows-again grade other (entries ∷ rows) = ap (λ first. first ∷ map (all_limited grade) (map (all_limited other) rows)) (limited-again grade other entries) ∙ ap (λ rest. all_limited grade entries ∷ rest) (rows-again grade other rows)
-
-pub with_least-again : (words : Dictionary) (grade other : ℕ) → with_least grade (with_least other words) ≡ with_least grade words
-with_least-again words grade other = ap (λ rows. record { rows = rows; least = capped grade }) (rows-again (capped grade) (capped other) words.rows)
-
--- the least grade chosen again
-limited-same : (least : ℕ) (entries : List Entry) → AreLeft least entries → all_limited least entries ≡ entries
-limited-same least [] are = refl
-limited-same least (entry ∷ entries) are =
-    let here : limited least entry ≡ entry = ap (λ active. record { word = entry.word; active = active; struck = entry.struck; grade = entry.grade; regraded = entry.regraded }) (sym (are 0 no_entry (omega arith))) in
-    ap (λ first. first ∷ all_limited least entries) here ∙ ap (λ rest. entry ∷ rest) (limited-same least entries (λ k d below. are (suc k) d (omega (arith, below))))
-
-rows-same : (least : ℕ) (rows : List (List Entry)) → ((len : ℕ) → AreLeft least (get_or rows len [])) → map (all_limited least) rows ≡ rows
-rows-same least [] are = refl
-rows-same least (entries ∷ rows) are = ap (λ first. first ∷ map (all_limited least) rows) (limited-same least entries (are 0)) ∙ ap (λ rest. entries ∷ rest) (rows-same least rows (λ len. are (suc len)))
-
-pub with_least-same : (state : State) → IsWellFormed state → with_least state.words.least state.words ≡ state.words
-with_least-same state formed =
-    let within = formed.dictionary.least in
-    let is : capped state.words.least ≡ state.words.least = omega (arith, within) in
-    ap (λ least. record { rows = map (all_limited least) state.words.rows; least = least }) is
-    ∙ ap (λ rows. record { rows = rows; least = state.words.least }) (rows-same state.words.least state.words.rows formed.dictionary.left)
 
 -- the least grade is a grade
 pub least_within : (state : State) → IsWellFormed state → state.words.least ≤ best_grade

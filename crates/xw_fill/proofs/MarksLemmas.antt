@@ -1,33 +1,22 @@
--- Twins, which are states that differ only in what editing letters changes, and the states that marks hold.
+-- States that differ in entries, and the states that marks hold.
 use Rattle.std.proofs.Common.{◌≡◌, ℕ, suc, ◌+◌, ◌-◌, ◌<◌, ◌≤◌, List, [], ◌∷◌, ◌++◌, map, take, drop, length, get_or, set, Option, refl, sym, ◌∙◌, ap, subst, arith}
 use Rattle.std.specs.Prelude.{All}
-use Rattle.std.proofs.lemmas.List.{drop-append-le, length_push, length-map, length-take-le, map_more, map_push, take_more_set, take-map, take-set, take-take}
-use Rattle.std.proofs.lemmas.List.Elements.{All-append, All-drop, All-set, All-take}
+use Rattle.std.proofs.Math.Seq.{get_or-append_seam}
+use Rattle.std.proofs.lemmas.List.{get_or_append_left, drop-append-le, length_push, length-map, length-take-le, map_more, map_push, take_more_set, take-map, take-set, take-take}
+use Rattle.std.proofs.lemmas.List.Elements.{All-append, All-drop, All-take}
 use Rattle.xw_grid.specs.declared.cell.Square.{Square}
 use Rattle.xw_grid.specs.Grid.{is_open}
 use Rattle.xw_grid.proofs.ChangeLemmas.{same_opens}
 use Rattle.xw_feas.specs.Board.{board_of}
 use Rattle.xw_feas.specs.State.{State}
-use Rattle.xw_feas.specs.Snapshot.{IsTwin}
-use Rattle.xw_feas.proofs.ShapeLemmas.{SameShape-then}
+use Rattle.xw_feas.specs.Snapshot.{IsTwin, CanSave}
+use Rattle.xw_feas.proofs.SnapshotLemmas.{IsTwin-then, CanSave-twin, CanSave-then}
 use Rattle.xw_fill.specs.Position.{squares_with, filled_in, DiffersInEntries}
-use Rattle.xw_fill.specs.Marks.{AreTwins, but_last, latest}
+use Rattle.xw_fill.specs.Marks.{held_of, but_last, latest, CanMark, AreTwins}
+use Rattle.xw_fill.specs.Inner.Stack.{IsReady}
 use Rattle.xw_fill.specs.declared.marks.Marks.{Marks}
+use Rattle.xw_fill.specs.declared.stack.Stack.{Stack}
 use Rattle.xw_fill.proofs.StateLemmas.{filled_open}
-
--- ---- twins
-
-pub IsTwin-itself : (state : State) → IsTwin state state
-IsTwin-itself state = record { shape = record { lights = refl; opens = λ cell. refl; cells = refl }; words = refl }
-
-pub IsTwin-then : (first second third : State) → IsTwin first second → IsTwin second third → IsTwin first third
-IsTwin-then first second third a b = record { shape = SameShape-then first.grid second.grid third.grid a.shape b.shape; words = b.words ∙ a.words }
-
-pub IsTwin-turned : (first second : State) → IsTwin first second → IsTwin second first
-IsTwin-turned first second twin = record {
-  shape = record { lights = sym twin.shape.lights; opens = λ cell. sym (twin.shape.opens cell); cells = sym twin.shape.cells };
-  words = sym twin.words;
-}
 
 -- ---- states that differ in entries
 
@@ -49,28 +38,50 @@ filled_twin state entries = record {
 pub IsTwin-entries : (before now : State) → DiffersInEntries before now → IsTwin before now
 IsTwin-entries before now differs = subst (IsTwin before) (sym differs) (filled_twin before (board_of now.grid).entries)
 
+-- ---- lists
+
+-- what holds of the element at an index
+pub at_index : {X : Type 0} (P : X → Type 0) (xs : List X) (at : ℕ) (x : X) → x ≡ get_or xs at x → at < length xs → All P xs → P x
+at_index P xs at x is below all = subst P (sym is) (all at x below)
+
+-- after the first element moved to the end
+pub All-turned : {X : Type 0} (P : X → Type 0) (xs : List X) → All P xs → All P (drop 1 xs ++ take 1 xs)
+All-turned P xs all = All-append P (drop 1 xs) (take 1 xs) (All-drop P 1 xs all) (All-take P 1 xs all)
+
+-- without the last element, and the last one
+pub All-pushed : {X : Type 0} (P : X → Type 0) (xs : List X) (x : X) → All P (xs ++ x ∷ []) → All P xs × P x
+All-pushed P xs x all = (
+  λ k d below. subst P (get_or_append_left xs (x ∷ []) d k below) (all k d (omega (arith, below, length_push xs x))),
+  subst P (get_or-append_seam xs x [] x) (all (length xs) x (omega (arith, length_push xs x))),
+)
+
 -- ---- the snapshots of marks
 
--- snapshots that are twins of a state are twins of its twins
-pub all_twins : {S : Type 0} (saved : S → State) (snapshots : List S) (before now : State) → IsTwin before now → All (λ snapshot. IsTwin (saved snapshot) before) snapshots → All (λ snapshot. IsTwin (saved snapshot) now) snapshots
-all_twins saved snapshots before now twin all = λ k d below. IsTwin-then (saved (get_or snapshots k d)) before now (all k d below) twin
+-- what can save a state can save what a snapshot of it can
+pub CanMark-then : {E S : Type 0} (saved : S → State) (marks : Marks E S) (before now : State) → CanSave before now → CanMark saved marks before → CanMark saved marks now
+CanMark-then saved marks before now can all = λ k d below. CanSave-then (saved (get_or marks.snapshots.items k d)) before now (all k d below) can
 
 pub AreTwins-then : {E S : Type 0} (saved : S → State) (marks : Marks E S) (before now : State) → IsTwin before now → AreTwins saved marks before → AreTwins saved marks now
-AreTwins-then saved marks before now twin twins = record { within = twins.within; twins = all_twins saved marks.snapshots.items before now twin twins.twins }
+AreTwins-then saved marks before now twin twins = record {
+  within = twins.within;
+  can_mark = CanMark-then saved marks before now (CanSave-twin before now twin) twins.can_mark;
+  twins = λ k d below. IsTwin-then (get_or (held_of saved marks) k d) before now (twins.twins k d below) twin;
+}
 
--- the snapshot at an index is a twin
-pub twin_at : {S : Type 0} (saved : S → State) (snapshots : List S) (at : ℕ) (snapshot : S) (state : State) → snapshot ≡ get_or snapshots at snapshot → at < length snapshots → All (λ s. IsTwin (saved s) state) snapshots → IsTwin (saved snapshot) state
-twin_at saved snapshots at snapshot state is below all = subst (λ s. IsTwin (saved s) state) (sym is) (all at snapshot below)
+-- a stack that is ready for a state is ready for what a snapshot of it can save
+pub ready_then : {E S M : Type 0} (saved : S → State) (stack : Stack E M S) (before now : State) → CanSave before now → IsReady saved stack before → IsReady saved stack now
+ready_then saved stack before now can ready = record {
+  root = CanSave-then (saved stack.root) before now ready.root can;
+  marks = CanMark-then saved stack.marks before now can ready.marks;
+}
 
--- after the first snapshot moved to the end
-pub all_twins-turned : {S : Type 0} (saved : S → State) (snapshots : List S) (state : State) → All (λ s. IsTwin (saved s) state) snapshots → All (λ s. IsTwin (saved s) state) (drop 1 snapshots ++ take 1 snapshots)
-all_twins-turned {S} saved snapshots state all =
-    let is_twin = λ (snapshot : S). IsTwin (saved snapshot) state in
-    All-append is_twin (drop 1 snapshots) (take 1 snapshots) (All-drop is_twin 1 snapshots all) (All-take is_twin 1 snapshots all)
-
--- after the snapshot at an index saved a twin
-pub all_twins-set : {S : Type 0} (saved : S → State) (snapshots : List S) (at : ℕ) (snapshot : S) (state : State) → IsTwin (saved snapshot) state → All (λ s. IsTwin (saved s) state) snapshots → All (λ s. IsTwin (saved s) state) (set snapshots at snapshot)
-all_twins-set saved snapshots at snapshot state twin all = All-set (λ s. IsTwin (saved s) state) snapshots at snapshot twin all
+-- the last mark
+pub last_mark : {S : Type 0} (saved : S → State) (snapshots : List S) (held : ℕ) (found : S) → 0 < held → held ≤ length snapshots → found ≡ get_or snapshots (held - 1) found → map saved (take held snapshots) ≡ map saved (take (held - 1) snapshots) ++ saved found ∷ []
+last_mark saved snapshots held found some within is =
+    let one : held ≡ held - 1 + 1 = omega arith in
+    ap (λ n. map saved (take n snapshots)) one
+    ∙ map_more saved snapshots (held - 1) found (omega arith)
+    ∙ ap (λ last. map saved (take (held - 1) snapshots) ++ last ∷ []) (ap saved (sym is))
 
 -- the states of fewer snapshots
 pub held_fewer : {S : Type 0} (saved : S → State) (snapshots : List S) (held : ℕ) → held ≤ length snapshots → map saved (take (held - 1) snapshots) ≡ but_last (map saved (take held snapshots))
@@ -97,11 +108,9 @@ held_more saved snapshots held room snapshot before state below some is held_is 
 -- the states after the last held snapshot took another one
 pub held_back : {S : Type 0} (saved : S → State) (snapshots : List S) (held : ℕ) (found snapshot : S) (state : State) → 0 < held → held ≤ length snapshots → found ≡ get_or snapshots (held - 1) found → state ≡ saved found → map saved (take held snapshots) ≡ map saved (take (held - 1) (set snapshots (held - 1) snapshot)) ++ state ∷ []
 held_back saved snapshots held found snapshot state some within is state_is =
-    let one : held ≡ held - 1 + 1 = omega arith in
-    ap (λ n. map saved (take n snapshots)) one
-    ∙ map_more saved snapshots (held - 1) found (omega arith)
-    ∙ ap (λ states. map saved states ++ saved (get_or snapshots (held - 1) found) ∷ []) (sym (take-set snapshots (held - 1) snapshot))
-    ∙ ap (λ last. map saved (take (held - 1) (set snapshots (held - 1) snapshot)) ++ last ∷ []) (ap saved (sym is) ∙ sym state_is)
+    last_mark saved snapshots held found some within is
+    ∙ ap (λ states. map saved states ++ saved found ∷ []) (sym (take-set snapshots (held - 1) snapshot))
+    ∙ ap (λ last. map saved (take (held - 1) (set snapshots (held - 1) snapshot)) ++ last ∷ []) (sym state_is)
 
 -- the states after the first free snapshot became a mark
 pub kept_free : {S : Type 0} (saved : S → State) (snapshots : List S) (held : ℕ) (state : State) → held < length snapshots → ((other : S) → saved (get_or snapshots held other) ≡ state) → map saved (take (held + 1) snapshots) ≡ map saved (take held snapshots) ++ state ∷ []

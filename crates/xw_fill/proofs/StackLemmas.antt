@@ -4,10 +4,11 @@ use Rattle.std.specs.Option.{option_to_list}
 use Rattle.std.specs.Prelude.{Option, Some, None, IfNone, Result, Ok, Err, is_ok, OnOk}
 use Rattle.std.proofs.lemmas.Bool.{both_ways, false≢true}
 use Rattle.std.proofs.lemmas.List.{append_assoc, append-nil, length-append, nil_from_length, same_from_push, take_all, take-append-drop, take-append-le}
+use Rattle.xw_feas.specs.Snapshot.{IsTwin}
 use Rattle.xw_feas.specs.State.{State}
-use Rattle.xw_fill.specs.Marks.{held_of, latest}
+use Rattle.xw_fill.specs.Marks.{held_of, latest, AreTwins}
 use Rattle.xw_fill.specs.Position.{DiffersInEntries}
-use Rattle.xw_fill.specs.Inner.Stack.{first_or, before_choices, AreForced, LeadThrough, IsReady, IsTakenBack, StandsAt}
+use Rattle.xw_fill.specs.Inner.Stack.{first_or, before_choices, AreForced, LeadThrough, IsTakenBack, StandsAt}
 use Rattle.xw_fill.proofs.StateLemmas.{DiffersInEntries-itself, DiffersInEntries-back, DiffersInEntries-then}
 use Rattle.xw_fill.specs.declared.stack.Stack.{Stack}
 
@@ -200,13 +201,14 @@ marked_some choices older held held_left mark are held_are none =
     omega (arith, ap length (sym none ∙ are), length-append older held, ap length held_are, length-append held_left (mark ∷ []))
 
 -- an empty stack stands anywhere
-pub stands_empty : {E M S : Type 0} (saved : S → State) (is_placed : M → State → State → Type 0) (is_forced : M → Bool) (stack : Stack E M S) (now : State) → stack.placements.items ≡ [] → held_of saved stack.marks ≡ [] → stack.is_prepared ≡ false → IsReady saved stack now → StandsAt saved is_placed is_forced stack now
-stands_empty saved is_placed is_forced stack now empty none unprepared ready = record {
+pub stands_empty : {E M S : Type 0} (saved : S → State) (is_placed : M → State → State → Type 0) (is_forced : M → Bool) (stack : Stack E M S) (now : State) → stack.placements.items ≡ [] → held_of saved stack.marks ≡ [] → stack.is_prepared ≡ false → IsTwin (saved stack.root) now → AreTwins saved stack.marks now → StandsAt saved is_placed is_forced stack now
+stands_empty saved is_placed is_forced stack now empty none unprepared root marks = record {
   states = [];
   through = subst (λ items. LeadThrough is_placed items [] now) (sym empty) tt;
   older = [];
   held = choices_none is_forced stack.placements.items ∙ sym none;
-  ready = ready;
+  root = root;
+  marks = marks;
   prepared = λ is. absurd (both_ways stack.is_prepared unprepared is);
 }
 

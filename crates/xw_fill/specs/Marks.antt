@@ -1,7 +1,7 @@
 -- What the marks of an engine hold.
 use Rattle.std.specs.Prelude.{◌≡◌, ℕ, ◌-◌, ◌<◌, ◌≤◌, List, All, map, take, drop, length, slice_index_or}
 use Rattle.xw_feas.specs.State.{State}
-use Rattle.xw_feas.specs.Snapshot.{IsTwin}
+use Rattle.xw_feas.specs.Snapshot.{IsTwin, CanSave}
 use Rattle.xw_fill.specs.declared.marks.Marks.{Marks}
 
 -- the saved states, the oldest first
@@ -20,10 +20,15 @@ latest room states = drop (length states - room) states
 abbrev pub but_last : List State → List State
 but_last states = take (length states - 1) states
 
--- each snapshot can save the state and be exchanged with it
+-- each snapshot can save the state
+abbrev pub CanMark : {E S : Type 0} → (S → State) → Marks E S → State → Type 0
+CanMark saved marks state = All (λ snapshot. CanSave (saved snapshot) state) marks.snapshots.items
+
+-- each snapshot can save the state, and each mark can be exchanged with it
 pub record AreTwins {E S : Type 0} (saved : S → State) (marks : Marks E S) (state : State) : Type 0 where
   pub within : marks.held ≤ room_of marks
-  pub twins : All (λ snapshot. IsTwin (saved snapshot) state) marks.snapshots.items
+  pub can_mark : CanMark saved marks state
+  pub twins : All (λ mark. IsTwin mark state) (held_of saved marks)
 
 -- the first free snapshot holds the state
 pub record HoldsFree {E S : Type 0} (saved : S → State) (marks : Marks E S) (state : State) : Type 0 where

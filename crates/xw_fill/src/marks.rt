@@ -1,7 +1,7 @@
 //! Saved states of an engine, to which a search returns.
 ghost use Rattle.std.specs.Prelude.{◌≡◌, ◌-◌, ◌<◌, ◌≤◌, [], ◌∷◌, ◌++◌, true, false, IfOk};
 ghost use Rattle.xw_feas.specs.State.{State};
-ghost use Rattle.xw_fill.specs.Marks.{held_of, room_of, latest, but_last, AreTwins, HoldsFree};
+ghost use Rattle.xw_fill.specs.Marks.{held_of, room_of, latest, but_last, CanMark, AreTwins, HoldsFree};
 
 use std::alloc::{AllocError, Global};
 use xw_feas::searchable::Searchable;
@@ -36,7 +36,7 @@ impl<E: Searchable> Marks<E> {
         ensures held { held_of E.saved self.new ≡ latest (room_of self.old - 1) (held_of E.saved self.old) }
         ensures room { room_of self.new ≡ room_of self.old }
         ensures free { self.new.held < room_of self.old }
-        ensures twins { (state : State) → AreTwins E.saved self.old state → AreTwins E.saved self.new state }
+        ensures can_mark { (state : State) → CanMark E.saved self.old state → CanMark E.saved self.new state }
     {
         if self.held == self.snapshots.len() {
             self.snapshots.rotate_left(1);
@@ -90,7 +90,7 @@ impl<E: Searchable> Marks<E> {
         requires { self.old.held < room_of self.old }
         ensures held { (state : State) → HoldsFree E.saved self.old state → held_of E.saved self.new ≡ held_of E.saved self.old ++ state ∷ [] }
         ensures room { room_of self.new ≡ room_of self.old }
-        ensures twins { (state : State) → AreTwins E.saved self.old state → AreTwins E.saved self.new state }
+        ensures twins { (state : State) → HoldsFree E.saved self.old state → AreTwins E.saved self.old state → AreTwins E.saved self.new state }
     {
         self.held = self.held + 1;
     }
@@ -139,11 +139,11 @@ impl<E: Searchable> Marks<E> {
         self.held = self.held.saturating_sub(1);
     }
 
-    /// Forgets all marks.
+    /// Forgets all marks. The next ones may be of states with another least grade.
     pub fn clear(&mut self)
         ensures held { held_of E.saved self.new ≡ [] }
         ensures room { room_of self.new ≡ room_of self.old }
-        ensures twins { (state : State) → AreTwins E.saved self.old state → AreTwins E.saved self.new state }
+        ensures twins { (state : State) → CanMark E.saved self.old state → AreTwins E.saved self.new state }
     {
         self.held = 0;
     }

@@ -1,11 +1,12 @@
 //! Fills the named lights letter by letter, first where the search failed before.
 pub(crate) mod checks;
 mod choice;
-mod frame;
+pub(crate) mod frame;
 pub(crate) mod plan;
 pub(crate) mod run;
 
 ghost use Rattle.std.specs.Prelude.{◌≡◌, ◌≤◌, ◌-◌, ℕ, length, replicate, true, false, IfOk, IfErr, OnOk, OnErr, ◌<◌};
+ghost use Rattle.std.specs.Vec.{vec_capacity};
 ghost use Rattle.xw_fill.specs.Allowance.{IsCounted};
 ghost use Rattle.xw_fill.specs.Filling.{IsFilling};
 ghost use Rattle.xw_fill.specs.OfState.{light_count};
@@ -75,6 +76,7 @@ fn run_again<E: Searchable>(
     requires plan { IsPlan (E.state engine.old) plan.now }
     requires open { IsOpen (flags plan.now.named.items) (E.state engine.old) (entries_of (E.state engine.old)) }
     requires ready { IsReady E.saved stack.old (E.state engine.old) }
+    ensures ready { IsReady E.saved stack.new (E.state engine.old) }
     ensures counted { IsCounted allowance.old allowance.new (E.state engine.old) (E.state engine.new) }
     ensures until { allowance.new.until ≡ allowance.old.until }
     ensures limit { result ≡ Ok Filling.Limit → allowance.new.made ≡ allowance.new.until }
@@ -97,15 +99,31 @@ fn run_again<E: Searchable>(
     }
 }
 
-/// Fills the lights of a plan by letters. The state changes only for `Filled`.
+/// A stack for searches that fill the lights of a plan.
+pub(crate) fn stack_for<E: Searchable>(
+    alloc: Global,
+    engine: &E,
+    plan: &Plan,
+) -> Result<Stack<E, Frame>, AllocError>
+    ensures ready { IfOk result (λ stack. IsReady E.saved stack (E.state engine.now)) }
+    ensures room { IfOk result (λ stack. length plan.now.targets.items ≤ vec_capacity stack.placements) }
+{
+    let cells = plan.targets.len();
+    Stack::new(alloc, engine, cells, MARKS.min(cells))
+}
+
+/// Fills the lights of a plan by letters. The state changes only for `Filled`. The stack may have served other searches.
 pub(crate) fn fill_planned<E: Searchable>(
     alloc: Global,
     engine: &mut E,
+    stack: &mut Stack<E, Frame>,
     plan: &Plan,
     effort: &mut Effort,
     allowance: &mut Allowance,
 ) -> Result<Filling, AllocError>
     requires plan { IsPlan (E.state engine.old) plan.now }
+    requires ready { IsReady E.saved stack.old (E.state engine.old) }
+    ensures ready { IsReady E.saved stack.new (E.state engine.old) }
     ensures counted { IsCounted allowance.old allowance.new (E.state engine.old) (E.state engine.new) }
     ensures until { allowance.new.until ≡ allowance.old.until }
     ensures limit { result ≡ Ok Filling.Limit → allowance.new.made ≡ allowance.new.until }
@@ -120,9 +138,7 @@ pub(crate) fn fill_planned<E: Searchable>(
     if repeats {
         return Ok(Filling::NoFill);
     }
-    let cells = plan.targets.len();
-    let mut stack = Stack::new(alloc, engine, cells, MARKS.min(cells))?;
-    run_again(engine, &mut stack, plan, effort, allowance)
+    run_again(engine, stack, plan, effort, allowance)
 }
 
 /// Fills the lights with a flag.
@@ -139,7 +155,8 @@ fn fill_flagged<E: Searchable>(
     ensures unchanged { OnErr result (E.state engine.new ≡ E.state engine.old) }
 {
     let plan = Plan::of(alloc, engine, named)?;
-    fill_planned(alloc, engine, &plan, effort, allowance)
+    let mut stack = stack_for(alloc, engine, &plan)?;
+    fill_planned(alloc, engine, &mut stack, &plan, effort, allowance)
 }
 
 /// Sets the flag of each named light. Returns `NoLight` if one of the names belongs to no light.

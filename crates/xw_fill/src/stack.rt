@@ -2,10 +2,11 @@
 ghost use Rattle.std.specs.Prelude.{◌≡◌, ◌<◌, ◌≤◌, [], ◌∷◌, ◌++◌, length, true, false, is_ok, IfOk, IfSome, IfNone, OnOk, OnErr};
 ghost use Rattle.std.specs.Option.{option_to_list};
 ghost use Rattle.std.specs.Vec.{vec_capacity};
+ghost use Rattle.xw_feas.specs.Snapshot.{IsTwin};
 ghost use Rattle.xw_feas.specs.State.{State};
 ghost use Rattle.xw_fill.specs.Position.{DiffersInEntries};
 ghost use Rattle.xw_fill.specs.Inner.Stack.{start_of, AreForced, IsReady, IsTakenBack, StandsAt, HasTried};
-ghost use Rattle.xw_fill.specs.Marks.{held_of, AreTwins, HoldsFree};
+ghost use Rattle.xw_fill.specs.Marks.{held_of, CanMark, AreTwins, HoldsFree};
 ghost use Rattle.xw_fill.specs.NamedFill.{flags};
 
 use crate::marks::Marks;
@@ -15,7 +16,8 @@ use xw_feas::feasible::Feasible;
 use xw_feas::searchable::Searchable;
 
 /// The placements of a search in order, with a snapshot of the state where it began, and marks of the states before
-/// the last placements that were not forced. The stack goes back by a mark or, if that is forgotten, by an edit.
+/// the last placements that were not forced. The stack goes back by a mark or, if that is forgotten, by an edit. One
+/// stack serves many searches, at any least grade: `begin` keeps the snapshots and forgets what they hold.
 #[derive(Drop)]
 pub struct Stack<E: Searchable, M: Placement> {
     root: E::Snapshot,
@@ -229,7 +231,8 @@ impl<E: Searchable, M: Placement> Stack<E, M> {
 
     /// Returns to the state where the search began. Begin the next search by `begin`.
     pub fn reset(&mut self, engine: &mut E)
-        requires ready { IsReady E.saved self.old (E.state engine.old) }
+        requires twin { IsTwin (start_of E.saved self.old) (E.state engine.old) }
+        requires marks { CanMark E.saved self.old.marks (E.state engine.old) }
         ensures back { E.state engine.new ≡ start_of E.saved self.old }
         ensures ready { IsReady E.saved self.new (E.state engine.new) }
     {

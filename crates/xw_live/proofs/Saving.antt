@@ -9,10 +9,11 @@ use Rattle.xw_grid.specs.Grid.{Grid}
 use Rattle.xw_grid.specs.Light.{lights_of}
 use Rattle.xw_feas.specs.Board.{board_of}
 use Rattle.xw_feas.specs.Queries.{tally_of}
-use Rattle.xw_feas.specs.Snapshot.{IsTwin}
+use Rattle.xw_feas.specs.Snapshot.{CanSave}
 use Rattle.xw_feas.specs.State.{State}
 use Rattle.xw_feas.proofs.AnswersLemmas.{rows_at}
 use Rattle.xw_feas.proofs.BoardLemmas.{length-lights}
+use Rattle.xw_feas.proofs.SnapshotLemmas.{saved_counts}
 use Rattle.xw_net.specs.declared.net.Net.{Net}
 use Rattle.xw_net.specs.Copy.{IsReusable, CanCopy, IsCopy}
 use Rattle.xw_net.specs.Net.{flags_of, sets_of, known_counts}
@@ -35,21 +36,21 @@ pub kept_moved : {grid other : Grid} {net kept_net : Net} {words : Dictionary} �
 kept_moved {grid} {other} {net} {kept_net} {words} same same_net kept =
     subst (λ (grid : Grid). IsKept (record { grid = grid; words = words }) kept_net) (sym same) (subst (λ (net : Net). IsKept (record { grid = grid; words = words }) net) (sym same_net) kept)
 
-module _ (saved state : State) (twin : IsTwin saved state) (net kept_net : Net) (kept : IsKept state net) (saved_kept : IsKept saved kept_net) where
+module _ (saved state : State) (can : CanSave saved state) (net kept_net : Net) (kept : IsKept state net) (saved_kept : IsKept saved kept_net) where
   -- a net can be copied into one for a state with the same shape
   pub can_copy : (lights : List Light) → lights ≡ lights_of state.grid → CanCopy lights net kept_net
   can_copy lights are = record {
     counts = known_counts state.words;
     cells = length state.grid.squares;
     from = subst (λ ls. IsReusable ls (known_counts state.words) (length state.grid.squares) net) (sym are) (settled_reusable state net kept.settled);
-    to = subst (λ ls. IsReusable ls (known_counts state.words) (length state.grid.squares) kept_net) (sym (are ∙ twin.shape.lights))
-        (subst (λ (words : Dictionary). IsReusable (lights_of saved.grid) (known_counts words) (length state.grid.squares) kept_net) (sym twin.words)
-        (subst (λ cells. IsReusable (lights_of saved.grid) (known_counts saved.words) cells kept_net) (sym twin.shape.cells) (settled_reusable saved kept_net saved_kept.settled)));
+    to = subst (λ ls. IsReusable ls (known_counts state.words) (length state.grid.squares) kept_net) (sym (are ∙ can.shape.lights))
+        (subst (λ counts. IsReusable (lights_of saved.grid) counts (length state.grid.squares) kept_net) (λ i len. sym (saved_counts saved state can len) i)
+        (subst (λ cells. IsReusable (lights_of saved.grid) (known_counts saved.words) cells kept_net) (sym can.shape.cells) (settled_reusable saved kept_net saved_kept.settled)));
   }
 
   -- both nets have as many cells
   pub same_sets : length (sets_of net) ≡ length (sets_of kept_net)
-  same_sets = kept_cells state net kept ∙ twin.shape.cells ∙ sym (kept_cells saved kept_net saved_kept)
+  same_sets = kept_cells state net kept ∙ can.shape.cells ∙ sym (kept_cells saved kept_net saved_kept)
 
 -- the tally of a net is that of its answers
 pub tally_is : (state : State) (net : Net) (light position letter : ℕ) → light < length (lights_of state.grid) → net_tally state net light position letter ≡ tally_of (net_answers state net) light position letter

@@ -1,4 +1,5 @@
 //! Saved states of the engine, and the number of its words by letter.
+ghost use Rattle.std.specs.Prelude.{◌≡◌};
 ghost use Rattle.xw_live.specs.Engine.{IsKept, IsKept-prop};
 
 use crate::live::Live;
@@ -15,14 +16,16 @@ use xw_net::change::Change;
 use xw_net::net::Net;
 use xw_words::bank::Bank;
 
-/// A saved grid with its net. `bank` takes no memory: it tells the prover for which dictionary the
-/// net is settled.
+/// A saved grid with its net, and the least grade of an active word. `bank` takes no memory: it tells the prover for
+/// which dictionary the net is settled.
 #[derive(Drop)]
 pub struct Saved {
     pub(crate) grid: Grid,
     pub(crate) net: Net,
+    pub(crate) least: u8,
     pub(crate) bank: Snapshot<Bank>,
     ghost kept: { IsKept (record { grid = grid; words = bank.value.words }) net } by { IsKept-prop (record { grid = grid; words = bank.value.words }) net },
+    ghost same_least: { least ≡ bank.value.words.least },
 }
 
 /// Whether an edit enters one letter. A search by letters fills the lights that die first early, so the order of
@@ -32,12 +35,39 @@ fn is_letter(edit: &EntryEdit<'_>) -> bool {
 }
 
 impl Live {
-    ghost use Rattle.std.specs.Prelude.{◌≡◌, ◌≤◌, OnErr};
+    ghost use Rattle.std.specs.Prelude.{◌≡◌, ◌≤◌, true, OnErr};
+    ghost use Rattle.xw_grid.specs.Light.{lights_of};
+    ghost use Rattle.xw_feas.specs.Board.{board_of};
     ghost use Rattle.xw_feas.specs.State.{entry_action};
     ghost use Rattle.xw_feas.specs.Trying.{IsTried};
     ghost use Rattle.xw_live.specs.Live.{state_of};
     ghost use Rattle.xw_live.specs.Saved.{saved_state};
+    ghost use Rattle.xw_net.specs.Brought.{IsBase};
     ghost use Rattle.xw_net.specs.Change.{entries_written};
+    ghost use Rattle.xw_net.specs.Copy.{CanCopy, IsCopy};
+
+    /// Copies the net to another one, which stands for the grid `before`. If `same_words`, it stands for the same
+    /// dictionary. Then the base rows of lights with the same entries in both grids are equal, and are not copied.
+    fn copy_net(&self, net: &mut Net, before: &Grid, same_words: bool)
+        requires lights { self.now.position.lights ≡ lights_of before.now }
+        requires can { CanCopy self.now.position.lights self.now.net net.old }
+        requires before { same_words ≡ true → IsBase (board_of before.now) (state_of self.now).words net.old.base.items }
+        ensures copied { IsCopy self.now.position.lights self.now.net net.new }
+        ensures spare { net.new.spare ≡ net.old.spare }
+    {
+        let position = &self.position;
+        if same_words {
+            net.copy_from(
+                &self.net,
+                before,
+                &position.grid,
+                &position.lights,
+                &position.bank,
+            );
+        } else {
+            net.copy_all_from(&self.net, &position.grid, &position.lights);
+        }
+    }
 
     /// Tries an edit of entries that writes these cells. Stops at the first watched light that dies, and then copies
     /// the state back from `mark`.
@@ -134,20 +164,17 @@ impl Searchable for Live {
         Ok(Saved {
             grid,
             net,
+            least: position.bank.least(),
             bank: Snapshot::of(&position.bank),
         })
     }
 
     fn save(&self, snapshot: &mut Saved) {
-        let position = &self.position;
-        snapshot.net.copy_from(
-            &self.net,
-            &snapshot.grid,
-            &position.grid,
-            &position.lights,
-            &position.bank,
-        );
-        snapshot.grid.copy_from(&position.grid);
+        let least = self.position.bank.least();
+        self.copy_net(&mut snapshot.net, &snapshot.grid, snapshot.least == least);
+        snapshot.grid.copy_from(&self.position.grid);
+        snapshot.least = least;
+        snapshot.bank = Snapshot::of(&self.position.bank);
     }
 
     fn exchange(&mut self, snapshot: &mut Saved)

@@ -143,6 +143,17 @@ impl Net {
         self.copy_arrays(net, before, after, lights, true);
     }
 
+    /// Copies the words and letters of `net`, which stands for a grid with these lights, to this net, which has other base
+    /// rows. It allocates nothing.
+    pub fn copy_all_from(&mut self, net: &Net, grid: &Grid, lights: &Lights)
+        requires lights { lights.now ≡ lights_of grid.now }
+        requires can { CanCopy lights.now net.now self.old }
+        ensures copied { IsCopy lights.now net.now self.new }
+        ensures spare { self.new.spare ≡ self.old.spare }
+    {
+        self.copy_arrays(net, grid, grid, lights, false);
+    }
+
     /// A copy of the net, which stands for this grid and dictionary.
     pub fn copy(
         &self,

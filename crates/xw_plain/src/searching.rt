@@ -73,6 +73,7 @@ impl Searchable for Plain {
 
     fn save(&self, snapshot: &mut Saved) {
         snapshot.grid.copy_from(&self.position.grid);
+        snapshot.bank = Snapshot::of(&self.position.bank);
     }
 
     fn exchange(&mut self, snapshot: &mut Saved) {

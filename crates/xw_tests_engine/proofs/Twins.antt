@@ -12,15 +12,7 @@ use Rattle.xw_feas.specs.Snapshot.{IsTwin}
 use Rattle.xw_feas.specs.State.{State, letter_set, with_grid, by_fault}
 use Rattle.xw_feas.specs.declared.changed.Changed.{Changed}
 use Rattle.xw_feas.specs.declared.edit.Refusal.{Refusal}
-
-pub twin_itself : (state : State) → IsTwin state state
-twin_itself state = record { shape = record { lights = refl; opens = λ cell. refl; cells = refl }; words = refl }
-
-pub twin_turned : (old new : State) → IsTwin old new → IsTwin new old
-twin_turned old new twin = record {
-  shape = record { lights = sym twin.shape.lights; opens = λ cell. sym (twin.shape.opens cell); cells = sym twin.shape.cells };
-  words = sym twin.words;
-}
+use Rattle.xw_feas.proofs.SnapshotLemmas.{IsTwin-itself}
 
 pub set_twin : (before now : State) (old new : Answers) (cell : Cell) (letter : ℕ) (result : Result Changed Refusal) → IsGrid before.grid → IsEdited before old (letter_set cell letter) result now new → IsTwin before now
 set_twin before now old new cell letter (Ok changed) is edited = accepted (set_entry before.grid cell (Some letter)) refl edited.state where
@@ -29,7 +21,7 @@ set_twin before now old new cell letter (Ok changed) is edited = accepted (set_e
       let same : record before { grid = grid } ≡ now = cc in
       subst (IsTwin before) same (record { shape = letters_keep_shape before.grid grid cell (Some letter) is made; words = refl })
   accepted (Err fault) made at = cc
-set_twin before now old new cell letter (Err refusal) is edited = subst (IsTwin before) (sym edited.state) (twin_itself before)
+set_twin before now old new cell letter (Err refusal) is edited = subst (IsTwin before) (sym edited.state) (IsTwin-itself before)
 
 -- the same fact about equal states
 pub twin_of : {old new first second : State} → old ≡ first → new ≡ second → IsTwin first second → IsTwin old new

@@ -1,5 +1,5 @@
 //! Worked examples of saved states, and of words counted by letter, for both engines.
-ghost use Rattle.xw_feas.specs.Snapshot.{IsTwin};
+ghost use Rattle.xw_feas.specs.Snapshot.{IsTwin, CanSave};
 
 use std::alloc::Global;
 use xw_feas::board::Board;
@@ -99,6 +99,31 @@ fn goes_back<E: Searchable>(alloc: Global) -> Result<bool, Refusal> {
     Ok(passes && counts_all(&engine, WITH_O))
 }
 
+/// Leaves out the words below a grade.
+fn choose_least<E: Searchable>(engine: &mut E, grade: u8)
+    ensures { CanSave (E.state engine.old) (E.state engine.new) }
+{
+    let _ = engine.edit(&Edit::Least(grade));
+}
+
+/// Whether an engine goes back to a state that was saved in a snapshot of another least grade, and finds its words
+/// there, also after a letter came and went.
+fn goes_back_at_a_grade<E: Searchable>(alloc: Global) -> Result<bool, Refusal> {
+    let mut engine: E = opened(alloc)?;
+    let _ = engine.edit(&Edit::Add(b"RAT", Some(10)))?;
+    let mut kept = engine.snapshot()?;
+    let mut passes = !counts_all(&engine, EMPTY);
+    choose_least(&mut engine, 50);
+    engine.save(&mut kept);
+    enter_o(&mut engine);
+    passes &= counts_all(&engine, WITH_O);
+    engine.exchange(&mut kept);
+    passes &= counts_all(&engine, EMPTY);
+    enter_o(&mut engine);
+    let _ = engine.edit(&Edit::Clear(Cell { row: 1, col: 2 }))?;
+    Ok(passes && counts_all(&engine, EMPTY))
+}
+
 #[test]
 fn plain_goes_back(rt: HostRuntime) {
     assert!(rt; goes_back::<Plain>(rt.alloc()) == Ok(true));
@@ -107,4 +132,14 @@ fn plain_goes_back(rt: HostRuntime) {
 #[test]
 fn live_goes_back(rt: HostRuntime) {
     assert!(rt; goes_back::<Live>(rt.alloc()) == Ok(true));
+}
+
+#[test]
+fn plain_goes_back_at_a_grade(rt: HostRuntime) {
+    assert!(rt; goes_back_at_a_grade::<Plain>(rt.alloc()) == Ok(true));
+}
+
+#[test]
+fn live_goes_back_at_a_grade(rt: HostRuntime) {
+    assert!(rt; goes_back_at_a_grade::<Live>(rt.alloc()) == Ok(true));
 }

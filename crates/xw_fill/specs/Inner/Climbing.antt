@@ -9,10 +9,12 @@ use Rattle.xw_fill.specs.Fill.{IsActive}
 use Rattle.xw_fill.specs.NamedFill.{flags}
 use Rattle.xw_fill.specs.Best.{at_least, HasNoneAt, IsBound, IsFilledAt}
 use Rattle.xw_fill.specs.Inner.Progress.{IsDead, AreAlive, IsPlan}
+use Rattle.xw_fill.specs.Inner.Stack.{IsReady}
 use Rattle.xw_fill.specs.declared.allowance.Allowance.{Allowance}
 use Rattle.xw_fill.specs.declared.best.Best.{Best}
 use Rattle.xw_fill.specs.declared.best.Best.TheVariants as bests
 use Rattle.xw_fill.specs.declared.best.climb.Climb.{Climb}
+use Rattle.xw_fill.specs.declared.best.probe.Prober.{Prober}
 use Rattle.xw_fill.specs.declared.best.probe.Probe.{Probe}
 use Rattle.xw_fill.specs.declared.best.probe.Probe.TheVariants.{Filled, NoFill, Limit}
 
@@ -41,6 +43,13 @@ pub record AreFresh (start : Position) (fresh : List Bool) : Type 0 where
   pub long : length fresh ≡ light_count start
   pub are : (light : ℕ) → light < light_count start → flags fresh light ≡ not (is_entered start light)
 
+-- the prober is for this state
+pub record IsProber {E S : Type 0} (saved : S → State) (prober : Prober E S) (start : State) : Type 0 where
+  pub plan : IsPlan (position_of start) prober.plan
+  pub fresh : AreFresh (position_of start) prober.fresh.items
+  pub least : prober.least ≡ start.words.least
+  pub ready : IsReady saved prober.stack start
+
 -- what a search for a fill with the words of a grade and better found: a fill that is one at `least`; or that there is
 -- none
 abbrev pub IsProbed : (ℕ → Bool) → State → ℕ → State → Probe → Type 0
@@ -55,13 +64,11 @@ IsAtLeast grade other = Unit {0}
 
 -- the search began at this state, and knows a bound and the best fill that was found
 pub record IsClimbing {E S : Type 0} (saved : S → State) (climb : Climb E S) (start : State) : Type 0 where
-  pub plan : IsPlan (position_of start) climb.plan
-  pub fresh : AreFresh (position_of start) climb.fresh.items
-  pub least : climb.least ≡ start.words.least
+  pub prober : IsProber saved climb.prober start
   pub began : saved climb.start ≡ start
   pub best : IsTwin (saved climb.best) start
-  pub found : IfSome climb.found (IsFilledAt (flags climb.plan.named.items) start (saved climb.best))
-  pub bound : IsBound (flags climb.plan.named.items) start climb.bound
+  pub found : IfSome climb.found (IsFilledAt (flags climb.prober.plan.named.items) start (saved climb.best))
+  pub bound : IsBound (flags climb.prober.plan.named.items) start climb.bound
 
 -- the least grade at which a fill would be new, after one of this grade was found, or none
 abbrev pub grade_above : Option ℕ → ℕ → ℕ
@@ -69,7 +76,7 @@ grade_above None least = least
 grade_above (Some grade) least = suc grade
 
 abbrev pub next_grade : {E S : Type 0} → Climb E S → ℕ
-next_grade climb = grade_above climb.found climb.least
+next_grade climb = grade_above climb.found climb.prober.least
 
 -- if a fill was found, it has the entries of the start
 abbrev pub IsIdle : {E S : Type 0} → (S → State) → Climb E S → Type 0
@@ -79,8 +86,8 @@ IsIdle saved climb = IfSome climb.found (λ grade. saved climb.best ≡ saved cl
 -- stays, and so does its bound. It takes no placement back and keeps their limit. A fill that it found without a
 -- placement has the entries of the start.
 pub record HasClimbed {E S : Type 0} (saved : S → State) (before now : Climb E S) (from to : Allowance) : Type 0 where
-  pub plan : now.plan ≡ before.plan
-  pub least : now.least ≡ before.least
+  pub plan : now.prober.plan ≡ before.prober.plan
+  pub least : now.prober.least ≡ before.prober.least
   pub found : next_grade before ≤ next_grade now
   pub bound : now.bound ≤ before.bound
   pub made : from.made ≤ to.made

@@ -1,9 +1,10 @@
 -- The stack of a search: its placements in order, and the states that they lead through.
 use Rattle.std.specs.Prelude.{◌≡◌, ℕ, Bool, true, false, cond, List, [], ◌∷◌, ◌++◌, Option, Some, None}
 use Rattle.xw_feas.specs.State.{State}
-use Rattle.xw_feas.specs.Snapshot.{IsTwin}
-use Rattle.xw_fill.specs.Marks.{held_of, AreTwins, HoldsFree}
-use Rattle.xw_fill.specs.Inner.OfState.{IsDead}
+use Rattle.xw_feas.specs.Snapshot.{IsTwin, CanSave}
+use Rattle.xw_fill.specs.Marks.{held_of, CanMark, AreTwins, HoldsFree}
+use Rattle.xw_fill.specs.Position.{position_of}
+use Rattle.xw_fill.specs.Inner.Progress.{IsDead}
 use Rattle.xw_fill.specs.declared.stack.Stack.{Stack}
 
 -- the state where the search began
@@ -32,19 +33,20 @@ abbrev pub AreForced : {M : Type 0} → (M → Bool) → List M → Type 0
 AreForced is_forced [] = Unit {0}
 AreForced is_forced (placement ∷ placements) = (is_forced placement ≡ true) × AreForced is_forced placements
 
--- the snapshots can save the state and be exchanged with it
+-- the snapshots can save the state
 pub record IsReady {E S M : Type 0} (saved : S → State) (stack : Stack E M S) (now : State) : Type 0 where
-  pub root : IsTwin (saved stack.root) now
-  pub marks : AreTwins saved stack.marks now
+  pub root : CanSave (saved stack.root) now
+  pub marks : CanMark saved stack.marks now
 
 -- the placements lead to the state, and the marks hold the states before the last of them that were not forced; after
--- `prepare` the first free snapshot holds the state
+-- `prepare` the first free snapshot holds the state; the start and the marks can be exchanged with it
 pub record StandsAt {E S M : Type 0} (saved : S → State) (is_placed : M → State → State → Type 0) (is_forced : M → Bool) (stack : Stack E M S) (now : State) : Type 0 where
   pub states : List State
   pub through : LeadThrough is_placed stack.placements.items states now
   pub older : List State
   pub held : before_choices is_forced stack.placements.items states ≡ older ++ held_of saved stack.marks
-  pub ready : IsReady saved stack now
+  pub root : IsTwin (saved stack.root) now
+  pub marks : AreTwins saved stack.marks now
   pub prepared : stack.is_prepared ≡ true → HoldsFree saved stack.marks now
 
 -- a placement that was not forced was taken back, with the forced ones after it
@@ -60,4 +62,4 @@ pub record IsTakenBack {M : Type 0} (is_placed : M → State → State → Type 
 abbrev pub HasTried : {M : Type 0} → (M → State → State → Type 0) → (ℕ → Bool) → M → State → List M → State → List M → Option ℕ → Type 0
 HasTried is_placed watched placement before placements after placements_after None = (placements_after ≡ placements ++ placement ∷ []) × is_placed placement before after
 HasTried is_placed watched placement before placements after placements_after (Some light) =
-    (placements_after ≡ placements) × (after ≡ before) × ((there : State) × is_placed placement before there × IsDead watched there light)
+    (placements_after ≡ placements) × (after ≡ before) × ((there : State) × is_placed placement before there × IsDead watched (position_of there) light)

@@ -9,27 +9,22 @@ ghost use Rattle.xw_fill.specs.Inner.Climbing.{IsAtLeast, IsClimbing, HasClimbed
 
 use crate::allowance::Allowance;
 use crate::best::Best;
-use crate::best::grades::{NO_BOUND, fresh_lights};
 use crate::best::pace::Pace;
-use crate::best::probe::{Probe, bound_of, probe_at};
+use crate::best::probe::{Probe, Prober, bound_of};
 use crate::named_lights::plan::Plan;
 use crate::named_lights::run::Effort;
 use std::alloc::{AllocError, Global};
 use xw_feas::searchable::Searchable;
 
 /// A search for the best fill.
-/// - `fresh`: a flag for each light that was not wholly entered at the start.
 /// - `start`, `best`: the state where it began, and the best fill that was found.
-/// - `least`: the least grade of active words.
 /// - `found`: the greatest grade at which `best` is a fill, if one was found.
 /// - `bound`: a grade at which no fill exists.
 #[derive(Drop)]
 pub struct Climb<E: Searchable> {
-    plan: Plan,
-    fresh: Vec<bool>,
+    prober: Prober<E>,
     start: E::Snapshot,
     best: E::Snapshot,
-    least: u8,
     found: Option<u8>,
     bound: u8,
 }
@@ -40,20 +35,17 @@ impl<E: Searchable> Climb<E> {
         requires plan { IsPlan (E.state engine.old) plan }
         ensures climbing { IfOk result (λ climb. IsClimbing E.saved climb (E.state engine.old)) }
         ensures none { IfOk result (λ climb. climb.found ≡ None) }
-        ensures plan { IfOk result (λ climb. climb.plan ≡ plan) }
+        ensures plan { IfOk result (λ climb. climb.prober.plan ≡ plan) }
         ensures unchanged { E.state engine.new ≡ E.state engine.old }
     {
-        let fresh = fresh_lights(alloc, engine)?;
+        let prober = Prober::new(alloc, engine, plan)?;
         let start = engine.snapshot()?;
         let best = engine.snapshot()?;
-        let least = engine.bank().least();
-        let bound = bound_of(engine, &plan, least);
+        let bound = bound_of(engine, &prober.plan, prober.least);
         Ok(Climb {
-            plan,
-            fresh,
+            prober,
             start,
             best,
-            least,
             found: None,
             bound,
         })
@@ -61,12 +53,12 @@ impl<E: Searchable> Climb<E> {
 
     /// The least grade at which a fill would be new.
     fn next_grade(&self) -> u8
-        requires { IfSome self.now.found (λ grade. (self.now.least ≤ grade) × (grade ≤ best_grade)) }
+        requires { IfSome self.now.found (λ grade. (self.now.prober.least ≤ grade) × (grade ≤ best_grade)) }
         ensures { result ≡ next_grade self.now }
     {
         match self.found {
             Some(grade) => grade + 1,
-            None => self.least,
+            None => self.prober.least,
         }
     }
 
@@ -74,13 +66,12 @@ impl<E: Searchable> Climb<E> {
     fn keep(&mut self, engine: &mut E, grade: u8)
         requires climbing { IsClimbing E.saved self.old (E.saved self.old.start) }
         requires better { next_grade self.old ≤ grade }
-        requires filled { IsFilledAt (flags self.old.plan.named.items) (E.saved self.old.start) (E.state engine.old) grade }
+        requires filled { IsFilledAt (flags self.old.prober.plan.named.items) (E.saved self.old.start) (E.state engine.old) grade }
         ensures climbing { IsClimbing E.saved self.new (E.state engine.new) }
         ensures back { E.state engine.new ≡ E.saved self.old.start }
         ensures found { self.new.found ≡ Some grade }
         ensures best { E.saved self.new.best ≡ E.state engine.old }
-        ensures plan { self.new.plan ≡ self.old.plan }
-        ensures least { self.new.least ≡ self.old.least }
+        ensures prober { self.new.prober ≡ self.old.prober }
         ensures bound { self.new.bound ≡ self.old.bound }
     {
         engine.save(&mut self.best);
@@ -109,16 +100,7 @@ impl<E: Searchable> Climb<E> {
         ensures found { IfOk result (IsAtLeast grade) }
         ensures taken { IfOk result (IsTaken grade self.old self.new allowance.new) }
     {
-        let probe = probe_at(
-            alloc,
-            engine,
-            &self.plan,
-            &self.fresh,
-            self.least,
-            grade,
-            effort,
-            allowance,
-        )?;
+        let probe = self.prober.probe(alloc, engine, grade, effort, allowance)?;
         match probe {
             Probe::Filled(found) => self.keep(engine, found),
             Probe::NoFill => self.bound = grade,
@@ -131,7 +113,7 @@ impl<E: Searchable> Climb<E> {
     fn may_try(&self, allowance: &Allowance) -> bool
         ensures { allowance.now.made < allowance.now.limit → result ≡ true }
     {
-        allowance.left() > 0 || self.plan.targets.is_empty()
+        allowance.left() > 0 || self.prober.plan.targets.is_empty()
     }
 
     /// Runs one pass, until it has tried all its grades or no placement is left. If it has a grade to try, it decides a
@@ -183,7 +165,7 @@ impl<E: Searchable> Climb<E> {
         ensures ended { OnOk result ((allowance.new.made ≡ allowance.new.limit) ⊎ (self.new.bound ≤ next_grade self.new)) }
     {
         // With no cell to fill, one pass over all grades needs no placement.
-        if self.plan.targets.is_empty() {
+        if self.prober.plan.targets.is_empty() {
             *pace = Pace::new();
         }
         self.pass(alloc, engine, effort, pace, allowance)?;
@@ -197,8 +179,8 @@ impl<E: Searchable> Climb<E> {
     /// Ends the search: enters the best fill, if one was found.
     pub fn finish(&mut self, engine: &mut E) -> Best
         requires climbing { IsClimbing E.saved self.old (E.state engine.old) }
-        ensures best { IsBest (flags self.old.plan.named.items) (E.state engine.old) (E.state engine.new) result }
-        ensures found { result ≡ best_of self.old.found self.old.least self.old.bound }
+        ensures best { IsBest (flags self.old.prober.plan.named.items) (E.state engine.old) (E.state engine.new) result }
+        ensures found { result ≡ best_of self.old.found self.old.prober.least self.old.bound }
         ensures idle { IsIdle E.saved self.old → E.state engine.new ≡ E.state engine.old }
     {
         match self.found {
@@ -209,7 +191,7 @@ impl<E: Searchable> Climb<E> {
                     bound: self.bound,
                 }
             }
-            None if self.bound <= self.least => Best::NoFill,
+            None if self.bound <= self.prober.least => Best::NoFill,
             None => Best::Limit { bound: self.bound },
         }
     }

@@ -3,17 +3,19 @@ ghost use Rattle.std.specs.Prelude.{◌≡◌, ◌⊎◌, ℕ, suc, ◌≤◌, l
 ghost use Rattle.xw_words.specs.Dictionary.{best_grade};
 ghost use Rattle.xw_fill.specs.Allowance.{IsCounted};
 ghost use Rattle.xw_fill.specs.OfState.{light_count};
-ghost use Rattle.xw_fill.specs.Inner.OfState.{AreFresh, IsPlan};
+ghost use Rattle.xw_fill.specs.Inner.OfState.{IsPlan};
 ghost use Rattle.xw_fill.specs.NamedFill.{flags};
 ghost use Rattle.xw_fill.specs.Best.{IsBound};
-ghost use Rattle.xw_fill.specs.Inner.Climbing.{DiffersInLeast, IsDeadAt, AreAliveAt, AreActiveAt, IsProbed};
+ghost use Rattle.xw_fill.specs.Inner.Climbing.{DiffersInLeast, IsDeadAt, AreAliveAt, AreActiveAt, IsProber, IsProbed};
 
 use crate::allowance::Allowance;
-use crate::best::grades::{NO_BOUND, choose_least, first_deadly, worst_grade};
-use crate::named_lights::fill_planned;
+use crate::best::grades::{NO_BOUND, choose_least, first_deadly, fresh_lights, worst_grade};
+use crate::named_lights::frame::Frame;
 use crate::named_lights::plan::Plan;
 use crate::named_lights::run::Effort;
+use crate::named_lights::{fill_planned, stack_for};
 use crate::search::Filling;
+use crate::stack::Stack;
 use std::alloc::{AllocError, Global};
 use xw_feas::feasible::Feasible;
 use xw_feas::searchable::Searchable;
@@ -61,39 +63,70 @@ fn greatest_grade<E: Feasible>(engine: &mut E, watched: &[bool], fresh: &[bool],
     first_deadly(engine, watched, grade + 1, worst + 1) - 1
 }
 
-/// Looks for a fill with the words of a grade and better. `fresh` flags the lights that are not wholly entered. The
-/// least grade of active words, `least`, stays as it was.
-pub fn probe_at<E: Searchable>(
-    alloc: Global,
-    engine: &mut E,
-    plan: &Plan,
-    fresh: &[bool],
-    least: u8,
-    grade: u8,
-    effort: &mut Effort,
-    allowance: &mut Allowance,
-) -> Result<Probe, AllocError>
-    requires plan { IsPlan (E.state engine.old) plan.now }
-    requires fresh { AreFresh (E.state engine.old) fresh.now }
-    requires least { least ≡ (E.state engine.old).words.least }
-    requires above { least ≤ grade }
-    requires graded { grade ≤ best_grade }
-    ensures counted { IsCounted allowance.old allowance.new (E.state engine.old) (E.state engine.new) }
-    ensures until { allowance.new.until ≡ allowance.old.until }
-    ensures limit { result ≡ Ok Probe.Limit → allowance.new.made ≡ allowance.new.until }
-    ensures ok { IfOk result (IsProbed (flags plan.now.named.items) (E.state engine.old) grade (E.state engine.new)) }
-    ensures unchanged { OnErr result (E.state engine.new ≡ E.state engine.old) }
-{
-    choose_least(engine, grade);
-    let filling = fill_planned(alloc, engine, plan, effort, allowance);
-    let probe = match filling {
-        Ok(filling) => Ok(match filling {
-            Filling::Filled => Probe::Filled(greatest_grade(engine, &plan.watched, fresh, grade)),
-            Filling::NoFill => Probe::NoFill,
-            Filling::Limit => Probe::Limit,
-        }),
-        Err(failed) => Err(failed),
-    };
-    choose_least(engine, least);
-    probe
+/// What the probes of a search for the best fill share.
+/// - `fresh`: a flag for each light that was not wholly entered at the start.
+/// - `least`: the least grade of active words.
+/// - `stack`: the stack of each probe, whose snapshots stay from probe to probe.
+#[derive(Drop)]
+pub struct Prober<E: Searchable> {
+    pub plan: Plan,
+    fresh: Vec<bool>,
+    pub least: u8,
+    stack: Stack<E, Frame>,
+}
+
+impl<E: Searchable> Prober<E> {
+    /// The prober for the lights of a plan.
+    pub fn new(alloc: Global, engine: &E, plan: Plan) -> Result<Prober<E>, AllocError>
+        requires plan { IsPlan (E.state engine.now) plan }
+        ensures prober { IfOk result (λ prober. IsProber E.saved prober (E.state engine.now)) }
+        ensures plan { IfOk result (λ prober. prober.plan ≡ plan) }
+    {
+        let fresh = fresh_lights(alloc, engine)?;
+        let stack = stack_for(alloc, engine, &plan)?;
+        Ok(Prober {
+            plan,
+            fresh,
+            least: engine.bank().least(),
+            stack,
+        })
+    }
+
+    /// Looks for a fill with the words of a grade and better. The least grade of active words stays as it was.
+    pub fn probe(
+        &mut self,
+        alloc: Global,
+        engine: &mut E,
+        grade: u8,
+        effort: &mut Effort,
+        allowance: &mut Allowance,
+    ) -> Result<Probe, AllocError>
+        requires prober { IsProber E.saved self.old (E.state engine.old) }
+        requires above { self.old.least ≤ grade }
+        requires graded { grade ≤ best_grade }
+        ensures prober { IsProber E.saved self.new (E.state engine.old) }
+        ensures plan { self.new.plan ≡ self.old.plan }
+        ensures least { self.new.least ≡ self.old.least }
+        ensures counted { IsCounted allowance.old allowance.new (E.state engine.old) (E.state engine.new) }
+        ensures until { allowance.new.until ≡ allowance.old.until }
+        ensures limit { result ≡ Ok Probe.Limit → allowance.new.made ≡ allowance.new.until }
+        ensures ok { IfOk result (IsProbed (flags self.old.plan.named.items) (E.state engine.old) grade (E.state engine.new)) }
+        ensures unchanged { OnErr result (E.state engine.new ≡ E.state engine.old) }
+    {
+        choose_least(engine, grade);
+        let plan = &self.plan;
+        let filling = fill_planned(alloc, engine, &mut self.stack, plan, effort, allowance);
+        let watched = self.plan.watched.as_slice();
+        let fresh = self.fresh.as_slice();
+        let probe = match filling {
+            Ok(filling) => Ok(match filling {
+                Filling::Filled => Probe::Filled(greatest_grade(engine, watched, fresh, grade)),
+                Filling::NoFill => Probe::NoFill,
+                Filling::Limit => Probe::Limit,
+            }),
+            Err(failed) => Err(failed),
+        };
+        choose_least(engine, self.least);
+        probe
+    }
 }

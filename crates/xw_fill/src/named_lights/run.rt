@@ -2,11 +2,13 @@
 ghost use Rattle.std.specs.Prelude.{◌≡◌, ◌<◌, ℕ, suc, length, true, false, ◌||◌, ◌==◌, [], IfOk};
 ghost use Rattle.xw_letters.specs.LetterSet.{has};
 ghost use Rattle.xw_feas.specs.Board.{board_of};
+ghost use Rattle.xw_feas.specs.Snapshot.{IsTwin};
 ghost use Rattle.xw_fill.specs.Position.{DiffersInEntries};
 ghost use Rattle.xw_fill.specs.Allowance.{IsCounted};
 ghost use Rattle.xw_fill.specs.OfState.{light_count, IsFillOf};
 ghost use Rattle.xw_fill.specs.Inner.OfState.{HasNone, IsPlan, IsOpen, IsRefuted, AreAlive, IsApartAt};
 ghost use Rattle.xw_fill.specs.Inner.Stack.{start_of, IsReady, StandsAt};
+ghost use Rattle.xw_fill.specs.Marks.{CanMark};
 ghost use Rattle.xw_fill.specs.NamedFill.{flags};
 ghost use Rattle.xw_fill.specs.Inner.Progress.{entries_of, CanBeEntered, is_forced, IsLetterEntered, IsTried};
 
@@ -167,7 +169,8 @@ fn search<E: Searchable>(
     requires open { IsOpen (flags plan.now.named.items) (E.state engine.old) (entries_of (E.state engine.old)) }
     requires stands { StandsAt E.saved IsLetterEntered is_forced stack.old (E.state engine.old) }
     requires empty { stack.old.placements.items ≡ [] }
-    ensures ready { IsReady E.saved stack.new (E.state engine.new) }
+    ensures twin { IsTwin (start_of E.saved stack.new) (E.state engine.new) }
+    ensures marks { CanMark E.saved stack.new.marks (E.state engine.new) }
     ensures start { start_of E.saved stack.new ≡ start_of E.saved stack.old }
     ensures entries { DiffersInEntries (E.state engine.old) (E.state engine.new) }
     ensures counted { IsCounted allowance.old allowance.new (E.state engine.old) (E.state engine.new) }
@@ -247,7 +250,7 @@ pub fn run<E: Searchable>(
     requires plan { IsPlan (E.state engine.old) plan.now }
     requires open { IsOpen (flags plan.now.named.items) (E.state engine.old) (entries_of (E.state engine.old)) }
     requires ready { IsReady E.saved stack.old (E.state engine.old) }
-    ensures ready { IsReady E.saved stack.new (E.state engine.new) }
+    ensures ready { IsReady E.saved stack.new (E.state engine.old) }
     ensures counted { IsCounted allowance.old allowance.new (E.state engine.old) (E.state engine.new) }
     ensures until { allowance.new.until ≡ allowance.old.until }
     ensures limit { result ≡ Ending.Limit → allowance.new.made ≡ allowance.new.until }

@@ -14,7 +14,7 @@ returns-clause-ok g c =
     let same = c.in_ok-run.ensures.unchanged ∙ c.in_ok-climb.ensures.unchanged in
     let named = ap (λ plan. plan.named) (c.in_ok-run.ensures.climbed.plan ∙ c.in_ok-climb.ensures.plan) ∙ c.in_ok-plan.ensures.named in
     subst (λ vec. IsBest (flags vec.items) (g.E.Feasible.state c.args.engine.now) after c.finish.result) named
-    (subst (λ (s : State). IsBest (flags c.run.new.self.plan.named.items) s after c.finish.result) same c.finish.ensures.best)
+    (subst (λ (s : State). IsBest (flags c.run.new.self.prober.plan.named.items) s after c.finish.result) same c.finish.ensures.best)
 
 pub returns-clause-counted : goal.returns-clause-counted
 returns-clause-counted g c =
@@ -35,5 +35,5 @@ returns-clause-limit g c bound is =
     let told : c.finish.result ≡ Limit bound = cc in
     elim c.in_ok-run.ensures.ended [
       | inl spent ↦ spent
-      | inr over ↦ absurd (no_limit climb.found climb.least climb.bound bound over (sym c.finish.ensures.found ∙ told))
+      | inr over ↦ absurd (no_limit climb.found climb.prober.least climb.bound bound over (sym c.finish.ensures.found ∙ told))
     ]

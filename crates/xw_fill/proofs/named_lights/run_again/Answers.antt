@@ -3,6 +3,7 @@ use Rattle.xw_feas.specs.State.{State}
 use Rattle.xw_fill.specs.Position.{position_of, DiffersInEntries}
 use Rattle.xw_fill.specs.NamedFill.{flags, IsFillOf}
 use Rattle.xw_fill.specs.Inner.Progress.{entries_of, HasNone, IsOpen, IsPlan}
+use Rattle.xw_fill.specs.Inner.Stack.{IsReady}
 use Rattle.xw_fill.specs.declared.named_lights.run.Ending.{Ending}
 use Rattle.xw_fill.specs.declared.named_lights.run.Ending.TheVariants as endings
 use Rattle.xw_fill.proofs.AllowanceLemmas.{counted_same, counted-then}
@@ -56,7 +57,7 @@ loop-effort-preserved g c = record {
   made = omega (arith, c.loop-effort.invariant.made, c.run.ensures.counted.made);
   until = c.run.ensures.until ∙ c.loop-effort.invariant.until;
   limit = c.run.ensures.counted.limit ∙ c.loop-effort.invariant.limit;
-  ready = c.in-Cut.ensures.ready;
+  ready = subst (IsReady g.E.Searchable.saved c.run.new.stack) (sym (c.in-Cut.ensures.same (λ e. subst is_filled (sym e) tt))) c.run.ensures.ready;
 }
 
 pub returns-in-Filled-clause-entered : goal.returns-in-Filled-clause-entered
@@ -87,3 +88,15 @@ pub returns-in-Memory-clause-counted : goal.returns-in-Memory-clause-counted
 returns-in-Memory-clause-counted g c =
     counted_same c.args.allowance.now c.run.new.allowance (g.E.Feasible.state c.args.engine.now) (g.E.Feasible.state c.run.new.engine) (omega (arith, c.loop-effort.invariant.made, c.run.ensures.counted.made)) (c.run.ensures.counted.limit ∙ c.loop-effort.invariant.limit)
     (c.in-Memory.ensures.same (λ e. subst is_filled (sym e) tt) ∙ c.loop-effort.invariant.same)
+
+pub returns-in-Filled-clause-ready : goal.returns-in-Filled-clause-ready
+returns-in-Filled-clause-ready g c = subst (IsReady g.E.Searchable.saved c.run.new.stack) c.loop-effort.invariant.same c.run.ensures.ready
+
+pub returns-in-NoFill-clause-ready : goal.returns-in-NoFill-clause-ready
+returns-in-NoFill-clause-ready g c = subst (IsReady g.E.Searchable.saved c.run.new.stack) c.loop-effort.invariant.same c.run.ensures.ready
+
+pub returns-in-Limit-clause-ready : goal.returns-in-Limit-clause-ready
+returns-in-Limit-clause-ready g c = subst (IsReady g.E.Searchable.saved c.run.new.stack) c.loop-effort.invariant.same c.run.ensures.ready
+
+pub returns-in-Memory-clause-ready : goal.returns-in-Memory-clause-ready
+returns-in-Memory-clause-ready g c = subst (IsReady g.E.Searchable.saved c.run.new.stack) c.loop-effort.invariant.same c.run.ensures.ready

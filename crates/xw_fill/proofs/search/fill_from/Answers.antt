@@ -167,7 +167,7 @@ search-preserved-in-Some g c =
     }
 
 pub reset-requires : goal.reset-requires
-reset-requires g c = record { ready = c.search.invariant.stands.ready }
+reset-requires g c = record { twin = c.search.invariant.stands.root; marks = c.search.invariant.stands.marks.can_mark }
 
 pub returns-then-used-limit-clause-found : goal.returns-then-used-limit-clause-found
 returns-then-used-limit-clause-found g c =

@@ -5,4 +5,4 @@ pub returns-clause-held : goal.returns-clause-held
 returns-clause-held g c = refl
 
 pub returns-clause-twins : goal.returns-clause-twins
-returns-clause-twins g c = λ state twins. record { within = omega arith; twins = twins.twins }
+returns-clause-twins g c = λ state can. record { within = omega arith; can_mark = can; twins = λ k d below. absurd (omega (arith, below)) }

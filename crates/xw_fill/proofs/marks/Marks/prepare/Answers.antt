@@ -1,26 +1,19 @@
-use Rattle.std.proofs.Common.{◌<◌, arith, length, length-set, map, sym, ◌∙◌, ap, subst}
+use Rattle.std.proofs.Common.{◌-◌, ◌<◌, arith, length, length-set, map, refl, sym, ◌∙◌, ap, subst}
+use Rattle.std.specs.Prelude.{All}
 use Rattle.std.proofs.lemmas.List.{get_or-set_same, take-set}
-use Rattle.xw_feas.specs.Snapshot.{IsTwin}
-use Rattle.xw_fill.proofs.MarksLemmas.{twin_at, all_twins-set, IsTwin-itself}
+use Rattle.std.proofs.lemmas.List.Elements.{All-drop, All-set}
+use Rattle.xw_feas.specs.Snapshot.{IsTwin, CanSave}
+use Rattle.xw_feas.specs.State.{State}
+use Rattle.xw_feas.proofs.SnapshotLemmas.{CanSave-itself}
+use Rattle.xw_fill.specs.Marks.{held_of, room_of}
+use Rattle.xw_fill.proofs.MarksLemmas.{at_index}
 use Rattle.xw_fill.proofs.marks.Marks.prepare.Goals as goal
 
 pub save-requires : goal.save-requires
 save-requires g c =
     let state = g.E.Feasible.state c.args.engine.now in
     let marks = c.make_room.new.self in
-    let twins = c.make_room.ensures.twins state c.requires.twins in
-    record { twin = twin_at g.E.Searchable.saved marks.snapshots.items marks.held c.index_mut-snapshot.result.now state c.index_mut-snapshot.ensures.value (omega (arith, c.make_room.ensures.free, c.make_room.ensures.room)) twins.twins }
-
-pub returns-clause-twins : goal.returns-clause-twins
-returns-clause-twins g c =
-    let state = g.E.Feasible.state c.args.engine.now in
-    let marks = c.make_room.new.self in
-    let twins = c.make_room.ensures.twins state c.requires.twins in
-    let saved = subst (λ s. IsTwin s state) (sym c.save.ensures.saved) (IsTwin-itself state) in
-    record {
-      within = omega (arith, c.make_room.ensures.free, c.make_room.ensures.room, length-set marks.snapshots.items marks.held c.save.new.snapshot);
-      twins = all_twins-set g.E.Searchable.saved marks.snapshots.items marks.held c.save.new.snapshot state saved twins.twins;
-    }
+    at_index (λ snapshot. CanSave (g.E.Searchable.saved snapshot) state) marks.snapshots.items marks.held c.index_mut-snapshot.result.now c.index_mut-snapshot.ensures.value (omega (arith, c.make_room.ensures.free, c.make_room.ensures.room)) (c.make_room.ensures.can_mark state c.requires.twins.can_mark)
 
 pub returns-clause-free : goal.returns-clause-free
 returns-clause-free g c _ =
@@ -35,3 +28,17 @@ pub returns-clause-held : goal.returns-clause-held
 returns-clause-held g c _ =
     let marks = c.make_room.new.self in
     ap (map g.E.Searchable.saved) (take-set marks.snapshots.items marks.held c.save.new.snapshot) ∙ c.make_room.ensures.held
+
+pub returns-clause-twins : goal.returns-clause-twins
+returns-clause-twins g c =
+    let saved = g.E.Searchable.saved in
+    let state = g.E.Feasible.state c.args.engine.now in
+    let marks = c.make_room.new.self in
+    let held = held_of saved c.args.self.now in
+    let is_twin : State → Type 0 = λ mark. IsTwin mark state in
+    let can = subst (λ s. CanSave s state) (sym c.save.ensures.saved) (CanSave-itself state) in
+    record {
+      within = omega (arith, c.make_room.ensures.free, c.make_room.ensures.room, length-set marks.snapshots.items marks.held c.save.new.snapshot);
+      can_mark = All-set (λ snapshot. CanSave (saved snapshot) state) marks.snapshots.items marks.held c.save.new.snapshot can (c.make_room.ensures.can_mark state c.requires.twins.can_mark);
+      twins = subst (All is_twin) (sym (returns-clause-held g c refl)) (All-drop is_twin (length held - (room_of c.args.self.now - 1)) held c.requires.twins.twins);
+    }

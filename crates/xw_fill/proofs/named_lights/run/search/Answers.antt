@@ -97,8 +97,11 @@ loop-letter-preserved-in_default-next_letter g c =
       limit = inv.limit;
     }
 
-pub returns-then-is_spent-clause-ready : goal.returns-then-is_spent-clause-ready
-returns-then-is_spent-clause-ready g c = c.loop-letter.invariant.stands.ready
+pub returns-then-is_spent-clause-twin : goal.returns-then-is_spent-clause-twin
+returns-then-is_spent-clause-twin g c = c.loop-letter.invariant.stands.root
+
+pub returns-then-is_spent-clause-marks : goal.returns-then-is_spent-clause-marks
+returns-then-is_spent-clause-marks g c = c.loop-letter.invariant.stands.marks.can_mark
 
 pub returns-then-is_spent-clause-start : goal.returns-then-is_spent-clause-start
 returns-then-is_spent-clause-start g c = c.loop-letter.invariant.root

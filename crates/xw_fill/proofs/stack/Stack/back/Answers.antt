@@ -3,7 +3,8 @@ use Rattle.std.proofs.lemmas.Bool.{false≢true}
 use Rattle.xw_fill.specs.Marks.{held_of, AreTwins}
 use Rattle.xw_fill.specs.Position.{DiffersInEntries}
 use Rattle.xw_fill.specs.Inner.Stack.{before_choices, LeadThrough}
-use Rattle.xw_fill.proofs.MarksLemmas.{IsTwin-entries, IsTwin-then, AreTwins-then}
+use Rattle.xw_feas.proofs.SnapshotLemmas.{IsTwin-then}
+use Rattle.xw_fill.proofs.MarksLemmas.{IsTwin-entries, AreTwins-then}
 use Rattle.xw_fill.proofs.StackLemmas.{IsParted, choices_more, lead_last, held_without, still_held, differs_back}
 use Rattle.xw_fill.proofs.StateLemmas.{DiffersInEntries-itself}
 use Rattle.xw_fill.proofs.stack.Stack.back.Goals as goal
@@ -82,7 +83,7 @@ returns-clause-stands g c =
     let left = c.pop.new.self.items in
     let through = subst (λ s. LeadThrough is_placed left parted.left s) (sym (back_at g c)) parted.through in
     let twin = IsTwin-entries old after (differs_at g c) in
-    let root = IsTwin-then (saved c.args.self.now.root) old after stands.ready.root twin in
+    let root = IsTwin-then (saved c.args.self.now.root) old after stands.root twin in
     let choices = choices_are g c in
     elim c.if-not-unmark.branch [
       | then-not-unmark w ↦
@@ -94,7 +95,8 @@ returns-clause-stands g c =
             through = through;
             older = kept.0;
             held = kept.1 ∙ ap (λ held. kept.0 ++ held) (sym same);
-            ready = record { root = root; marks = AreTwins-then saved c.unmark.new.marks old after twin twins };
+            root = root;
+            marks = AreTwins-then saved c.unmark.new.marks old after twin twins;
             prepared = λ is. absurd (false≢true is);
           }
       | else-not-unmark w ↦
@@ -103,7 +105,8 @@ returns-clause-stands g c =
             through = through;
             older = stands.older;
             held = (marked_at g c w.if-not-unmark.false).0;
-            ready = record { root = root; marks = subst (λ engine. AreTwins saved c.unmark.new.marks (g.E.Feasible.state engine)) (sym w.engine-is) c.unmark.ensures.twins };
+            root = root;
+            marks = subst (λ engine. AreTwins saved c.unmark.new.marks (g.E.Feasible.state engine)) (sym w.engine-is) c.unmark.ensures.twins;
             prepared = λ is. absurd (false≢true is);
           }
     ]

@@ -3,7 +3,8 @@ use Rattle.std.specs.Prelude.{is_ok}
 use Rattle.std.proofs.lemmas.Bool.{false≢true}
 use Rattle.xw_fill.specs.Marks.{held_of, room_of}
 use Rattle.xw_fill.specs.Inner.Stack.{before_choices, LeadThrough, StandsAt}
-use Rattle.xw_fill.proofs.MarksLemmas.{IsTwin-entries, IsTwin-then, AreTwins-then}
+use Rattle.xw_feas.proofs.SnapshotLemmas.{IsTwin-then}
+use Rattle.xw_fill.proofs.MarksLemmas.{IsTwin-entries, AreTwins-then}
 use Rattle.xw_fill.proofs.StackLemmas.{choices_choice, choices_forced, lead_more, held_with}
 use Rattle.xw_fill.proofs.StateLemmas.{DiffersInEntries-itself}
 use Rattle.xw_fill.proofs.stack.Stack.place.Goals as goal
@@ -30,7 +31,7 @@ returns-clause-stands g c =
     let twin = IsTwin-entries before after (g.met.M.Placement.entries c.args.placement before after c.place.ensures) in
     let states = stands.states ++ before ∷ [] in
     let through = subst (λ items. LeadThrough is_placed items states after) (sym pushed) (lead_more is_placed old.placements.items c.args.placement stands.states before after stands.through c.place.ensures) in
-    let root = IsTwin-then (saved old.root) before after stands.ready.root twin in
+    let root = IsTwin-then (saved old.root) before after stands.root twin in
     elim c.if-not-is_forced.branch [
       | then-not-is_forced w ↦
           subst (λ s. StandsAt saved is_placed is_forced (record { root = s.root; marks = s.marks; most = s.most; placements = s.placements; is_prepared = false }) after) (sym w.self-is) (record {
@@ -40,7 +41,8 @@ returns-clause-stands g c =
             held = ap (λ items. before_choices is_forced items states) pushed
                 ∙ choices_choice is_placed is_forced old.placements.items c.args.placement stands.states before before stands.through (sym c.is_forced.ensures ∙ w.if-not-is_forced.true)
                 ∙ held_with (before_choices is_forced old.placements.items stands.states) stands.older (held_of saved old.marks) before (room_of old.marks) stands.held ∙ ap (λ held. (stands.older ++ take (length all - room_of old.marks) all) ++ held) (sym w.mark.ensures.held);
-            ready = record { root = root; marks = AreTwins-then saved w.mark.new.self before after twin w.mark.ensures.twins };
+            root = root;
+            marks = AreTwins-then saved w.mark.new.self before after twin w.mark.ensures.twins;
             prepared = λ is. absurd (false≢true is);
           })
       | else-not-is_forced w ↦
@@ -51,7 +53,8 @@ returns-clause-stands g c =
             held = ap (λ items. before_choices is_forced items states) pushed
                 ∙ choices_forced is_placed is_forced old.placements.items c.args.placement stands.states before before stands.through (sym c.is_forced.ensures ∙ w.if-not-is_forced.false)
                 ∙ stands.held;
-            ready = record { root = root; marks = AreTwins-then saved old.marks before after twin stands.ready.marks };
+            root = root;
+            marks = AreTwins-then saved old.marks before after twin stands.marks;
             prepared = λ is. absurd (false≢true is);
           })
     ]

@@ -14,7 +14,8 @@ returns-then-not-prepare-clause-stands g c =
       through = stands.through;
       older = stands.older;
       held = stands.held ∙ ap (λ held. stands.older ++ held) (sym c.widen.ensures.held ∙ ap (held_of saved) (sym (c.prepare.ensures.same c.if-not-prepare.true)));
-      ready = record { root = stands.ready.root; marks = c.prepare.ensures.twins };
+      root = stands.root;
+      marks = c.prepare.ensures.twins;
       prepared = λ is. absurd (false≢true (sym c.if-self.false ∙ is));
     }
 
@@ -31,6 +32,7 @@ returns-clause-stands g c =
       through = stands.through;
       older = older;
       held = held_fewer choices stands.older held (room_of marks - 1) (stands.held ∙ ap (λ held. stands.older ++ held) (sym c.widen.ensures.held)) ∙ ap (λ latest. older ++ latest) (sym (c.prepare.ensures.held c.if-not-prepare.false));
-      ready = record { root = stands.ready.root; marks = c.prepare.ensures.twins };
+      root = stands.root;
+      marks = c.prepare.ensures.twins;
       prepared = λ is. c.prepare.ensures.free c.if-not-prepare.false;
     }

@@ -6,7 +6,8 @@ use Rattle.xw_fill.specs.Marks.{held_of, AreTwins}
 use Rattle.xw_feas.specs.Snapshot.{IsTwin}
 use Rattle.xw_fill.specs.Position.{DiffersInEntries}
 use Rattle.xw_fill.specs.Inner.Stack.{before_choices, AreForced, LeadThrough}
-use Rattle.xw_fill.proofs.MarksLemmas.{IsTwin-entries, IsTwin-then, AreTwins-then}
+use Rattle.xw_feas.proofs.SnapshotLemmas.{IsTwin-then}
+use Rattle.xw_fill.proofs.MarksLemmas.{IsTwin-entries, AreTwins-then}
 use Rattle.xw_fill.proofs.StackLemmas.{parted, on_more, on_choice, on_taken, on_differs, on_none, lead_differs, marked_some, choices_empty, stands_empty}
 use Rattle.xw_fill.proofs.stack.Stack.retreat.Goals as goal
 use Rattle.xw_fill.proofs.stack.Stack.retreat.Goals.{In_default, Then-not-is_forced}
@@ -97,10 +98,8 @@ returns-then-not-is_forced-clause-stands g c =
       through = subst (LeadThrough g.M.Placement.is_placed c.pop.new.self.items last.left) (sym here.0) last.through;
       older = here.1.0;
       held = here.1.1 ∙ ap (λ marks. here.1.0 ++ held_of saved marks) (sym invariant.marks);
-      ready = record {
-        root = subst (λ root. IsTwin (saved root) now) (sym invariant.root) (IsTwin-then (saved c.args.self.now.root) old now c.requires.stands.ready.root twin);
-        marks = subst (λ marks. AreTwins saved marks now) (sym invariant.marks) (marks_at g c);
-      };
+      root = subst (λ root. IsTwin (saved root) now) (sym invariant.root) (IsTwin-then (saved c.args.self.now.root) old now c.requires.stands.root twin);
+      marks = subst (λ marks. AreTwins saved marks now) (sym invariant.marks) (marks_at g c);
       prepared = λ is. absurd (false≢true (sym invariant.unprepared ∙ is));
     }
 
@@ -143,10 +142,9 @@ returns-clause-stands g c =
     let twins = subst (λ engine. AreTwins saved c.back-is_marked.new.self (g.E.Feasible.state engine)) (c.back-is_marked.ensures.engine_same unmarked) c.back-is_marked.ensures.twins in
     let held = ap (held_of saved) invariant.marks ∙ ap (held_of saved) (c.back-is_marked.ensures.marks_same unmarked) ∙ c.back-is_marked.ensures.none unmarked in
     let items = sym (append-nil c.pop.new.self.items) ∙ sym c.in_default.ensures.items ∙ none_left g c in
-    stands_empty saved g.M.Placement.is_placed g.M.Placement.forced (record { root = c.loop-last.self.root; marks = c.loop-last.self.marks; most = c.loop-last.self.most; placements = c.pop.new.self; is_prepared = c.loop-last.self.is_prepared }) now items held invariant.unprepared (record {
-      root = subst (λ root. IsTwin (saved root) now) (sym invariant.root) (IsTwin-then (saved c.args.self.now.root) old now c.requires.stands.ready.root twin);
-      marks = subst (λ marks. AreTwins saved marks now) (sym invariant.marks) (AreTwins-then saved c.back-is_marked.new.self old now twin twins);
-    })
+    stands_empty saved g.M.Placement.is_placed g.M.Placement.forced (record { root = c.loop-last.self.root; marks = c.loop-last.self.marks; most = c.loop-last.self.most; placements = c.pop.new.self; is_prepared = c.loop-last.self.is_prepared }) now items held invariant.unprepared
+    (subst (λ root. IsTwin (saved root) now) (sym invariant.root) (IsTwin-then (saved c.args.self.now.root) old now c.requires.stands.root twin))
+    (subst (λ marks. AreTwins saved marks now) (sym invariant.marks) (AreTwins-then saved c.back-is_marked.new.self old now twin twins))
 
 pub returns-clause-same : goal.returns-clause-same
 returns-clause-same g c = λ none.

@@ -4,7 +4,8 @@ use Rattle.std.proofs.lemmas.Bool.{false≢true}
 use Rattle.xw_fill.specs.Marks.{held_of}
 use Rattle.xw_fill.specs.Position.{DiffersInEntries}
 use Rattle.xw_fill.specs.Inner.Stack.{before_choices, LeadThrough}
-use Rattle.xw_fill.proofs.MarksLemmas.{IsTwin-entries, IsTwin-then, AreTwins-then}
+use Rattle.xw_feas.proofs.SnapshotLemmas.{IsTwin-then}
+use Rattle.xw_fill.proofs.MarksLemmas.{IsTwin-entries, AreTwins-then}
 use Rattle.xw_fill.proofs.StackLemmas.{choices_choice, lead_more, held_kept, left_by_pop}
 use Rattle.xw_fill.proofs.StateLemmas.{DiffersInEntries-itself}
 use Rattle.xw_fill.proofs.stack.Stack.try_place.Goals as goal
@@ -31,7 +32,8 @@ returns-then-is_err-clause-stands g c =
       through = subst (λ placements. LeadThrough g.M.Placement.is_placed placements stands.states (g.E.Feasible.state c.args.engine.now)) (sym kept) stands.through;
       older = stands.older;
       held = ap (λ placements. before_choices g.M.Placement.forced placements stands.states) kept ∙ stands.held;
-      ready = record { root = stands.ready.root; marks = stands.ready.marks };
+      root = stands.root;
+      marks = stands.marks;
       prepared = stands.prepared;
     }
 
@@ -48,7 +50,8 @@ returns-in-Some-clause-stands g c =
       through = subst (λ placements. LeadThrough g.M.Placement.is_placed placements stands.states before) (sym left) stands.through;
       older = stands.older;
       held = ap (λ placements. before_choices g.M.Placement.forced placements stands.states) left ∙ stands.held;
-      ready = record { root = stands.ready.root; marks = stands.ready.marks };
+      root = stands.root;
+      marks = stands.marks;
       prepared = stands.prepared;
     })
 
@@ -85,9 +88,7 @@ returns-clause-stands g c =
       held = ap (λ items. before_choices is_forced items states) pushed
           ∙ choices_choice is_placed is_forced ready.placements.items c.args.placement stands.states before before stands.through (c.prepare.ensures.choice c.if-not-prepare.false)
           ∙ held_kept (before_choices is_forced ready.placements.items stands.states) stands.older (held_of saved ready.marks) (held_of saved c.keep.new.self) before stands.held (c.keep.ensures.held before free);
-      ready = record {
-        root = IsTwin-then (saved ready.root) before after stands.ready.root twin;
-        marks = AreTwins-then saved c.keep.new.self before after twin (c.keep.ensures.twins before stands.ready.marks);
-      };
+      root = IsTwin-then (saved ready.root) before after stands.root twin;
+      marks = AreTwins-then saved c.keep.new.self before after twin (c.keep.ensures.twins before free stands.marks);
       prepared = λ is. absurd (false≢true is);
     }

@@ -1,5 +1,6 @@
 use Rattle.std.proofs.Common.{◌≡◌, length, refl, sym, ap, ◌∙◌, subst}
 use Rattle.xw_feas.specs.State.{State}
+use Rattle.xw_feas.proofs.SnapshotLemmas.{CanSave-twin}
 use Rattle.xw_net.specs.Net.{sets_of}
 use Rattle.xw_net.specs.declared.net.Net.{Net}
 use Rattle.xw_live.specs.Engine.{IsKept}
@@ -20,11 +21,11 @@ invariant_of-self c =
     let twin = c.requires.twin in
     record {
       kept = subst (λ (state : State). IsKept state c.swap.new.x) (sym c.exchange.ensures.now) (kept_moved refl c.swap.ensures.x_after (kept_same kept.grid kept.net (sym twin.words) kept.kept));
-      same_cells = live.same_cells ∙ same_sets saved (state_of live) twin live.net kept.net live.kept kept.kept ∙ sym (ap (λ (net : Net). length (sets_of net)) c.swap.ensures.x_after);
+      same_cells = live.same_cells ∙ same_sets saved (state_of live) (CanSave-twin saved (state_of live) twin) live.net kept.net live.kept kept.kept ∙ sym (ap (λ (net : Net). length (sets_of net)) c.swap.ensures.x_after);
       same_room = live.same_room;
     }
 
 pub invariant_of-snapshot : goal.invariant_of-snapshot
 invariant_of-snapshot c =
     let live = c.args.self.now in
-    record { kept = kept_moved c.exchange.ensures.before c.swap.ensures.y_after (kept_same live.position.grid live.net c.requires.twin.words live.kept) }
+    record { kept = kept_moved c.exchange.ensures.before c.swap.ensures.y_after (kept_same live.position.grid live.net c.requires.twin.words live.kept); same_least = c.args.snapshot.now.same_least }

@@ -1,4 +1,4 @@
-use Rattle.std.proofs.Common.{sym, ap, subst}
+use Rattle.std.proofs.Common.{◌∙◌, sym, ap, subst}
 use Rattle.xw_grid.specs.Grid.{Grid}
 use Rattle.xw_live.specs.Engine.{IsKept}
 use Rattle.xw_live.specs.Live.{state_of}
@@ -12,4 +12,5 @@ invariant_of-result c =
     record {
       kept = kept_same c.in-Ok.grid c.in_ok-net.net (sym (ap (λ bank. bank.words) c.of.ensures))
           (subst (λ (grid : Grid). IsKept (record { grid = grid; words = c.args.self.now.position.bank.words }) c.in_ok-net.net) (sym c.in-Ok.ensures.ok) copied);
+      same_least = c.least.ensures.least ∙ sym (ap (λ bank. bank.words.least) c.of.ensures);
     }

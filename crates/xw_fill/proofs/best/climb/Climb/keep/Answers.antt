@@ -2,7 +2,7 @@ use Rattle.std.proofs.Common.{sym, subst, ◌∙◌}
 use Rattle.xw_feas.specs.Snapshot.{IsTwin}
 use Rattle.xw_fill.specs.NamedFill.{flags}
 use Rattle.xw_fill.specs.Inner.Climbing.{IsClimbing}
-use Rattle.xw_fill.proofs.MarksLemmas.{IsTwin-then, IsTwin-turned}
+use Rattle.xw_feas.proofs.SnapshotLemmas.{IsTwin-then, IsTwin-turned, CanSave-twin}
 use Rattle.xw_fill.proofs.ClimbLemmas.{filled_at_twin, found_more}
 use Rattle.xw_fill.proofs.best.climb.Climb.keep.Goals as goal
 
@@ -11,22 +11,20 @@ save-requires g c =
     let climb = c.args.self.now in
     let start = g.E.Searchable.saved climb.start in
     let now = g.E.Feasible.state c.args.engine.now in
-    record { twin = IsTwin-then (g.E.Searchable.saved climb.best) start now c.requires.climbing.best (filled_at_twin (flags climb.plan.named.items) start now c.args.grade c.requires.filled) }
+    CanSave-twin _ now (IsTwin-then (g.E.Searchable.saved climb.best) start now c.requires.climbing.best (filled_at_twin (flags climb.prober.plan.named.items) start now c.args.grade c.requires.filled))
 
 pub exchange-requires : goal.exchange-requires
 exchange-requires g c =
     let climb = c.args.self.now in
-    record { twin = filled_at_twin (flags climb.plan.named.items) (g.E.Searchable.saved climb.start) (g.E.Feasible.state c.args.engine.now) c.args.grade c.requires.filled }
+    record { twin = filled_at_twin (flags climb.prober.plan.named.items) (g.E.Searchable.saved climb.start) (g.E.Feasible.state c.args.engine.now) c.args.grade c.requires.filled }
 
 pub save-requires-2 : goal.save-requires-2
 save-requires-2 g c =
     let climb = c.args.self.now in
     let start = g.E.Searchable.saved climb.start in
     let now = g.E.Feasible.state c.args.engine.now in
-    let twin = IsTwin-turned start now (filled_at_twin (flags climb.plan.named.items) start now c.args.grade c.requires.filled) in
-    record {
-      twin = subst (λ s. IsTwin s (g.E.Feasible.state c.exchange.new.self)) (sym c.exchange.ensures.saved) (subst (IsTwin now) (sym c.exchange.ensures.now) twin);
-    }
+    let twin = IsTwin-turned start now (filled_at_twin (flags climb.prober.plan.named.items) start now c.args.grade c.requires.filled) in
+    CanSave-twin _ _ (subst (λ s. IsTwin s (g.E.Feasible.state c.exchange.new.self)) (sym c.exchange.ensures.saved) (subst (IsTwin now) (sym c.exchange.ensures.now) twin))
 
 pub returns-clause-climbing : goal.returns-clause-climbing
 returns-clause-climbing g c =

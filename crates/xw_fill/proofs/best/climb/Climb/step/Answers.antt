@@ -1,8 +1,9 @@
-use Rattle.std.proofs.Common.{arith, sym, ◌∙◌, subst}
+use Rattle.std.proofs.Common.{ap, arith, sym, ◌∙◌, refl, subst}
 use Rattle.xw_fill.specs.NamedFill.{flags}
-use Rattle.xw_fill.specs.Inner.Climbing.{IsClimbing, IsProbed}
-use Rattle.xw_fill.specs.Best.{IsFilledAt}
-use Rattle.xw_fill.proofs.ClimbLemmas.{bounded, climbed_same, climbed_bound, climbed_found}
+use Rattle.xw_fill.specs.Inner.Climbing.{IsClimbing, IsProbed, grade_above}
+use Rattle.xw_fill.specs.Best.{HasNoneAt, IsFilledAt}
+use Rattle.xw_fill.specs.declared.named_lights.plan.Plan.{Plan}
+use Rattle.xw_fill.proofs.ClimbLemmas.{probed, bounded, climbed_same, climbed_bound, climbed_found, climbed-then}
 use Rattle.xw_fill.proofs.best.climb.Climb.step.Goals as goal
 
 pub returns-in-NoFill-clause-climbing : goal.returns-in-NoFill-clause-climbing
@@ -10,46 +11,73 @@ returns-in-NoFill-clause-climbing g c =
     let saved = g.E.Searchable.saved in
     let climb = c.args.self.now in
     let start = g.E.Feasible.state c.args.engine.now in
-    let after = g.E.Feasible.state c.probe_at.new.engine in
-    let is = subst (IsProbed (flags climb.plan.named.items) start c.args.grade after) c.in-NoFill.is c.in_ok-probe.ensures.ok in
-    subst (IsClimbing saved _) (sym is.1) (bounded saved climb c.args.grade start c.requires.climbing (omega (arith, c.requires.below, c.requires.climbing.bound.within)) is.0)
+    let after = g.E.Feasible.state c.probe.new.engine in
+    let is = subst (IsProbed (flags climb.prober.plan.named.items) start c.args.grade after) c.in-NoFill.is c.in_ok-probe.ensures.ok in
+    let climbing = probed saved climb c.probe.new.self start c.requires.climbing c.probe.ensures.prober c.probe.ensures.plan in
+    let none = subst (λ (plan : Plan). HasNoneAt (flags plan.named.items) start c.args.grade) (sym c.probe.ensures.plan) is.0 in
+    subst (IsClimbing saved _) (sym is.1) (bounded saved (record climb { prober = c.probe.new.self }) c.args.grade start climbing (omega (arith, c.requires.below, c.requires.climbing.bound.within)) none)
 
 pub returns-in-NoFill-clause-climbed : goal.returns-in-NoFill-clause-climbed
 returns-in-NoFill-clause-climbed g c =
-    climbed_bound g.E.Searchable.saved c.args.self.now c.args.grade c.args.allowance.now c.probe_at.new.allowance c.requires.below c.probe_at.ensures.counted.made c.probe_at.ensures.counted.limit
+    let saved = g.E.Searchable.saved in
+    let climb = c.args.self.now in
+    let probed = record climb { prober = c.probe.new.self } in
+    let from = c.args.allowance.now in
+    let to = c.probe.new.allowance in
+    climbed-then saved climb probed _ from from to (climbed_same saved climb c.probe.new.self from from c.probe.ensures.plan c.probe.ensures.least (omega arith) refl)
+    (climbed_bound saved probed c.args.grade from to c.requires.below c.probe.ensures.counted.made c.probe.ensures.counted.limit)
 
 pub keep-requires-clause-climbing : goal.keep-requires-clause-climbing
-keep-requires-clause-climbing g c = subst (IsClimbing g.E.Searchable.saved c.args.self.now) (sym c.requires.climbing.began) c.requires.climbing
+keep-requires-clause-climbing g c =
+    let saved = g.E.Searchable.saved in
+    let climb = c.args.self.now in
+    let start = g.E.Feasible.state c.args.engine.now in
+    subst (IsClimbing saved (record climb { prober = c.probe.new.self })) (sym c.requires.climbing.began) (probed saved climb c.probe.new.self start c.requires.climbing c.probe.ensures.prober c.probe.ensures.plan)
+
+pub keep-requires-clause-better : goal.keep-requires-clause-better
+keep-requires-clause-better g c =
+    let climb = c.args.self.now in
+    let start = g.E.Feasible.state c.args.engine.now in
+    let after = g.E.Feasible.state c.probe.new.engine in
+    let is = subst (IsProbed (flags climb.prober.plan.named.items) start c.args.grade after) c.in-Filled.is c.in_ok-probe.ensures.ok in
+    omega (arith, is.0, c.requires.new, ap (grade_above climb.found) c.probe.ensures.least)
 
 pub keep-requires-clause-filled : goal.keep-requires-clause-filled
 keep-requires-clause-filled g c =
-    let named = flags c.args.self.now.plan.named.items in
+    let climb = c.args.self.now in
     let start = g.E.Feasible.state c.args.engine.now in
-    let after = g.E.Feasible.state c.probe_at.new.engine in
-    let is = subst (IsProbed named start c.args.grade after) c.in-Filled.is c.in_ok-probe.ensures.ok in
-    subst (λ state. IsFilledAt named state after c.in-Filled.found) (sym c.requires.climbing.began) is.1
+    let after = g.E.Feasible.state c.probe.new.engine in
+    let is = subst (IsProbed (flags climb.prober.plan.named.items) start c.args.grade after) c.in-Filled.is c.in_ok-probe.ensures.ok in
+    subst (λ state. IsFilledAt (flags c.probe.new.self.plan.named.items) state after c.in-Filled.found) (sym c.requires.climbing.began)
+    (subst (λ (plan : Plan). IsFilledAt (flags plan.named.items) start after c.in-Filled.found) (sym c.probe.ensures.plan) is.1)
 
 pub returns-in-Filled-clause-unchanged : goal.returns-in-Filled-clause-unchanged
 returns-in-Filled-clause-unchanged g c = c.keep.ensures.back ∙ c.requires.climbing.began
 
 pub returns-in-Filled-clause-climbed : goal.returns-in-Filled-clause-climbed
 returns-in-Filled-clause-climbed g c =
+    let saved = g.E.Searchable.saved in
+    let climb = c.args.self.now in
+    let probed = record climb { prober = c.probe.new.self } in
+    let from = c.args.allowance.now in
+    let to = c.probe.new.allowance in
     let start = g.E.Feasible.state c.args.engine.now in
-    let after = g.E.Feasible.state c.probe_at.new.engine in
-    let is = subst (IsProbed (flags c.args.self.now.plan.named.items) start c.args.grade after) c.in-Filled.is c.in_ok-probe.ensures.ok in
-    let counted = c.probe_at.ensures.counted in
-    climbed_found g.E.Searchable.saved c.args.self.now c.keep.new.self c.in-Filled.found c.args.allowance.now c.probe_at.new.allowance c.keep.ensures.plan c.keep.ensures.least c.keep.ensures.bound c.keep.ensures.found (omega (arith, is.0, c.requires.new)) counted.made counted.limit
-    (λ none. c.keep.ensures.best ∙ counted.idle none ∙ sym (c.keep.ensures.climbing.began ∙ c.keep.ensures.back ∙ c.requires.climbing.began))
+    let after = g.E.Feasible.state c.probe.new.engine in
+    let is = subst (IsProbed (flags climb.prober.plan.named.items) start c.args.grade after) c.in-Filled.is c.in_ok-probe.ensures.ok in
+    let counted = c.probe.ensures.counted in
+    climbed-then saved climb probed c.keep.new.self from from to (climbed_same saved climb c.probe.new.self from from c.probe.ensures.plan c.probe.ensures.least (omega arith) refl)
+    (climbed_found saved probed c.keep.new.self c.in-Filled.found from to c.keep.ensures.prober c.keep.ensures.bound c.keep.ensures.found (omega (arith, is.0, c.requires.new, ap (grade_above climb.found) c.probe.ensures.least)) counted.made counted.limit
+    (λ none. c.keep.ensures.best ∙ counted.idle none ∙ sym (c.keep.ensures.climbing.began ∙ c.keep.ensures.back ∙ c.requires.climbing.began)))
 
 pub returns-in-Limit-clause-climbing : goal.returns-in-Limit-clause-climbing
 returns-in-Limit-clause-climbing g c =
     let saved = g.E.Searchable.saved in
     let climb = c.args.self.now in
     let start = g.E.Feasible.state c.args.engine.now in
-    let after = g.E.Feasible.state c.probe_at.new.engine in
-    let is = subst (IsProbed (flags climb.plan.named.items) start c.args.grade after) c.in-Limit.is c.in_ok-probe.ensures.ok in
-    subst (IsClimbing saved climb) (sym is) c.requires.climbing
+    let after = g.E.Feasible.state c.probe.new.engine in
+    let is = subst (IsProbed (flags climb.prober.plan.named.items) start c.args.grade after) c.in-Limit.is c.in_ok-probe.ensures.ok in
+    subst (IsClimbing saved (record climb { prober = c.probe.new.self })) (sym is) (probed saved climb c.probe.new.self start c.requires.climbing c.probe.ensures.prober c.probe.ensures.plan)
 
 pub returns-in-Limit-clause-climbed : goal.returns-in-Limit-clause-climbed
 returns-in-Limit-clause-climbed g c =
-    climbed_same g.E.Searchable.saved c.args.self.now c.args.allowance.now c.probe_at.new.allowance c.probe_at.ensures.counted.made c.probe_at.ensures.counted.limit
+    climbed_same g.E.Searchable.saved c.args.self.now c.probe.new.self c.args.allowance.now c.probe.new.allowance c.probe.ensures.plan c.probe.ensures.least c.probe.ensures.counted.made c.probe.ensures.counted.limit
