@@ -1,5 +1,4 @@
 pub mod Escape
-pub mod Refusal
 pub mod Text
 pub mod Token
 pub mod Show

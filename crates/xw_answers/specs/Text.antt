@@ -14,8 +14,10 @@ use Rattle.xw_words.specs.declared.fault.WordFault.TheVariants as words
 use Rattle.xw_commands.specs.Names.{direction_name}
 use Rattle.xw_commands.specs.declared.command.SyntaxFault.{SyntaxFault}
 use Rattle.xw_commands.specs.declared.command.SyntaxFault.TheVariants as syntax
-use Rattle.xw_answers.specs.declared.refusal.Refusal.{Refusal}
-use Rattle.xw_answers.specs.declared.refusal.Refusal.TheVariants as refusals
+use Rattle.xw_feas.specs.declared.edit.Refusal.{Refusal}
+use Rattle.xw_feas.specs.declared.edit.Refusal.TheVariants as edits
+use Rattle.xw_answers.specs.declared.refusal.CommandRefusal.{CommandRefusal}
+use Rattle.xw_answers.specs.declared.refusal.CommandRefusal.TheVariants as refusals
 
 -- words with a space between them, and an LF at the end
 abbrev pub line_of : List (List ℕ) → List ℕ
@@ -62,18 +64,22 @@ syntax_fault syntax.LineTooLong = codes "LineTooLong"
 syntax_fault syntax.Command = codes "Command"
 syntax_fault syntax.Arguments = codes "Arguments"
 
--- the name of a refusal, without the location of the fault
-abbrev pub name_of : Refusal → List ℕ
+-- the name of a refusal of the engine, without the location of the fault
+abbrev pub engine_refusal : Refusal → List ℕ
+engine_refusal (edits.Word fault) = word_fault fault
+engine_refusal (edits.Grid fault) = grid_fault fault
+engine_refusal edits.NoLight = codes "NoLight"
+engine_refusal edits.PlaceLength = codes "PlaceLength"
+
+-- the name of the refusal of a command
+abbrev pub name_of : CommandRefusal → List ℕ
 name_of (refusals.Syntax fault) = syntax_fault fault
-name_of (refusals.Word fault) = word_fault fault
-name_of (refusals.Grid fault) = grid_fault fault
-name_of refusals.NoLight = codes "NoLight"
-name_of refusals.PlaceLength = codes "PlaceLength"
+name_of (refusals.Engine refusal) = engine_refusal refusal
 name_of refusals.NulByte = codes "NulByte"
 name_of refusals.Escape = codes "Escape"
 name_of refusals.Alive = codes "Alive"
 
-abbrev pub refused : Refusal → List ℕ
+abbrev pub refused : CommandRefusal → List ℕ
 refused refusal = line_of (codes "no" ∷ name_of refusal ∷ [])
 
 -- ---- lights and cells

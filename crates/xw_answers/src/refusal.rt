@@ -1,38 +1,48 @@
 //! The reasons for which a command is refused, and their names.
 ghost use Rattle.std.specs.Prelude.{◌≡◌};
-ghost use Rattle.xw_answers.specs.Text.{word_fault, grid_fault, syntax_fault, name_of};
+ghost use Rattle.xw_answers.specs.Text.{word_fault, grid_fault, syntax_fault, engine_refusal, name_of};
 
 use xw_commands::command::SyntaxFault;
-use xw_feas::edit::Refusal as EditRefusal;
+use xw_feas::edit::Refusal;
 use xw_grid::GridFault;
 use xw_words::WordFault;
 
-/// Why a command was refused.
+/// Why a command was refused. A refused command changes nothing.
 #[derive(Clone, Copy, Debug, PartialEq, Eq)]
-pub enum Refusal {
+pub enum CommandRefusal {
+    /// The line is not a command.
     Syntax(SyntaxFault),
-    Word(WordFault),
-    Grid(GridFault),
-    NoLight,
-    PlaceLength,
+    /// A refusal of an edit or a query of the engine.
+    Engine(Refusal),
+    /// The text has a NUL.
     NulByte,
+    /// The spelling of the text has a wrong escape.
     Escape,
+    /// The light has a feasible word.
     Alive,
 }
 
 /// Returns the name of a refusal. The name does not include the location of the fault.
-pub fn name(refusal: Refusal) -> &'static str
+pub fn name(refusal: CommandRefusal) -> &'static str
     ensures { result.now ≡ name_of refusal }
 {
     match refusal {
-        Refusal::Syntax(fault) => syntax_name(fault),
+        CommandRefusal::Syntax(fault) => syntax_name(fault),
+        CommandRefusal::Engine(refusal) => engine_name(refusal),
+        CommandRefusal::NulByte => "NulByte",
+        CommandRefusal::Escape => "Escape",
+        CommandRefusal::Alive => "Alive",
+    }
+}
+
+fn engine_name(refusal: Refusal) -> &'static str
+    ensures { result.now ≡ engine_refusal refusal }
+{
+    match refusal {
         Refusal::Word(fault) => word_name(fault),
         Refusal::Grid(fault) => grid_name(fault),
         Refusal::NoLight => "NoLight",
         Refusal::PlaceLength => "PlaceLength",
-        Refusal::NulByte => "NulByte",
-        Refusal::Escape => "Escape",
-        Refusal::Alive => "Alive",
     }
 }
 
@@ -46,7 +56,8 @@ fn syntax_name(fault: SyntaxFault) -> &'static str
     }
 }
 
-fn word_name(fault: WordFault) -> &'static str
+/// Returns the name of a fault of a word or the dictionary.
+pub fn word_name(fault: WordFault) -> &'static str
     ensures { result.now ≡ word_fault fault }
 {
     match fault {
@@ -73,40 +84,25 @@ fn grid_name(fault: GridFault) -> &'static str
     }
 }
 
-impl From<EditRefusal> for Refusal {
+impl From<Refusal> for CommandRefusal {
     ghost use Rattle.std.specs.Prelude.{◌≡◌};
-    ghost use Rattle.xw_answers.specs.Refusal.{refusal_of};
+    ghost use Rattle.xw_answers.specs.declared.refusal.CommandRefusal.TheVariants.{Engine};
 
-    ghost from_gives = { λ edit refusal. refusal ≡ refusal_of edit };
+    ghost from_gives = { λ edit refusal. refusal ≡ Engine edit };
 
-    fn from(refusal: EditRefusal) -> Refusal {
-        match refusal {
-            EditRefusal::Word(fault) => Refusal::Word(fault),
-            EditRefusal::Grid(fault) => Refusal::Grid(fault),
-            EditRefusal::NoLight => Refusal::NoLight,
-            EditRefusal::PlaceLength => Refusal::PlaceLength,
-        }
+    fn from(refusal: Refusal) -> CommandRefusal {
+        CommandRefusal::Engine(refusal)
     }
 }
 
-impl From<GridFault> for Refusal {
+impl From<GridFault> for CommandRefusal {
     ghost use Rattle.std.specs.Prelude.{◌≡◌};
-    ghost use Rattle.xw_answers.specs.declared.refusal.Refusal.TheVariants.{Grid};
+    ghost use Rattle.xw_feas.specs.declared.edit.Refusal.TheVariants.{Grid};
+    ghost use Rattle.xw_answers.specs.declared.refusal.CommandRefusal.TheVariants.{Engine};
 
-    ghost from_gives = { λ fault refusal. refusal ≡ Grid fault };
+    ghost from_gives = { λ fault refusal. refusal ≡ Engine (Grid fault) };
 
-    fn from(fault: GridFault) -> Refusal {
-        Refusal::Grid(fault)
-    }
-}
-
-impl From<WordFault> for Refusal {
-    ghost use Rattle.std.specs.Prelude.{◌≡◌};
-    ghost use Rattle.xw_answers.specs.declared.refusal.Refusal.TheVariants.{Word};
-
-    ghost from_gives = { λ fault refusal. refusal ≡ Word fault };
-
-    fn from(fault: WordFault) -> Refusal {
-        Refusal::Word(fault)
+    fn from(fault: GridFault) -> CommandRefusal {
+        CommandRefusal::Engine(Refusal::Grid(fault))
     }
 }

@@ -9,7 +9,7 @@ ghost use Rattle.xw_answers.specs.Text.{line_of, number_line, accepted, refused,
 
 use crate::answer_line::{Token, write_line};
 use crate::lookup::light_named;
-use crate::refusal::{self, Refusal};
+use crate::refusal::{self, CommandRefusal};
 use arrayvec::ArrayVec;
 use std::marker::Model;
 use xw_commands::names::Named;
@@ -26,7 +26,7 @@ pub fn write_accepted<W: Sink>(sink: &mut W) -> Result<(), WriteFailed>
 }
 
 /// Writes the line `no` with the name of the refusal.
-pub fn write_refused<W: Sink>(sink: &mut W, refusal: Refusal) -> Result<(), WriteFailed>
+pub fn write_refused<W: Sink>(sink: &mut W, refusal: CommandRefusal) -> Result<(), WriteFailed>
     ensures { Sends W.transcript W.failures sink.old sink.new result (refused refusal) }
 {
     write_line(

@@ -11,7 +11,7 @@ use Rattle.xw_lines.specs.declared.outcome.Step.{Step}
 use Rattle.xw_session.specs.Answer.{Answers}
 use Rattle.xw_session.specs.Record.{record_lines}
 use Rattle.xw_session.specs.Resuming.{MayBeDone, Resumes, refused_line}
-use Rattle.xw_session.specs.State.{State}
+use Rattle.xw_session.specs.State.{SessionState}
 use Rattle.xw_session.specs.declared.resuming.Stop.{Stop}
 use Rattle.xw_session.specs.declared.resuming.Stop.TheVariants as stops
 use Rattle.xw_files.specs.Formats.{HasFormat, IsFirstFault, IsRead, written_as}
@@ -22,7 +22,7 @@ use Rattle.xw_c.specs.declared.status.Status.TheVariants.{Accepted, Refused, Mem
 
 -- a session and the answer to the last call
 pub record Shown : Type 0 where
-  pub state : State
+  pub state : SessionState
   pub answer : List ℕ
 
 -- ---- opening

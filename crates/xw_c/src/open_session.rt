@@ -10,7 +10,7 @@ ghost use Rattle.xw_c.specs.OpenSession.{Shown, HasPuzzle, IsOpened, IsMisread, 
 use crate::status::Status;
 use std::alloc::{AllocError, Global};
 use std::marker::Model;
-use xw_answers::refusal::{self, Refusal};
+use xw_answers::refusal::{self, CommandRefusal};
 use xw_files::{Kind, Puzzle, ReadFault, WriteFault, kind_of, read_as, write_as};
 use xw_journal::file::{is_cut, kept};
 use xw_live::Live;
@@ -105,7 +105,7 @@ fn replayed(is_cut: bool, refused: usize) -> Status
 }
 
 /// The report of a line that is not a command.
-fn stop_line(alloc: Global, number: usize, refusal: Refusal) -> Result<String, AllocError>
+fn stop_line(alloc: Global, number: usize, refusal: CommandRefusal) -> Result<String, AllocError>
     ensures { IfOk result (λ line. line.bytes.items ≡ refused_line record_name number refusal) }
 {
     let name = refusal::name(refusal);

@@ -9,12 +9,12 @@ use Rattle.xw_lines.specs.declared.outcome.RunEnd.{RunEnd}
 use Rattle.xw_lines.specs.declared.outcome.RunEnd.TheVariants.{Done, ReadFailed, WriteFailed, Stopped, Endless, Memory}
 use Rattle.xw_lines.specs.declared.outcome.Step.{Step}
 use Rattle.xw_session.specs.Opening.{empty_puzzle, opened_on}
-use Rattle.xw_session.specs.State.{State}
+use Rattle.xw_session.specs.State.{SessionState}
 use Rattle.xw_arguments.specs.declared.arguments.SessionFiles.{SessionFiles}
-use Rattle.xw_puzzle_files.specs.declared.failure.Failure.{Failure}
-use Rattle.xw_puzzle_files.specs.declared.failure.Failure.TheVariants as failures
-use Rattle.xw_puzzle_files.specs.Desk.{Moment}
-use Rattle.xw_puzzle_files.specs.Files.{IfNamed, IsUnread}
+use Rattle.xw_desk.specs.declared.failure.Failure.{Failure}
+use Rattle.xw_desk.specs.declared.failure.Failure.TheVariants as failures
+use Rattle.xw_desk.specs.Desk.{Moment}
+use Rattle.xw_desk.specs.Files.{IfNamed, IsUnread}
 use Rattle.xw_cli.specs.Answered.{AnswersInput}
 use Rattle.xw_cli.specs.Performed.{HasBoth, HasPuzzle, HasWords, IsOpened, IsUnopened}
 
@@ -52,7 +52,7 @@ has_none : (files : SessionFiles) (words : Dictionary) (old new : Moment) → Ha
 has_none files words old new has from =
     record { mid = new; has_words = has; has_puzzle = subst (λ (o : Option (Bor (List ℕ))). HasPuzzle o empty_puzzle new new) (sym from) (refl, refl) }
 
-pub opened_with : (result : Result State Failure) (files : SessionFiles) (words : Dictionary) (file : Bor (List ℕ)) (old mid new : Moment) → HasWords files.dict words old mid → files.from_file ≡ Some file
+pub opened_with : (result : Result SessionState Failure) (files : SessionFiles) (words : Dictionary) (file : Bor (List ℕ)) (old mid new : Moment) → HasWords files.dict words old mid → files.from_file ≡ Some file
     → IfOk result (λ state. (puzzle : PuzzleShown) × HasPuzzle (Some file) puzzle mid new × (state ≡ opened_on words puzzle)) → IfOk result (λ state. IsOpened files state old new)
 opened_with (Ok state) files words file old mid new has from (puzzle, is_found, is) =
     record { words = words; puzzle = puzzle; has_both = has_file files words puzzle file old mid new has from is_found; opened = is }
@@ -67,7 +67,7 @@ unopened_with (Err failure) files words file old mid new has from (inl unread) =
 unopened_with (Err failure) files words file old mid new has from (inr (memory, puzzle, is_found)) =
     inr (inr (record { words = words; puzzle = puzzle; has_both = has_file files words puzzle file old mid new has from is_found; memory = memory }))
 
-pub opened_empty : (result : Result State Failure) (files : SessionFiles) (words : Dictionary) (old new : Moment) → HasWords files.dict words old new → files.from_file ≡ None
+pub opened_empty : (result : Result SessionState Failure) (files : SessionFiles) (words : Dictionary) (old new : Moment) → HasWords files.dict words old new → files.from_file ≡ None
     → IfOk result (λ state. state ≡ opened_on words empty_puzzle) → IfOk result (λ state. IsOpened files state old new)
 opened_empty (Ok state) files words old new has from is = record { words = words; puzzle = empty_puzzle; has_both = has_none files words old new has from; opened = is }
 opened_empty (Err failure) files words old new has from is = tt

@@ -7,7 +7,7 @@ use Rattle.xw_lines.specs.Spoken.{BreaksOff}
 use Rattle.xw_lines.specs.declared.outcome.RunEnd.{RunEnd}
 use Rattle.xw_lines.specs.declared.outcome.RunEnd.TheVariants.{Done, ReadFailed, WriteFailed, Stopped, Endless, Memory}
 use Rattle.xw_lines.specs.declared.outcome.Step.{Step}
-use Rattle.xw_puzzle_files.specs.Desk.{Moment}
+use Rattle.xw_desk.specs.Desk.{Moment}
 
 -- The input was read to its end, and all its lines are answered. This number of them was refused.
 pub record AnswersAll {S : Type 0} (Answers : S → List ℕ → Step → List ℕ → S → Type 0) (refused : ℕ) (start left : S) (old new : Moment) : Type 0 where

@@ -4,16 +4,16 @@ use Rattle.xw_journal.specs.File.{first_line, form_of, is_cut, kept_lines}
 use Rattle.xw_journal.specs.declared.file.Form.{Form}
 use Rattle.xw_journal.specs.declared.file.Form.TheVariants as forms
 use Rattle.xw_lines.specs.Cut.{lines_of}
-use Rattle.xw_session.specs.State.{State}
+use Rattle.xw_session.specs.State.{SessionState}
 use Rattle.xw_disk.specs.Disk.{open_, begin, end}
 use Rattle.xw_disk.specs.declared.disk.DiskFault.{DiskFault}
-use Rattle.xw_puzzle_files.specs.declared.failure.Failure.{Failure}
-use Rattle.xw_puzzle_files.specs.declared.failure.Failure.TheVariants as failures
-use Rattle.xw_puzzle_files.specs.Desk.{Asks, Moment, ReportsIf}
-use Rattle.xw_puzzle_files.specs.Files.{IsLineFault}
+use Rattle.xw_desk.specs.declared.failure.Failure.{Failure}
+use Rattle.xw_desk.specs.declared.failure.Failure.TheVariants as failures
+use Rattle.xw_desk.specs.Desk.{Asks, Moment, ReportsIf}
+use Rattle.xw_desk.specs.Files.{IsLineFault}
 use Rattle.xw_cli.specs.declared.session_files.Refusals.{Refusals}
 use Rattle.xw_cli.specs.SessionFiles.{Replays, cut_line, file_of}
-use Rattle.xw_puzzle_files.specs.Told.{IsFaultOf}
+use Rattle.xw_desk.specs.Told.{IsFaultOf}
 
 -- What a journal begins with, from the bytes that its file has. If these are at most a part of the first line, it
 -- begins with the first line; if they have the first line, with the bytes up to the last line that counts; if they are
@@ -34,13 +34,13 @@ drops bytes = drops_in (form_of bytes) bytes
 
 -- The journal with this name was opened, and the lines of its bytes that count were replayed, with this result. Those
 -- that were refused are reported.
-pub record ReplaysOpened (name bytes : List ℕ) (start state : State) (result : Result Refusals Failure) (old new : Moment) : Type 0 where
+pub record ReplaysOpened (name bytes : List ℕ) (start state : SessionState) (result : Result Refusals Failure) (old new : Moment) : Type 0 where
   pub mid : Moment
   pub opens : Asks (open_ name (Ok bytes)) old mid
   pub replays : Replays name (kept_lines bytes) start state result mid new
 
 -- The lines of the journal with this name were replayed, and it was begun with this flag for syncing.
-pub record IsBegun (name bytes : List ℕ) (is_synced : Bool) (start : State) (refused : Refusals) (state : State) (old new : Moment) : Type 0 where
+pub record IsBegun (name bytes : List ℕ) (is_synced : Bool) (start : SessionState) (refused : Refusals) (state : SessionState) (old new : Moment) : Type 0 where
   pub mid : Moment
   pub replays : ReplaysOpened name bytes start state (Ok refused) old mid
   pub begun : List ℕ
@@ -48,7 +48,7 @@ pub record IsBegun (name bytes : List ℕ) (is_synced : Bool) (start : State) (r
   pub asks : Asks (begin name begun is_synced (Ok tt)) mid new
 
 -- The journal was begun. Then it is reported that lines of it were cut, exactly if some were.
-pub record HasReplayed (name : List ℕ) (is_synced : Bool) (start : State) (refused : Refusals) (state : State) (old new : Moment) : Type 0 where
+pub record HasReplayed (name : List ℕ) (is_synced : Bool) (start : SessionState) (refused : Refusals) (state : SessionState) (old new : Moment) : Type 0 where
   pub bytes : List ℕ
   pub mid : Moment
   pub is_begun : IsBegun name bytes is_synced start refused state old mid
@@ -66,16 +66,16 @@ IsNoJournal name bytes failure = ((number : ℕ) × (form_of bytes ≡ forms.Cut
 
 -- The journal with this name was opened, and its file stays as it is: the replay stopped, or its lines were replayed and
 -- it begins no journal.
-pub record IsLeft (name : List ℕ) (start : State) (failure : Failure) (old new : Moment) : Type 0 where
+pub record IsLeft (name : List ℕ) (start : SessionState) (failure : Failure) (old new : Moment) : Type 0 where
   pub bytes : List ℕ
-  pub state : State
+  pub state : SessionState
   pub why : ReplaysOpened name bytes start state (Err failure) old new
       ⊎ ((refused : Refusals) × ReplaysOpened name bytes start state (Ok refused) old new × IsNoJournal name bytes failure)
 
 -- The journal with this name was opened, its lines were replayed, and it could not be begun.
-pub record IsNotBegun (name : List ℕ) (is_synced : Bool) (start : State) (failure : Failure) (old new : Moment) : Type 0 where
+pub record IsNotBegun (name : List ℕ) (is_synced : Bool) (start : SessionState) (failure : Failure) (old new : Moment) : Type 0 where
   pub bytes : List ℕ
-  pub state : State
+  pub state : SessionState
   pub refused : Refusals
   pub mid : Moment
   pub replays : ReplaysOpened name bytes start state (Ok refused) old mid
@@ -86,9 +86,9 @@ pub record IsNotBegun (name : List ℕ) (is_synced : Bool) (start : State) (fail
   pub asks : Asks (begin name begun is_synced (Err fault)) mid new
 
 -- The journal with this name was begun, and then an allocation failed: for the report that lines were cut, or after it.
-pub record IsBegunInVain (name : List ℕ) (is_synced : Bool) (start : State) (failure : Failure) (old new : Moment) : Type 0 where
+pub record IsBegunInVain (name : List ℕ) (is_synced : Bool) (start : SessionState) (failure : Failure) (old new : Moment) : Type 0 where
   pub bytes : List ℕ
-  pub state : State
+  pub state : SessionState
   pub refused : Refusals
   pub mid : Moment
   pub is_begun : IsBegun name bytes is_synced start refused state old mid
@@ -96,7 +96,7 @@ pub record IsBegunInVain (name : List ℕ) (is_synced : Bool) (start : State) (f
   pub memory : failure ≡ failures.Memory
 
 -- why the lines of the journal with this name are not replayed, or no session begins with it
-abbrev pub IsUnreplayed : List ℕ → Bool → State → Failure → Moment → Moment → Type 0
+abbrev pub IsUnreplayed : List ℕ → Bool → SessionState → Failure → Moment → Moment → Type 0
 IsUnreplayed name is_synced start failure old new =
     IsNotOpened name failure old new
     ⊎ (IsLeft name start failure old new ⊎ (IsNotBegun name is_synced start failure old new ⊎ IsBegunInVain name is_synced start failure old new))
@@ -104,18 +104,18 @@ IsUnreplayed name is_synced start failure old new =
 -- ---- the end of a journal
 
 -- The journal with this name was to be replaced by the record of the session, and was not.
-pub record IsNotEnded (name : List ℕ) (state : State) (failure : Failure) (old new : Moment) : Type 0 where
+pub record IsNotEnded (name : List ℕ) (state : SessionState) (failure : Failure) (old new : Moment) : Type 0 where
   pub fault : DiskFault
   pub told : IsFaultOf fault name failure
   pub asks : Asks (end name (file_of state) (Err fault)) old new
 
 -- why the journal with this name is not replaced by the record: its name no longer leads to it, an allocation failed,
 -- or the disk failed
-abbrev pub IsUnended : List ℕ → State → Failure → Moment → Moment → Type 0
+abbrev pub IsUnended : List ℕ → SessionState → Failure → Moment → Moment → Type 0
 IsUnended name state failure old new =
     (((fault : DiskFault) × IsFaultOf fault name failure) × (new ≡ old)) ⊎ (((failure ≡ failures.Memory) × (new ≡ old)) ⊎ IsNotEnded name state failure old new)
 
 -- the journal with this name was replaced by the record of the session if none of its lines was refused, and otherwise
 -- stays
-abbrev pub IsEnded : List ℕ → ℕ → State → Moment → Moment → Type 0
+abbrev pub IsEnded : List ℕ → ℕ → SessionState → Moment → Moment → Type 0
 IsEnded name refused state old new = ((refused ≡ 0) × Asks (end name (file_of state) (Ok tt)) old new) ⊎ ((0 < refused) × (new ≡ old))

@@ -12,23 +12,23 @@ use Rattle.xw_lines.specs.declared.outcome.RunEnd.{RunEnd}
 use Rattle.xw_lines.specs.declared.outcome.RunEnd.TheVariants.{Stopped}
 use Rattle.xw_session.specs.Answer.{Answers}
 use Rattle.xw_session.specs.Opening.{empty_puzzle, opened_on, puzzle_of}
-use Rattle.xw_session.specs.State.{State}
+use Rattle.xw_session.specs.State.{SessionState}
 use Rattle.xw_disk.specs.Disk.{replace, compare, take_lines}
 use Rattle.xw_arguments.specs.declared.arguments.Call.{Call}
 use Rattle.xw_arguments.specs.declared.arguments.Call.TheVariants.{Edit, Convert, Check}
 use Rattle.xw_arguments.specs.declared.arguments.SessionFiles.{SessionFiles}
 use Rattle.xw_arguments.specs.Calls.{is_explained}
-use Rattle.xw_puzzle_files.specs.declared.failure.Failure.{Failure}
-use Rattle.xw_puzzle_files.specs.declared.failure.Failure.TheVariants as failures
-use Rattle.xw_puzzle_files.specs.declared.failure.Status.{Status}
-use Rattle.xw_puzzle_files.specs.declared.failure.Status.TheVariants.{Accepted}
-use Rattle.xw_puzzle_files.specs.Apart.{AreInUse, AreUnwritable, IsNotApart}
-use Rattle.xw_puzzle_files.specs.Checked.{IsCheckOf}
-use Rattle.xw_puzzle_files.specs.Desk.{Asks, Moment, ReportsIf}
-use Rattle.xw_puzzle_files.specs.Explained.{IsReported, IsTold}
-use Rattle.xw_puzzle_files.specs.Files.{IfNamed, IsFound, IsTextTold, IsUnread, IsUnwritten, IsWritten}
-use Rattle.xw_puzzle_files.specs.Status.{run_ended}
-use Rattle.xw_puzzle_files.specs.Told.{IsCannotWrite, IsReplaced}
+use Rattle.xw_desk.specs.declared.failure.Failure.{Failure}
+use Rattle.xw_desk.specs.declared.failure.Failure.TheVariants as failures
+use Rattle.xw_desk.specs.declared.failure.ExitStatus.{ExitStatus}
+use Rattle.xw_desk.specs.declared.failure.ExitStatus.TheVariants.{Accepted}
+use Rattle.xw_desk.specs.Apart.{AreInUse, AreUnwritable, IsNotApart}
+use Rattle.xw_desk.specs.Checked.{IsCheckOf}
+use Rattle.xw_desk.specs.Desk.{Asks, Moment, ReportsIf}
+use Rattle.xw_desk.specs.Explained.{IsReported, IsTold}
+use Rattle.xw_desk.specs.Files.{IfNamed, IsFound, IsTextTold, IsUnread, IsUnwritten, IsWritten}
+use Rattle.xw_desk.specs.ExitStatus.{run_ended}
+use Rattle.xw_desk.specs.Told.{IsCannotWrite, IsReplaced}
 use Rattle.xw_cli.specs.Answered.{AnswersInput}
 use Rattle.xw_cli.specs.Journals.{HasReplayed, IsEnded, IsUnended, IsUnreplayed}
 use Rattle.xw_cli.specs.declared.session_files.Refusals.{Refusals}
@@ -78,7 +78,7 @@ pub record HasBoth (files : SessionFiles) (words : Dictionary) (puzzle : PuzzleS
   pub has_puzzle : HasPuzzle files.from_file puzzle mid new
 
 -- A session begins in this state with the files that are named.
-pub record IsOpened (files : SessionFiles) (state : State) (old new : Moment) : Type 0 where
+pub record IsOpened (files : SessionFiles) (state : SessionState) (old new : Moment) : Type 0 where
   pub words : Dictionary
   pub puzzle : PuzzleShown
   pub has_both : HasBoth files words puzzle old new
@@ -109,13 +109,13 @@ IsUnopened files failure old new = HasNoWords files.dict failure old new ⊎ (Is
 
 -- the commands of the named file are replayed, and those that are refused are reported, after a report of lines that
 -- were cut
-abbrev pub HasResumed : Option (Bor (List ℕ)) → State → Refusals → State → Moment → Moment → Type 0
+abbrev pub HasResumed : Option (Bor (List ℕ)) → SessionState → Refusals → SessionState → Moment → Moment → Type 0
 HasResumed None start refused state old new = (refused.count ≡ 0) × (refused.is_loss ≡ false) × (state ≡ start) × (new ≡ old)
 HasResumed (Some file) start refused state old new = IsResumed file.now start state (Ok refused) old new
 
 -- why no commands are resumed
-abbrev pub IsUnresumed : List ℕ → State → Failure → Moment → Moment → Type 0
-IsUnresumed name start failure old new = (state : State) × IsResumed name start state (Err failure) old new
+abbrev pub IsUnresumed : List ℕ → SessionState → Failure → Moment → Moment → Type 0
+IsUnresumed name start failure old new = (state : SessionState) × IsResumed name start state (Err failure) old new
 
 -- ---- the end of a session
 
@@ -138,13 +138,13 @@ Keeps resumed name true old new = KeepsResumed resumed name old new
 Keeps resumed name false old new = new ≡ old
 
 -- The file with this name has the record of the session.
-pub record IsSavedAs (resumed : Option (Bor (List ℕ))) (name : List ℕ) (refused : Refusals) (state : State) (old new : Moment) : Type 0 where
+pub record IsSavedAs (resumed : Option (Bor (List ℕ))) (name : List ℕ) (refused : Refusals) (state : SessionState) (old new : Moment) : Type 0 where
   pub mid : Moment
   pub keeps : Keeps resumed name refused.is_loss old mid
   pub asks : Asks (replace name (file_of state) (Ok tt)) mid new
 
 -- the session is saved if a file for it is named
-abbrev pub IsSaved : SessionFiles → Option (Bor (List ℕ)) → Refusals → State → Moment → Moment → Type 0
+abbrev pub IsSaved : SessionFiles → Option (Bor (List ℕ)) → Refusals → SessionState → Moment → Moment → Type 0
 IsSaved files None refused state old new = new ≡ old
 IsSaved files (Some file) refused state old new = IsSavedAs files.resume_file file.now refused state old new
 
@@ -157,24 +157,24 @@ pub record IsNotKeptOver (resumed : Option (Bor (List ℕ))) (name : List ℕ) (
   pub why : IsNotKept name failure mid new
 
 -- The old file is kept or stays, and then the session is not saved.
-pub record IsUnsavedAs (resumed : Option (Bor (List ℕ))) (name : List ℕ) (refused : Refusals) (state : State) (failure : Failure) (old new : Moment) : Type 0 where
+pub record IsUnsavedAs (resumed : Option (Bor (List ℕ))) (name : List ℕ) (refused : Refusals) (state : SessionState) (failure : Failure) (old new : Moment) : Type 0 where
   pub mid : Moment
   pub keeps : Keeps resumed name refused.is_loss old mid
   pub unsaved : IsUnsaved name state failure mid new
 
 -- why the session is not saved
-abbrev pub IsNotSaved : SessionFiles → Refusals → State → Failure → Moment → Moment → Type 0
+abbrev pub IsNotSaved : SessionFiles → Refusals → SessionState → Failure → Moment → Moment → Type 0
 IsNotSaved files refused state failure old new =
     (((failure ≡ failures.Memory) ⊎ IsNotApart files failure) × (new ≡ old))
     ⊎ IfNamed files.save_file (λ name. IsNotKeptOver files.resume_file name refused failure old new ⊎ IsUnsavedAs files.resume_file name refused state failure old new)
 
 -- whether the session is saved
-abbrev pub Saves : SessionFiles → Refusals → State → Result (Unit {0}) Failure → Moment → Moment → Type 0
+abbrev pub Saves : SessionFiles → Refusals → SessionState → Result (Unit {0}) Failure → Moment → Moment → Type 0
 Saves files refused state (Ok done) old new = IsSaved files files.save_file refused state old new
 Saves files refused state (Err failure) old new = IsNotSaved files refused state failure old new
 
 -- whether the journal that is named ends with the record of the session
-abbrev pub EndsJournal : Option (Bor (List ℕ)) → ℕ → State → Result (Unit {0}) Failure → Moment → Moment → Type 0
+abbrev pub EndsJournal : Option (Bor (List ℕ)) → ℕ → SessionState → Result (Unit {0}) Failure → Moment → Moment → Type 0
 EndsJournal None refused state ended old new = (ended ≡ Ok tt) × (new ≡ old)
 EndsJournal (Some file) refused state (Ok done) old new = IsEnded file.now refused state old new
 EndsJournal (Some file) refused state (Err failure) old new = IsUnended file.now state failure old new
@@ -189,13 +189,13 @@ abbrev pub IsNotPut : SessionFiles → PuzzleShown → Failure → Moment → Mo
 IsNotPut files puzzle failure old new = (IsNotApart files failure × (new ≡ old)) ⊎ IfNamed files.to_file (λ name. IsUnwritten name puzzle failure old new)
 
 -- whether the puzzle of a session is written, with the status of its run
-abbrev pub Puts : SessionFiles → PuzzleShown → Status → Result Status Failure → Moment → Moment → Type 0
+abbrev pub Puts : SessionFiles → PuzzleShown → ExitStatus → Result ExitStatus Failure → Moment → Moment → Type 0
 Puts files puzzle status (Ok told) old new = (told ≡ status) × IsPut files.to_file puzzle old new
 Puts files puzzle status (Err failure) old new = IsNotPut files puzzle failure old new
 
 -- What follows when the session is saved: the journal is ended, and then the puzzle is written. Nothing follows a
 -- failure.
-pub record Closes (files : SessionFiles) (refused : ℕ) (state : State) (status : Status) (result : Result Status Failure) (old new : Moment) : Type 0 where
+pub record Closes (files : SessionFiles) (refused : ℕ) (state : SessionState) (status : ExitStatus) (result : Result ExitStatus Failure) (old new : Moment) : Type 0 where
   pub ended : Result (Unit {0}) Failure
   pub mid : Moment
   pub ends : EndsJournal files.journal_file refused state ended old mid
@@ -206,24 +206,24 @@ pub record IsToldUnput (files : SessionFiles) (puzzle : PuzzleShown) (old new : 
   pub failure : Failure
   pub mid : Moment
   pub unput : IsNotPut files puzzle failure old mid
-  pub status : Status
+  pub status : ExitStatus
   pub told : IsTold failure mid new status
 
 -- What follows when the session is not saved: this is reported, and its status is that of the call. The journal stays.
 -- The puzzle is written all the same; if it is not, this is reported too.
-pub record StillPuts (files : SessionFiles) (state : State) (failure : Failure) (status : Status) (old new : Moment) : Type 0 where
+pub record StillPuts (files : SessionFiles) (state : SessionState) (failure : Failure) (status : ExitStatus) (old new : Moment) : Type 0 where
   pub mid : Moment
   pub unsaved : IsTold failure old mid status
   pub puts : IsPut files.to_file (puzzle_of state) mid new ⊎ IsToldUnput files (puzzle_of state) mid new
 
 -- How a session ends that answered its input or failed, in this state. It is saved in any case. A failure to answer
 -- then ends the call, and neither the journal nor the puzzle is written.
-pub record Ends (files : SessionFiles) (refused : Refusals) (state : State) (answered result : Result Status Failure) (old new : Moment) : Type 0 where
+pub record Ends (files : SessionFiles) (refused : Refusals) (state : SessionState) (answered result : Result ExitStatus Failure) (old new : Moment) : Type 0 where
   pub saved : Result (Unit {0}) Failure
   pub mid : Moment
   pub saves : Saves files refused state saved old mid
   pub closes : MatchResult answered
-      (λ status. MatchResult saved (λ _. Closes files refused.count state status result mid new) (λ failure. (code : Status) × (result ≡ Ok code) × StillPuts files state failure code mid new))
+      (λ status. MatchResult saved (λ _. Closes files refused.count state status result mid new) (λ failure. (code : ExitStatus) × (result ≡ Ok code) × StillPuts files state failure code mid new))
       (λ failure. (result ≡ Err failure) × (new ≡ mid))
 
 -- ---- a session
@@ -233,32 +233,32 @@ abbrev pub greeting : List ℕ
 greeting = codes "xw: type one command per line; help lists them, and Ctrl D ends the session\n"
 
 -- A session answers the input from this state, and ends. In a dialogue it greets first. These lines were refused before.
-pub record IsSessionRun (files : SessionFiles) (before : Refusals) (start : State) (result : Result Status Failure) (old new : Moment) : Type 0 where
+pub record IsSessionRun (files : SessionFiles) (before : Refusals) (start : SessionState) (result : Result ExitStatus Failure) (old new : Moment) : Type 0 where
   pub greeted : Moment
   pub greets : ReportsIf old.is_dialogue greeting old greeted
-  pub left : State
+  pub left : SessionState
   pub end : RunEnd
   pub mid : Moment
   pub answers : AnswersInput Answers NeverStops end start left greeted mid
   pub ends : Ends files before left (run_ended before.count end) result mid new
 
 -- From its first state a session resumes the commands that are named, answers the input, and ends.
-pub record IsSession (files : SessionFiles) (opened : State) (result : Result Status Failure) (old new : Moment) : Type 0 where
+pub record IsSession (files : SessionFiles) (opened : SessionState) (result : Result ExitStatus Failure) (old new : Moment) : Type 0 where
   pub before : Refusals
-  pub resumed : State
+  pub resumed : SessionState
   pub mid : Moment
   pub has_resumed : HasResumed files.resume_file opened before resumed old mid
   pub is_run : IsSessionRun files before resumed result mid new
 
 -- how a run with a journal is answered: if the journal stopped it, its cause is the failure
-abbrev pub IsJournalEnd : List ℕ → ℕ → RunEnd → Option Cause → Result Status Failure → Type 0
+abbrev pub IsJournalEnd : List ℕ → ℕ → RunEnd → Option Cause → Result ExitStatus Failure → Type 0
 IsJournalEnd name before Stopped (Some causes.Memory) answered = answered ≡ Err failures.Memory
 IsJournalEnd name before Stopped other answered = IfErr answered (λ failure. IsCannotWrite name failure ⊎ IsReplaced name failure) × IsErr answered
 IsJournalEnd name before end cause answered = answered ≡ run_ended before end
 
 -- A session answers the input from this state, with each change in the journal before its answer is finished. In a
 -- dialogue it greets first. The journal takes these lines, and the session ends.
-pub record IsJournalRun (name : List ℕ) (files : SessionFiles) (before : Refusals) (start : JournaledState) (result : Result Status Failure) (old new : Moment) : Type 0 where
+pub record IsJournalRun (name : List ℕ) (files : SessionFiles) (before : Refusals) (start : JournaledState) (result : Result ExitStatus Failure) (old new : Moment) : Type 0 where
   pub greeted : Moment
   pub greets : ReportsIf old.is_dialogue greeting old greeted
   pub left : JournaledState
@@ -267,14 +267,14 @@ pub record IsJournalRun (name : List ℕ) (files : SessionFiles) (before : Refus
   pub answers : AnswersInput AnswersJournaled StopsAtJournal end start left greeted mid
   pub taken : Moment
   pub takes : Asks (take_lines name left.journal) mid taken
-  pub answered : Result Status Failure
+  pub answered : Result ExitStatus Failure
   pub answered_is : IsJournalEnd name before.count end left.cause answered
   pub ends : Ends files before left.state answered result taken new
 
 -- From its first state a session replays the journal with this name, answers the input, and ends.
-pub record IsJournaled (name : List ℕ) (files : SessionFiles) (opened : State) (result : Result Status Failure) (old new : Moment) : Type 0 where
+pub record IsJournaled (name : List ℕ) (files : SessionFiles) (opened : SessionState) (result : Result ExitStatus Failure) (old new : Moment) : Type 0 where
   pub before : Refusals
-  pub replayed : State
+  pub replayed : SessionState
   pub mid : Moment
   pub has_replayed : HasReplayed name files.is_synced opened before replayed old mid
   pub is_run : IsJournalRun name files before (record { state = replayed; journal = []; failures = 0; cause = None }) result mid new
@@ -282,30 +282,30 @@ pub record IsJournaled (name : List ℕ) (files : SessionFiles) (opened : State)
 -- ---- edit
 
 -- why a session is not run: the failure ends the call before the input is read
-abbrev pub IsUnrun : Option (Bor (List ℕ)) → SessionFiles → State → Failure → Moment → Moment → Type 0
+abbrev pub IsUnrun : Option (Bor (List ℕ)) → SessionFiles → SessionState → Failure → Moment → Moment → Type 0
 IsUnrun None files opened failure old new = IfNamed files.resume_file (λ name. IsUnresumed name opened failure old new)
 IsUnrun (Some file) files opened failure old new = IsUnreplayed file.now files.is_synced opened failure old new
 
 -- what a session does from its first state, with or without a journal
-abbrev pub IsRunWith : Option (Bor (List ℕ)) → SessionFiles → State → Result Status Failure → Moment → Moment → Type 0
+abbrev pub IsRunWith : Option (Bor (List ℕ)) → SessionFiles → SessionState → Result ExitStatus Failure → Moment → Moment → Type 0
 IsRunWith None files opened result old new = IsSession files opened result old new
 IsRunWith (Some file) files opened result old new = IsJournaled file.now files opened result old new
 
 -- a session is run from its first state, or a failure ends the call before
-abbrev pub RunsOrFails : Option (Bor (List ℕ)) → SessionFiles → State → Result Status Failure → Moment → Moment → Type 0
+abbrev pub RunsOrFails : Option (Bor (List ℕ)) → SessionFiles → SessionState → Result ExitStatus Failure → Moment → Moment → Type 0
 RunsOrFails journal files opened result old new =
     IsRunWith journal files opened result old new ⊎ MatchResult result (λ _. ⊥) (λ failure. IsUnrun journal files opened failure old new)
 
 -- A session is opened with the files that are named, and run.
-pub record IsEdited (files : SessionFiles) (result : Result Status Failure) (old new : Moment) : Type 0 where
-  pub opened : State
+pub record IsEdited (files : SessionFiles) (result : Result ExitStatus Failure) (old new : Moment) : Type 0 where
+  pub opened : SessionState
   pub mid : Moment
   pub is_opened : IsOpened files opened old mid
   pub is_run : IsRunWith files.journal_file files opened result mid new
 
 -- A session is opened, and not run.
 pub record IsOpenedInVain (files : SessionFiles) (failure : Failure) (old new : Moment) : Type 0 where
-  pub opened : State
+  pub opened : SessionState
   pub mid : Moment
   pub is_opened : IsOpened files opened old mid
   pub unrun : IsUnrun files.journal_file files opened failure mid new
@@ -318,13 +318,13 @@ IsUnedited files failure old new =
     ⊎ (IsUnopened files failure old new ⊎ IsOpenedInVain files failure old new)
 
 -- a session is run, or a failure ends the call before
-abbrev pub EditsOrFails : SessionFiles → Result Status Failure → Moment → Moment → Type 0
+abbrev pub EditsOrFails : SessionFiles → Result ExitStatus Failure → Moment → Moment → Type 0
 EditsOrFails files result old new = IsEdited files result old new ⊎ MatchResult result (λ _. ⊥) (λ failure. IsUnedited files failure old new)
 
 -- ---- any call
 
 -- what a call does, and how it ends
-abbrev pub IsPerformed : Call → Result Status Failure → Moment → Moment → Type 0
+abbrev pub IsPerformed : Call → Result ExitStatus Failure → Moment → Moment → Type 0
 IsPerformed (Edit files explain) result old new = EditsOrFails files result old new
 IsPerformed (Convert from_file to_file explain) result old new =
     MatchResult result (λ status. (status ≡ Accepted) × IsConverted from_file.now to_file.now old new) (λ failure. IsUnconverted from_file.now to_file.now failure old new)
@@ -332,8 +332,8 @@ IsPerformed (Check files explain) result old new = IsCheckOf (map (λ file. file
 
 -- The call did this, and ended so. A failure was reported, with its status. Failures are explained if the call asks for
 -- it or the messages go to a terminal.
-pub record Performs (call : Call) (status : Status) (old new : Moment) : Type 0 where
-  pub result : Result Status Failure
+pub record Performs (call : Call) (status : ExitStatus) (old new : Moment) : Type 0 where
+  pub result : Result ExitStatus Failure
   pub mid : Moment
   pub performed : IsPerformed call result (record old { explains = is_explained call || old.is_terminal }) mid
   pub told : MatchResult result (λ told. (status ≡ told) × (new ≡ mid)) (λ failure. IsReported failure mid new status)

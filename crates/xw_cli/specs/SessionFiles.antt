@@ -8,19 +8,19 @@ use Rattle.xw_words.specs.WordList.{IsTooLong, listed_in, results_of, words_amon
 use Rattle.xw_journal.specs.File.{first_line, is_cut, kept_lines}
 use Rattle.xw_session.specs.Record.{record_lines}
 use Rattle.xw_session.specs.Resuming.{Resumes}
-use Rattle.xw_session.specs.State.{State}
+use Rattle.xw_session.specs.State.{SessionState}
 use Rattle.xw_answers.specs.Text.{name_of}
 use Rattle.xw_session.specs.declared.resuming.Stop.{Stop}
 use Rattle.xw_session.specs.declared.resuming.Stop.TheVariants as stops
 use Rattle.xw_cli.specs.declared.session_files.Refusals.{Refusals}
-use Rattle.xw_puzzle_files.specs.declared.failure.Failure.{Failure}
-use Rattle.xw_puzzle_files.specs.declared.failure.Failure.TheVariants as failures
+use Rattle.xw_desk.specs.declared.failure.Failure.{Failure}
+use Rattle.xw_desk.specs.declared.failure.Failure.TheVariants as failures
 use Rattle.xw_disk.specs.Disk.{read, keep}
 use Rattle.xw_disk.specs.Kept.{kept_name}
 use Rattle.xw_disk.specs.declared.disk.DiskFault.{DiskFault}
-use Rattle.xw_puzzle_files.specs.Desk.{Asks, Moment, Reports, ReportsIf}
-use Rattle.xw_puzzle_files.specs.Files.{IsFileFault, IsLineFault, IsUnreadFile, IsUnreplaced}
-use Rattle.xw_puzzle_files.specs.Told.{IsOldFaultOf}
+use Rattle.xw_desk.specs.Desk.{Asks, Moment, Reports, ReportsIf}
+use Rattle.xw_desk.specs.Files.{IsFileFault, IsLineFault, IsUnreadFile, IsUnreplaced}
+use Rattle.xw_desk.specs.Told.{IsOldFaultOf}
 
 -- ---- the word list
 
@@ -124,14 +124,14 @@ TellsReplay name lost told ended result old new =
 -- These lines are replayed from the first state, up to the first that is no command: the result, the state that is
 -- left and the reports of refused lines are those of the replay. Or the reports could not be allocated, and none is
 -- written.
-abbrev pub Replays : List ℕ → List (List ℕ) → State → State → Result Refusals Failure → Moment → Moment → Type 0
+abbrev pub Replays : List ℕ → List (List ℕ) → SessionState → SessionState → Result Refusals Failure → Moment → Moment → Type 0
 Replays name lines start left result old new =
     ((ended : Result ℕ Stop) × (told : List ℕ) × Resumes name start lines ended told left × Reports told old new × IsReplayed name told ended result)
     ⊎ ((result ≡ Err failures.Memory) × (new ≡ old))
 
 -- The file with this name was read, and the lines of its bytes that count are replayed, after a report exactly if others
 -- were cut.
-pub record IsReplay (name : List ℕ) (start left : State) (result : Result Refusals Failure) (old new : Moment) : Type 0 where
+pub record IsReplay (name : List ℕ) (start left : SessionState) (result : Result Refusals Failure) (old new : Moment) : Type 0 where
   pub bytes : List ℕ
   pub read_at : Moment
   pub asks : Asks (read name (Ok bytes)) old read_at
@@ -140,31 +140,31 @@ pub record IsReplay (name : List ℕ) (start left : State) (result : Result Refu
   pub replays : Replays name (kept_lines bytes) start left result mid new
 
 -- The file with this name was read, and the report that lines were cut could not be allocated.
-pub record IsUntold (name : List ℕ) (start left : State) (result : Result Refusals Failure) (old new : Moment) : Type 0 where
+pub record IsUntold (name : List ℕ) (start left : SessionState) (result : Result Refusals Failure) (old new : Moment) : Type 0 where
   pub bytes : List ℕ
   pub asks : Asks (read name (Ok bytes)) old new
   pub memory : result ≡ Err failures.Memory
   pub state : left ≡ start
 
 -- The file with this name was not read, and nothing else happened.
-pub record IsNotRead (name : List ℕ) (start left : State) (result : Result Refusals Failure) (old new : Moment) : Type 0 where
+pub record IsNotRead (name : List ℕ) (start left : SessionState) (result : Result Refusals Failure) (old new : Moment) : Type 0 where
   pub failure : Failure
   pub failed : result ≡ Err failure
   pub why : IsUnreadFile name failure old new
   pub state : left ≡ start
 
 -- what resuming the file with this name does
-abbrev pub IsResumed : List ℕ → State → State → Result Refusals Failure → Moment → Moment → Type 0
+abbrev pub IsResumed : List ℕ → SessionState → SessionState → Result Refusals Failure → Moment → Moment → Type 0
 IsResumed name start left result old new = IsReplay name start left result old new ⊎ (IsUntold name start left result old new ⊎ IsNotRead name start left result old new)
 
 -- ---- the record
 
 -- the file of a session in this state: the first line and the record
-abbrev pub file_of : State → List ℕ
+abbrev pub file_of : SessionState → List ℕ
 file_of state = first_line ++ record_lines state
 
 -- why the session is not written to the file with this name
-abbrev pub IsUnsaved : List ℕ → State → Failure → Moment → Moment → Type 0
+abbrev pub IsUnsaved : List ℕ → SessionState → Failure → Moment → Moment → Type 0
 IsUnsaved name state failure old new = ((failure ≡ failures.Memory) × (new ≡ old)) ⊎ IsUnreplaced name (file_of state) failure old new
 
 -- ---- an old file that is kept

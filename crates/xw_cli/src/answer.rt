@@ -3,20 +3,20 @@
 ghost use Rattle.std.specs.Prelude.{◌≡◌, IfErr, IfOk, None};
 ghost use Rattle.xw_lines.specs.Spoken.{NeverStops};
 ghost use Rattle.xw_session.specs.Answer.{Answers};
-ghost use Rattle.xw_puzzle_files.specs.Desk.{ReportsIf};
-ghost use Rattle.xw_puzzle_files.specs.Files.{IfNamed};
+ghost use Rattle.xw_desk.specs.Desk.{ReportsIf};
+ghost use Rattle.xw_desk.specs.Files.{IfNamed};
 ghost use Rattle.xw_cli.specs.Answered.{AnswersInput};
 ghost use Rattle.xw_cli.specs.Performed.{greeting, HasResumed, IsSessionRun, IsUnresumed, RunsOrFails};
 
 use crate::end::end_session;
 use crate::session_files::{Refusals, resume_file};
 use xw_arguments::SessionFiles;
+use xw_desk::desk::Desk;
+use xw_desk::failure::{ExitStatus, Failure, run_status};
+use xw_desk::outlet::Outlet;
 use xw_disk::Disk;
 use xw_feas::searchable::Searchable;
 use xw_lines::{RunEnd, Sink, Source};
-use xw_puzzle_files::desk::Desk;
-use xw_puzzle_files::failure::{Failure, Status, run_status};
-use xw_puzzle_files::outlet::Outlet;
 use xw_session::Session;
 
 /// The line that greets who types commands.
@@ -28,7 +28,7 @@ pub fn answer<'a, F: Searchable, D: Disk, I: Source, O: Outlet, E: Sink>(
     desk: &mut Desk<D, I, O, E>,
     mut session: Session<F>,
     named: SessionFiles<'a>,
-) -> Result<Status, Failure<'a>>
+) -> Result<ExitStatus, Failure<'a>>
     ensures { RunsOrFails None named.entry session result desk.old desk.new }
 {
     let before = resume(desk, &mut session, named.resume_file)?;
@@ -56,7 +56,7 @@ fn converse<'a, F: Searchable, D: Disk, I: Source, O: Outlet, E: Sink>(
     mut session: Session<F>,
     named: SessionFiles<'a>,
     before: Refusals,
-) -> Result<Status, Failure<'a>>
+) -> Result<ExitStatus, Failure<'a>>
     ensures { IsSessionRun named.entry before session result desk.old desk.new }
 {
     greet(desk);

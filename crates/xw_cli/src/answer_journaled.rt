@@ -10,13 +10,13 @@ use crate::end::end_session;
 use crate::journal::{close_journal, resume_journal};
 use crate::session_files::Refusals;
 use xw_arguments::SessionFiles;
+use xw_desk::desk::Desk;
+use xw_desk::failure::{ExitStatus, Failure, run_status};
+use xw_desk::outlet::Outlet;
 use xw_disk::Disk;
 use xw_feas::searchable::Searchable;
 use xw_journal::{Cause, JournaledSession};
 use xw_lines::{RunEnd, Sink, Source};
-use xw_puzzle_files::desk::Desk;
-use xw_puzzle_files::failure::{Failure, Status, run_status};
-use xw_puzzle_files::outlet::Outlet;
 use xw_session::Session;
 
 /// Replays the journal, answers the input while each change is journaled, and writes the files of the session.
@@ -25,7 +25,7 @@ pub fn answer_journaled<'a, F: Searchable, D: Disk, I: Source, O: Outlet, E: Sin
     session: Session<F>,
     file: &'a str,
     named: SessionFiles<'a>,
-) -> Result<Status, Failure<'a>>
+) -> Result<ExitStatus, Failure<'a>>
     ensures { RunsOrFails (Some file.entry) named.entry session result desk.old desk.new }
 {
     let (journaled, before) = begin(desk, session, file, named.is_synced)?;
@@ -56,7 +56,7 @@ fn converse<'a, F: Searchable, D: Disk, I: Source, O: Outlet, E: Sink>(
     file: &'a str,
     named: SessionFiles<'a>,
     before: Refusals,
-) -> Result<Status, Failure<'a>>
+) -> Result<ExitStatus, Failure<'a>>
     ensures { IsJournalRun file.entry.now named.entry before journaled result desk.old desk.new }
 {
     greet(desk);
@@ -85,7 +85,7 @@ fn journal_status<'a>(
     cause: Option<Cause>,
     file: &'a str,
     is_lost: bool,
-) -> Result<Status, Failure<'a>>
+) -> Result<ExitStatus, Failure<'a>>
     ensures { IsJournalEnd file.entry.now before end cause result }
 {
     match (end, cause) {

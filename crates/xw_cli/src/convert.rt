@@ -1,21 +1,21 @@
 //! Converts a puzzle file.
 ghost use Rattle.std.specs.Prelude.{◌≡◌, MatchResult};
-ghost use Rattle.xw_puzzle_files.specs.declared.failure.Status.TheVariants.{Accepted};
+ghost use Rattle.xw_desk.specs.declared.failure.ExitStatus.TheVariants.{Accepted};
 ghost use Rattle.xw_cli.specs.Performed.{IsConverted, IsUnconverted};
 
+use xw_desk::desk::Desk;
+use xw_desk::failure::{ExitStatus, Failure};
+use xw_desk::files::text_note;
+use xw_desk::outlet::Outlet;
 use xw_disk::Disk;
 use xw_lines::{Sink, Source};
-use xw_puzzle_files::desk::Desk;
-use xw_puzzle_files::failure::{Failure, Status};
-use xw_puzzle_files::files::text_note;
-use xw_puzzle_files::outlet::Outlet;
 
 /// Converts a puzzle file into the format that the name of another file asks for.
 pub fn convert<'a, D: Disk, I: Source, O: Outlet, E: Sink>(
     desk: &mut Desk<D, I, O, E>,
     from_file: &'a str,
     to_file: &'a str,
-) -> Result<Status, Failure<'a>>
+) -> Result<ExitStatus, Failure<'a>>
     ensures { MatchResult result
         (λ status. (status ≡ Accepted) × IsConverted from_file.entry.now to_file.entry.now desk.old desk.new)
         (λ failure. IsUnconverted from_file.entry.now to_file.entry.now failure desk.old desk.new) }
@@ -24,5 +24,5 @@ pub fn convert<'a, D: Disk, I: Source, O: Outlet, E: Sink>(
     let note = text_note(desk.alloc, to_file)?;
     desk.write_puzzle(to_file, &puzzle)?;
     desk.tell_text(&note, to_file);
-    Ok(Status::Accepted)
+    Ok(ExitStatus::Accepted)
 }

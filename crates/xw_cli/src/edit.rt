@@ -1,26 +1,26 @@
 //! Runs a session: opens its files, answers the input, and writes its files.
 ghost use Rattle.std.specs.Prelude.{◌≡◌, ◌⊎◌, IfErr};
-ghost use Rattle.xw_puzzle_files.specs.Apart.{AreInUse, AreUnwritable, IsNotApart};
+ghost use Rattle.xw_desk.specs.Apart.{AreInUse, AreUnwritable, IsNotApart};
 ghost use Rattle.xw_cli.specs.Performed.{EditsOrFails};
 
 use crate::answer::answer;
 use crate::answer_journaled::answer_journaled;
 use crate::open::open;
 use xw_arguments::SessionFiles;
+use xw_desk::apart::{keep_apart, keep_free, keep_writable};
+use xw_desk::desk::Desk;
+use xw_desk::failure::{ExitStatus, Failure};
+use xw_desk::outlet::Outlet;
 use xw_disk::Disk;
 use xw_feas::searchable::Searchable;
 use xw_lines::{Sink, Source};
-use xw_puzzle_files::apart::{keep_apart, keep_free, keep_writable};
-use xw_puzzle_files::desk::Desk;
-use xw_puzzle_files::failure::{Failure, Status};
-use xw_puzzle_files::outlet::Outlet;
 use xw_session::Session;
 
 /// Runs a session: opens its files, answers the input, and writes its files. Files that must differ are refused first.
 pub fn edit<'a, F: Searchable, D: Disk, I: Source, O: Outlet, E: Sink>(
     desk: &mut Desk<D, I, O, E>,
     named: SessionFiles<'a>,
-) -> Result<Status, Failure<'a>>
+) -> Result<ExitStatus, Failure<'a>>
     ensures { EditsOrFails named.entry result desk.old desk.new }
 {
     keep_files(desk, named)?;
@@ -44,7 +44,7 @@ fn keep_files<'a, D: Disk, I: Source, O: Outlet, E: Sink>(
 fn edit_apart<'a, F: Searchable, D: Disk, I: Source, O: Outlet, E: Sink>(
     desk: &mut Desk<D, I, O, E>,
     named: SessionFiles<'a>,
-) -> Result<Status, Failure<'a>>
+) -> Result<ExitStatus, Failure<'a>>
     ensures { EditsOrFails named.entry result desk.old desk.new }
 {
     let session: Session<F> = open(desk, named)?;

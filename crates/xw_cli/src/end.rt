@@ -1,21 +1,21 @@
 //! Ends a session: saves it, ends its journal, and writes its puzzle.
 ghost use Rattle.std.specs.Prelude.{◌≡◌, ◌⊎◌, IfErr, MatchResult, OnOk};
 ghost use Rattle.xw_session.specs.Opening.{puzzle_of};
-ghost use Rattle.xw_puzzle_files.specs.declared.failure.Failure.TheVariants.{Memory};
-ghost use Rattle.xw_puzzle_files.specs.Apart.{IsNotApart};
-ghost use Rattle.xw_puzzle_files.specs.Files.{IsUnwritten, IsWritten};
+ghost use Rattle.xw_desk.specs.declared.failure.Failure.TheVariants.{Memory};
+ghost use Rattle.xw_desk.specs.Apart.{IsNotApart};
+ghost use Rattle.xw_desk.specs.Files.{IsUnwritten, IsWritten};
 ghost use Rattle.xw_cli.specs.Performed.{Closes, Compares, Ends, EndsJournal, IsNotKeptOver, IsNotPut, IsNotSaved, IsPut, IsSaved, Keeps, StillPuts};
 
 use crate::journal::end_journal;
 use crate::session_files::{Refusals, keep_old, write_session};
 use xw_arguments::SessionFiles;
+use xw_desk::apart::{keep_apart, keep_session_apart};
+use xw_desk::desk::Desk;
+use xw_desk::failure::{ExitStatus, Failure};
+use xw_desk::outlet::Outlet;
 use xw_disk::Disk;
 use xw_feas::feasible::Feasible;
 use xw_lines::{Sink, Source};
-use xw_puzzle_files::apart::{keep_apart, keep_session_apart};
-use xw_puzzle_files::desk::Desk;
-use xw_puzzle_files::failure::{Failure, Status};
-use xw_puzzle_files::outlet::Outlet;
 use xw_session::Session;
 
 /// Ends a session that answered its input or failed: saves it in any case, and then, unless it failed, ends its
@@ -26,8 +26,8 @@ pub fn end_session<'a, F: Feasible, D: Disk, I: Source, O: Outlet, E: Sink>(
     session: &Session<F>,
     named: SessionFiles<'a>,
     refused: Refusals,
-    answered: Result<Status, Failure<'a>>,
-) -> Result<Status, Failure<'a>>
+    answered: Result<ExitStatus, Failure<'a>>,
+) -> Result<ExitStatus, Failure<'a>>
     ensures { Ends named.entry refused session.now answered.entry result desk.old desk.new }
 {
     // Two names may lead to one file by now. This is tested before a file is replaced.
@@ -48,7 +48,7 @@ fn put_unsaved<'a, F: Feasible, D: Disk, I: Source, O: Outlet, E: Sink>(
     named: SessionFiles<'a>,
     failure: &Failure<'_>,
     apart: Result<(), Failure<'a>>,
-) -> Status
+) -> ExitStatus
     requires { IfErr apart (λ failure. IsNotApart named failure) }
     ensures { StillPuts named.entry session.now failure.now result desk.old desk.new }
 {
@@ -68,9 +68,9 @@ fn close<'a, F: Feasible, D: Disk, I: Source, O: Outlet, E: Sink>(
     session: &Session<F>,
     named: SessionFiles<'a>,
     refused: usize,
-    status: Status,
+    status: ExitStatus,
     apart: Result<(), Failure<'a>>,
-) -> Result<Status, Failure<'a>>
+) -> Result<ExitStatus, Failure<'a>>
     requires { IfErr apart (λ failure. IsNotApart named failure) }
     ensures { Closes named.entry refused session.now status result desk.old desk.new }
 {

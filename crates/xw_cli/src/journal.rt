@@ -4,21 +4,21 @@ ghost use Rattle.xw_journal.specs.File.{form_of as form_of_bytes};
 ghost use Rattle.xw_journal.specs.declared.file.Form.TheVariants as forms;
 ghost use Rattle.xw_disk.specs.Disk.{begin, end, open_, started, take_lines};
 ghost use Rattle.xw_disk.specs.declared.disk.DiskFault.{DiskFault};
-ghost use Rattle.xw_puzzle_files.specs.Told.{IsFaultOf};
-ghost use Rattle.xw_puzzle_files.specs.Desk.{Asks};
-ghost use Rattle.xw_puzzle_files.specs.Files.{IsLineFault};
+ghost use Rattle.xw_desk.specs.Told.{IsFaultOf};
+ghost use Rattle.xw_desk.specs.Desk.{Asks};
+ghost use Rattle.xw_desk.specs.Files.{IsLineFault};
 ghost use Rattle.xw_cli.specs.Journals.{drops, Begins, HasReplayed, IsEnded, IsNoJournal, IsNotOpened, IsUnended, IsUnreplayed};
 
 use crate::session_files::{Refusals, resume_text, tell_cut_if};
+use xw_desk::desk::Desk;
+use xw_desk::failure::{Failure, failure_of};
+use xw_desk::files::line_fault;
+use xw_desk::outlet::Outlet;
 use xw_disk::{Disk, Start};
 use xw_feas::feasible::Feasible;
 use xw_feas::searchable::Searchable;
 use xw_journal::file::{FIRST_LINE, Form, form_of, is_cut, kept, saved};
 use xw_lines::{Sink, Source};
-use xw_puzzle_files::desk::Desk;
-use xw_puzzle_files::failure::{Failure, failure_of};
-use xw_puzzle_files::files::line_fault;
-use xw_puzzle_files::outlet::Outlet;
 use xw_session::Session;
 
 /// Opens the journal, or creates it, replays the lines that count, and cuts it to these. Returns the journal, which

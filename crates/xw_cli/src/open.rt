@@ -2,19 +2,19 @@
 ghost use Rattle.std.specs.Prelude.{◌≡◌, ◌⊎◌, Some, IfOk, IfErr, IsOkUnless};
 ghost use Rattle.xw_grid.specs.Puzzle.{PuzzleShown};
 ghost use Rattle.xw_session.specs.Opening.{empty_puzzle, opened_on};
-ghost use Rattle.xw_puzzle_files.specs.declared.failure.Failure.TheVariants.{Memory};
-ghost use Rattle.xw_puzzle_files.specs.Files.{IsUnread};
+ghost use Rattle.xw_desk.specs.declared.failure.Failure.TheVariants.{Memory};
+ghost use Rattle.xw_desk.specs.Files.{IsUnread};
 ghost use Rattle.xw_cli.specs.Performed.{HasNoWords, HasPuzzle, HasWords, IsOpened, IsUnopened};
 
 use crate::session_files::read_dictionary;
 use std::alloc::Global;
 use xw_arguments::SessionFiles;
+use xw_desk::desk::Desk;
+use xw_desk::failure::Failure;
+use xw_desk::outlet::Outlet;
 use xw_disk::Disk;
 use xw_feas::feasible::Feasible;
 use xw_lines::{Sink, Source};
-use xw_puzzle_files::desk::Desk;
-use xw_puzzle_files::failure::Failure;
-use xw_puzzle_files::outlet::Outlet;
 use xw_session::{Session, opening};
 use xw_words::Bank;
 

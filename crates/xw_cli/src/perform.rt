@@ -5,19 +5,19 @@ ghost use Rattle.xw_cli.specs.Performed.{IsPerformed, Performs};
 use crate::convert::convert;
 use crate::edit::edit;
 use xw_arguments::Call;
+use xw_desk::desk::Desk;
+use xw_desk::failure::{ExitStatus, Failure};
+use xw_desk::outlet::Outlet;
 use xw_disk::Disk;
 use xw_feas::searchable::Searchable;
 use xw_lines::{Sink, Source};
-use xw_puzzle_files::desk::Desk;
-use xw_puzzle_files::failure::{Failure, Status};
-use xw_puzzle_files::outlet::Outlet;
 
 /// Executes a call, reports a failure if there is one, and returns the exit status. On a terminal, failures are
 /// explained.
 pub fn perform<F: Searchable, D: Disk, I: Source, O: Outlet, E: Sink>(
     desk: &mut Desk<D, I, O, E>,
     call: Call<'_>,
-) -> Status
+) -> ExitStatus
     ensures { Performs call.entry result desk.old desk.new }
 {
     explain_if(desk, call.is_explained());
@@ -38,7 +38,7 @@ fn explain_if<D: Disk, I: Source, O: Outlet, E: Sink>(desk: &mut Desk<D, I, O, E
 fn run<'a, F: Searchable, D: Disk, I: Source, O: Outlet, E: Sink>(
     desk: &mut Desk<D, I, O, E>,
     call: Call<'a>,
-) -> Result<Status, Failure<'a>>
+) -> Result<ExitStatus, Failure<'a>>
     ensures { IsPerformed call.entry result desk.old desk.new }
 {
     match call {

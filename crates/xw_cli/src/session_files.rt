@@ -1,29 +1,29 @@
 //! The files of a session other than its puzzle: the word list, the commands to replay, and the record.
 ghost use Rattle.std.specs.Prelude.{◌≡◌, ◌⊎◌, ◌++◌, ◌&&◌, ℕ, Ok, Err, None, IfOk, IfErr, OnOk, OnErr, IsOkUnless};
 ghost use Rattle.xw_words.specs.WordList.{listed_in};
-ghost use Rattle.xw_answers.specs.Text.{name_of};
+ghost use Rattle.xw_answers.specs.Text.{word_fault};
 ghost use Rattle.xw_lines.specs.Cut.{lines_of};
 ghost use Rattle.xw_disk.specs.Disk.{keep, replace};
 ghost use Rattle.xw_disk.specs.declared.disk.DiskFault.{DiskFault};
-ghost use Rattle.xw_puzzle_files.specs.Told.{IsOldFaultOf};
-ghost use Rattle.xw_puzzle_files.specs.declared.failure.Failure.TheVariants.{Memory};
-ghost use Rattle.xw_puzzle_files.specs.Desk.{Asks, Reports, ReportsIf};
-ghost use Rattle.xw_puzzle_files.specs.Files.{IsFileFault};
+ghost use Rattle.xw_desk.specs.Told.{IsOldFaultOf};
+ghost use Rattle.xw_desk.specs.declared.failure.Failure.TheVariants.{Memory};
+ghost use Rattle.xw_desk.specs.Desk.{Asks, Reports, ReportsIf};
+ghost use Rattle.xw_desk.specs.Files.{IsFileFault};
 ghost use Rattle.xw_cli.specs.SessionFiles.{counts_line, cut_line, ends_in_known, file_of, is_long, old_line, tells_loss, HasKept, IsLoaded, IsLoadedTold, IsLoadingTold, IsNotKept, IsOverfull, IsResumed, IsStopped, IsUnloaded, IsUnsaved, Replays, TellsReplay};
 
 use crate::lists::notes_of;
 use memchr::memchr_iter;
-use xw_answers::refusal::{self, Refusal};
+use xw_answers::refusal;
+use xw_desk::desk::Desk;
+use xw_desk::failure::{Failure, old_failure_of};
+use xw_desk::files::{file_fault, line_fault};
+use xw_desk::outlet::Outlet;
 use xw_disk::Disk;
 use xw_disk::replacing::kept_name;
 use xw_feas::feasible::Feasible;
 use xw_feas::searchable::Searchable;
 use xw_journal::file::{is_cut, kept, saved};
 use xw_lines::{Sink, Source};
-use xw_puzzle_files::desk::Desk;
-use xw_puzzle_files::failure::{Failure, old_failure_of};
-use xw_puzzle_files::files::{file_fault, line_fault};
-use xw_puzzle_files::outlet::Outlet;
 use xw_session::Session;
 use xw_session::resuming::{self, Stop};
 use xw_session::vec_sink::VecSink;
@@ -124,11 +124,11 @@ fn dictionary_of<'a, D: Disk, I: Source, O: Outlet, E: Sink>(
 /// Returns the failure for a fault of a word list.
 fn unloaded<'a>(file: &'a str, fault: WordFault) -> Failure<'a>
     ensures memory { fault ≡ WordFault.Memory → result ≡ Memory }
-    ensures told { (result ≡ Memory) ⊎ IsFileFault file.entry.now (name_of (Refusal.Word fault)) None result }
+    ensures told { (result ≡ Memory) ⊎ IsFileFault file.entry.now (word_fault fault) None result }
 {
     match fault {
         WordFault::Memory => Failure::Memory,
-        _ => file_fault(file, refusal::name(Refusal::Word(fault)), None),
+        _ => file_fault(file, refusal::word_name(fault), None),
     }
 }
 

@@ -10,12 +10,12 @@ use std::io::{self, BufWriter, ErrorKind, IsTerminal};
 use std::os::fd::{AsRawFd, IntoRawFd};
 use xw_arguments::Usage;
 use xw_arguments::arguments::arguments;
+use xw_desk::desk::Desk;
+use xw_desk::failure::ExitStatus;
+use xw_desk::outlet::{Outlet, Output, Watched};
 use xw_disk::{Disk, SystemDisk};
 use xw_feas::searchable::Searchable;
 use xw_lines::{Sink, Source, device};
-use xw_puzzle_files::desk::Desk;
-use xw_puzzle_files::failure::Status;
-use xw_puzzle_files::outlet::{Outlet, Output, Watched};
 use xw_session::{FromRead, ToWrite};
 
 /// The size of the output buffer in bytes.
@@ -39,13 +39,13 @@ fn open_closed_streams(rt: &HostRuntime) {
 }
 
 /// Runs the program and returns its exit status.
-pub fn start<F: Searchable>(rt: &HostRuntime) -> Status {
+pub fn start<F: Searchable>(rt: &HostRuntime) -> ExitStatus {
     open_closed_streams(rt);
     match start_gathered::<F>(rt) {
         Ok(status) => status,
         Err(_) => {
             let _ = device::write_all(&mut ToWrite::new(rt.stderr()), b"xw: memory\n");
-            Status::Failed
+            ExitStatus::Failed
         }
     }
 }
@@ -55,7 +55,7 @@ pub fn start<F: Searchable>(rt: &HostRuntime) -> Status {
 pub fn answer_words<F: Searchable, S: AsStr, D: Disk, I: Source, O: Outlet, E: Sink>(
     desk: &mut Desk<D, I, O, E>,
     words: &[S],
-) -> Status
+) -> ExitStatus
     ensures { AnswersWords (map S.text words.now) result desk.old desk.new }
 {
     match arguments(desk.alloc, words) {
@@ -65,7 +65,7 @@ pub fn answer_words<F: Searchable, S: AsStr, D: Disk, I: Source, O: Outlet, E: S
 }
 
 /// Runs the program with buffered output. Fails if an allocation for the setup fails.
-fn start_gathered<F: Searchable>(rt: &HostRuntime) -> io::Result<Status> {
+fn start_gathered<F: Searchable>(rt: &HostRuntime) -> io::Result<ExitStatus> {
     let mark = Cell::new(false);
     let watched = Watched::new(rt.stdout(), &mark);
     let writer = BufWriter::with_capacity(rt.alloc(), GATHERED, watched)?;

@@ -13,7 +13,7 @@ use Rattle.xw_commands.specs.declared.command.SyntaxFault.{SyntaxFault}
 use Rattle.xw_commands.specs.declared.change.Change.{Change}
 use Rattle.xw_session.specs.Answer.{Answers}
 use Rattle.xw_answers.specs.Record.{letter_commands}
-use Rattle.xw_session.specs.State.{State}
+use Rattle.xw_session.specs.State.{SessionState}
 use Rattle.xw_session.specs.Resuming.{MayBeDone}
 use Rattle.xw_journal.specs.Group.{grouped}
 use Rattle.xw_journal.specs.declared.journal.Written.{Written}
@@ -89,7 +89,7 @@ journal_events before line other after = []
 -- The state of the session, what was written to the journal, how often a write to it failed, and why the session
 -- stopped, if it did.
 pub record JournaledState : Type 0 where
-  pub state : State
+  pub state : SessionState
   pub journal : List ℕ
   pub failures : ℕ
   pub cause : Option Cause
@@ -128,7 +128,7 @@ pub record StopsAtJournal (old : JournaledState) (line : List ℕ) (new : Journa
 
 -- ---- a line in parts
 
-abbrev pub journaled_state : State → List ℕ → ℕ → Option Cause → JournaledState
+abbrev pub journaled_state : SessionState → List ℕ → ℕ → Option Cause → JournaledState
 journaled_state state journal failures cause = record { state = state; journal = journal; failures = failures; cause = cause }
 
 -- The buffered line was executed, its text is in the journal, and this is its answer.

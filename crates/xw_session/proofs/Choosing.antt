@@ -13,9 +13,9 @@ use Rattle.xw_fill.specs.Position.{Position, position_of}
 use Rattle.xw_fill.specs.FeasibleWords.{is_feasible_word, feasible_words}
 use Rattle.xw_fill.specs.Search.{light_count, is_entered, spelling}
 use Rattle.xw_fill.specs.Words.{spellings_at, words_left, IsNextWord, HasNoMore}
-use Rattle.xw_answers.specs.declared.refusal.Refusal.{Refusal}
-use Rattle.xw_answers.specs.declared.refusal.Refusal.TheVariants as refusals
-use Rattle.xw_session.specs.State.{State as Session}
+use Rattle.xw_feas.specs.declared.edit.Refusal.{Refusal}
+use Rattle.xw_feas.specs.declared.edit.Refusal.TheVariants as edits
+use Rattle.xw_session.specs.State.{SessionState}
 use Rattle.xw_session.specs.Reply.{weighed, weighed_from}
 use Rattle.xw_session.specs.Choices.{known_index, spelled_index, first_index, words_from}
 
@@ -103,17 +103,17 @@ one_word position light below entered some =
 -- ---- the index of the word to begin with
 
 module _ (state : State) (light : ℕ) (bytes : List ℕ) where
-  pub with_bad_letter : (at : ℕ) → position is_bad_letter bytes ≡ Some at → Err (refusals.Word (words.BadLetter (at + 1))) ≡ first_index state light (Some bytes)
+  pub with_bad_letter : (at : ℕ) → position is_bad_letter bytes ≡ Some at → Err (edits.Word (words.BadLetter (at + 1))) ≡ first_index state light (Some bytes)
   with_bad_letter at e = sym (ap (λ bad. spelled_index state light bad bytes) e)
 
-  pub of_other_length : position is_bad_letter bytes ≡ None → (length bytes == length (light_at (position_of state).board light)) ≡ false → Err refusals.PlaceLength ≡ first_index state light (Some bytes)
+  pub of_other_length : position is_bad_letter bytes ≡ None → (length bytes == length (light_at (position_of state).board light)) ≡ false → Err edits.PlaceLength ≡ first_index state light (Some bytes)
   of_other_length letters other =
-      sym (ap (λ bad. spelled_index state light bad bytes) letters ∙ ap (λ b. cond b (known_index (index_of_word state.words (map folded bytes))) (Err refusals.PlaceLength)) other)
+      sym (ap (λ bad. spelled_index state light bad bytes) letters ∙ ap (λ b. cond b (known_index (index_of_word state.words (map folded bytes))) (Err edits.PlaceLength)) other)
 
   pub of_this_length : position is_bad_letter bytes ≡ None → (length bytes == length (light_at (position_of state).board light)) ≡ true → (found : Option ℕ) → found ≡ index_of_word state.words (map folded bytes) → known_index found ≡ first_index state light (Some bytes)
   of_this_length letters same found e =
-      ap known_index e ∙ sym (ap (λ bad. spelled_index state light bad bytes) letters ∙ ap (λ b. cond b (known_index (index_of_word state.words (map folded bytes))) (Err refusals.PlaceLength)) same)
+      ap known_index e ∙ sym (ap (λ bad. spelled_index state light bad bytes) letters ∙ ap (λ b. cond b (known_index (index_of_word state.words (map folded bytes))) (Err edits.PlaceLength)) same)
 
 -- the reply, by the light and the index
-pub weighed_by : (state : Session) (light most : ℕ) (first : Option (List ℕ)) (found : Option ℕ) (from : Result (Option ℕ) Refusal) → found ≡ Some light → from ≡ first_index state.engine light first → weighed state found most first ≡ weighed_from state light most from
+pub weighed_by : (state : SessionState) (light most : ℕ) (first : Option (List ℕ)) (found : Option ℕ) (from : Result (Option ℕ) Refusal) → found ≡ Some light → from ≡ first_index state.engine light first → weighed state found most first ≡ weighed_from state light most from
 weighed_by state light most first found from is e = ap (λ f. weighed state f most first) is ∙ ap (weighed_from state light most) (sym e)

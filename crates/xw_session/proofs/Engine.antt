@@ -6,12 +6,12 @@ use Rattle.xw_letters.specs.LetterSet.{letters_in}
 use Rattle.xw_grid.specs.declared.cell.Cell.{Cell}
 use Rattle.xw_grid.specs.Grid.{is_inside, is_block, index_of, cell_at}
 use Rattle.xw_feas.specs.Board.{board_of}
-use Rattle.xw_feas.specs.State.{State as EngineState, Action, after}
+use Rattle.xw_feas.specs.State.{State, Action, after}
 use Rattle.xw_feas.specs.Feasible.{Answers, AreAnswers}
 use Rattle.xw_feas.specs.Changes.{letters_of, changes, cells_that_differ}
 use Rattle.xw_feas.specs.Engine.{IsEdited}
 use Rattle.xw_feas.specs.Queries.{cell_judged, on_light, words_of}
-use Rattle.xw_feas.specs.declared.edit.Refusal.{Refusal as EditRefusal}
+use Rattle.xw_feas.specs.declared.edit.Refusal.{Refusal}
 use Rattle.xw_feas.specs.declared.edit.Refusal.TheVariants as edits
 use Rattle.xw_grid.specs.declared.fault.GridFault.TheVariants as grids
 use Rattle.xw_feas.specs.declared.changed.Changed.{Changed}
@@ -24,65 +24,70 @@ use Rattle.xw_fill.specs.FeasibleLetters.{feasible_letters}
 use Rattle.xw_fill.specs.FeasibleWords.{feasible_words}
 use Rattle.xw_fill.proofs.FeasibleWordsLemmas.{answered_words}
 use Rattle.xw_fill.proofs.FeasibleLettersLemmas.{answered_letters}
-use Rattle.xw_answers.specs.declared.refusal.Refusal.{Refusal}
-use Rattle.xw_answers.specs.declared.refusal.Refusal.TheVariants as refusals
-use Rattle.xw_answers.specs.Refusal.{refusal_of}
-use Rattle.xw_session.specs.State.{State}
-use Rattle.xw_answers.specs.Text.{word_line, change_line, letters_line}
+use Rattle.xw_answers.specs.declared.refusal.CommandRefusal.{CommandRefusal}
+use Rattle.xw_answers.specs.declared.refusal.CommandRefusal.TheVariants as refusals
+use Rattle.xw_session.specs.State.{SessionState}
+use Rattle.xw_answers.specs.Text.{change_line, letters_line}
 use Rattle.xw_session.specs.Tally.{tally_line}
-use Rattle.xw_session.specs.Reply.{Reply, filling_name, changes_between, moved, want_of_action, lettered, tallied, fill_tried, grid_memory}
-use Rattle.xw_session.specs.Answer.{IsReply, edit_reply, fill_reply, state_after}
+use Rattle.xw_session.specs.Reply.{Reply, filling_line, changes_between, moved, want_of_action, lettered, tallied, fill_tried, grid_memory}
+use Rattle.xw_session.specs.Answer.{IsReply, lines_reply, state_after, watched_edit, watched_lines}
 
-abbrev pub Knows : EngineState → Answers → Type 0
+abbrev pub Knows : State → Answers → Type 0
 Knows engine answers = AreAnswers (board_of engine.grid) engine.words answers
 
 -- the letters that an engine answers are the feasible ones
-letters_are : (engine : EngineState) (answers : Answers) → Knows engine answers → letters_of answers ≡ feasible_letters (position_of engine)
+letters_are : (engine : State) (answers : Answers) → Knows engine answers → letters_of answers ≡ feasible_letters (position_of engine)
 letters_are engine answers exact = λ i. λ cell. answered_letters (position_of engine) answers exact cell i
 
-changes_are : (before now : EngineState) (a b : Answers) → Knows before a → Knows now b → changes now.grid a b ≡ changes_between before now
+changes_are : (before now : State) (a b : Answers) → Knows before a → Knows now b → changes now.grid a b ≡ changes_between before now
 changes_are before now a b exact_before exact_now =
     ap (λ (letters : ℕ → List ℕ). map (λ index. (cell_at now.grid index, letters_of b index)) (cells_that_differ now.grid letters (letters_of b) 0)) (letters_are before a exact_before)
     ∙ ap (λ (letters : ℕ → List ℕ). map (λ index. (cell_at now.grid index, letters index)) (cells_that_differ now.grid (feasible_letters (position_of before)) letters 0)) (letters_are now b exact_now)
 
-may_move : (state : State) (r : Result EngineState EditRefusal) → IsOk r → IsOk (moved state r)
+may_move : (state : SessionState) (r : Result State Refusal) → IsOk r → IsOk (moved state r)
 may_move state (Ok engine) is = is
 may_move state (Err refusal) is = is
 
--- an edit of the engine gives an allowed reply
-pub edit_fits : (state : State) (now : EngineState) (a b : Answers) (action : Action) (result : Result Changed EditRefusal) → Knows state.engine a → Knows now b → IsEdited state.engine a action result now b
-    → IsReply (moved state (after state.engine action)) (want_of_action state action) (edit_reply state.is_watched result (record state { engine = now }))
-edit_fits state now a b action (Ok changed) exact_before exact_now edited =
-    ap (moved state) edited.state
-    ∙ ap (λ lines. Ok (record { lines = if state.is_watched then flat_map change_line lines else []; state = record state { engine = now } })) (sym (changes_are state.engine now a b exact_before exact_now) ∙ sym edited.changes)
-edit_fits state now a b action (Err refusal) exact_before exact_now edited =
-    elim edited.rule [
-      | inl is ↦ inl (ap (moved state) is)
-      | inr wants ↦ inr (may_move state (after state.engine action) wants.0, ap (option_map refusal_of) wants.1)
-    ]
+module _ (state : SessionState) (now : State) (a b : Answers) (action : Action) (known : Knows state.engine a) (known_now : Knows now b) where
+  -- an edit of the engine gives an allowed reply
+  pub edit_fits : (result : Result Changed Refusal) → IsEdited state.engine a action result now b
+      → IsReply (moved state (after state.engine action)) (want_of_action state action) (lines_reply watched_lines (watched_edit state.is_watched result) (record state { engine = now }))
+  edit_fits (Ok changed) edited =
+      ap (moved state) edited.state
+      ∙ ap (λ lines. Ok (record { lines = if state.is_watched then flat_map change_line lines else []; state = record state { engine = now } })) (sym (changes_are state.engine now a b known known_now) ∙ sym edited.changes)
+  edit_fits (Err refusal) edited =
+      elim edited.rule [
+        | inl is ↦ inl (ap (moved state) is)
+        | inr wants ↦ inr (may_move state (after state.engine action) wants.0, ap (option_map refusals.Engine) wants.1)
+      ]
 
-pub edit_effect : (state : State) (now : EngineState) (a b : Answers) (action : Action) (result : Result Changed EditRefusal) → IsEdited state.engine a action result now b
-    → record state { engine = now } ≡ state_after state (edit_reply state.is_watched result (record state { engine = now }))
+pub edit_effect : (state : SessionState) (now : State) (a b : Answers) (action : Action) (result : Result Changed Refusal) → IsEdited state.engine a action result now b
+    → record state { engine = now } ≡ state_after state (lines_reply watched_lines (watched_edit state.is_watched result) (record state { engine = now }))
 edit_effect state now a b action (Ok changed) edited = refl
-edit_effect state now a b action (Err refusal) edited = ap (λ (p : EngineState). record state { engine = p }) edited.state
+edit_effect state now a b action (Err refusal) edited = ap (λ (p : State). record state { engine = p }) edited.state
+
+-- the engine is as it was, or is the one that the reply has
+pub lines_effect : {T : Type 0} (lines : T → List ℕ) (state : SessionState) (now : State) (result : Result T Refusal) → OnErr result (now ≡ state.engine) → record state { engine = now } ≡ state_after state (lines_reply lines result (record state { engine = now }))
+lines_effect lines state now (Ok given) same = refl
+lines_effect lines state now (Err refusal) same = ap (λ (p : State). record state { engine = p }) same
 
 -- ---- letters of a cell
 
-judged : {X : Type 0} (is_in blocks : Bool) (good letters : List ℕ) (answer : List ℕ → Result X Refusal)
+judged : {X : Type 0} (is_in blocks : Bool) (good letters : List ℕ) (answer : List ℕ → Result X CommandRefusal)
     → (if not is_in then Err (edits.Grid grids.OutOfGrid) else if blocks then Err (edits.Grid grids.OnBlock) else Ok good) ≡ Ok letters
-    → (if not is_in then Err (refusals.Grid grids.OutOfGrid) else if blocks then Err (refusals.Grid grids.OnBlock) else answer good) ≡ answer letters
+    → (if not is_in then Err (refusals.Engine (edits.Grid grids.OutOfGrid)) else if blocks then Err (refusals.Engine (edits.Grid grids.OnBlock)) else answer good) ≡ answer letters
 judged true false good letters answer is = let same : good ≡ letters = cc in ap answer same
 judged true true good letters answer is = cc
 judged false blocks good letters answer is = cc
 
-pub lettered_is : (state : State) (answers : Answers) (cell : Cell) (set : ℕ) → Knows state.engine answers
+pub lettered_is : (state : SessionState) (answers : Answers) (cell : Cell) (set : ℕ) → Knows state.engine answers
     → cell_judged state.engine.grid cell (letters_of answers (index_of state.engine.grid cell)) ≡ Ok (letters_in set)
     → lettered state cell ≡ Ok (letters_line (letters_in set))
 lettered_is state answers cell set exact is =
     judged (is_inside state.engine.grid cell) (is_block state.engine.grid cell) _ _ (λ letters. Ok (letters_line letters))
     (ap (cell_judged state.engine.grid cell) (sym (answered_letters (position_of state.engine) answers exact (index_of state.engine.grid cell))) ∙ is)
 
-pub tallied_is : (state : State) (answers : Answers) (cell : Cell) (set : ℕ) → Knows state.engine answers
+pub tallied_is : (state : SessionState) (answers : Answers) (cell : Cell) (set : ℕ) → Knows state.engine answers
     → cell_judged state.engine.grid cell (letters_of answers (index_of state.engine.grid cell)) ≡ Ok (letters_in set)
     → tallied state cell ≡ Ok (flat_map (tally_line state.engine cell) (letters_in set))
 tallied_is state answers cell set exact is =
@@ -91,7 +96,7 @@ tallied_is state answers cell set exact is =
 
 -- ---- words of a light
 
-pub counted : (engine : EngineState) (answers : Answers) (at : Option ℕ) (count : ℕ) (words : List (List ℕ)) → Knows engine answers
+pub counted : (engine : State) (answers : Answers) (at : Option ℕ) (count : ℕ) (words : List (List ℕ)) → Knows engine answers
     → Ok count ≡ on_light (λ light. length (words_of answers light)) at → Ok words ≡ on_light (words_of answers) at
     → (light : ℕ) × (at ≡ Some light) × (count ≡ length (feasible_words (position_of engine) light)) × (words ≡ feasible_words (position_of engine) light)
 counted engine answers None count words exact counts is = cc
@@ -103,7 +108,7 @@ counted engine answers (Some light) count words exact counts is =
 
 -- ---- fills
 
-abbrev one_of : Bool → Bool → Reply → Reply → Reply → Result Reply Refusal
+abbrev one_of : Bool → Bool → Reply → Reply → Reply → Result Reply CommandRefusal
 one_of past there a b c = if past then Ok a else if there then Ok b else Ok c
 
 fills : (past there : Bool) (a b c : Reply) → IsOk (one_of past there a b c)
@@ -118,14 +123,9 @@ past : (limit n : ℕ) → limit < n → nat_lt limit n ≡ true
 past limit n h = grind (arith, nat_tests, h)
 
 -- a search for a fill gives an allowed reply
-pub fill_fits : (state : State) (now : EngineState) (limit : ℕ) (result : Result Filling EditRefusal) → IfOk result (IsFilling limit state.engine now) → IfErr result (λ refusal. refusal ≡ edits.Grid grids.Memory)
-    → IsReply (fill_tried state limit) (Some grid_memory) (fill_reply result (record state { engine = now }))
-fill_fits state now limit (Ok fillings.Filled) is memory = rw (within limit (due (position_of state.engine)) is.0, is.1) (ap (λ (p : EngineState). Ok (record { lines = word_line (filling_name fillings.Filled); state = record state { engine = p } })) (sym is.2))
-fill_fits state now limit (Ok fillings.NoFill) is memory = rw (within limit (due (position_of state.engine)) is.0, is.1) (ap (λ (p : EngineState). Ok (record { lines = word_line (filling_name fillings.NoFill); state = record state { engine = p } })) (sym is.2))
-fill_fits state now limit (Ok fillings.Limit) is memory = rw (past limit (due (position_of state.engine)) is.0) (ap (λ (p : EngineState). Ok (record { lines = word_line (filling_name fillings.Limit); state = record state { engine = p } })) (sym is.1))
-fill_fits state now limit (Err refusal) is memory = inr (fills (nat_lt limit (due (position_of state.engine))) (found (position_of state.engine)) _ _ _, ap (λ r. Some (refusal_of r)) (sym memory))
-
-pub fill_effect : {E : Type 0} (state : State) (old new : E) (engine : E → EngineState) (result : Result Filling EditRefusal) → state.engine ≡ engine old → OnErr result (new ≡ old)
-    → record state { engine = engine new } ≡ state_after state (fill_reply result (record state { engine = engine new }))
-fill_effect state old new engine (Ok filling) is same = refl
-fill_effect state old new engine (Err refusal) is same = ap (λ (p : EngineState). record state { engine = p }) (ap engine same ∙ sym is)
+pub fill_fits : (state : SessionState) (now : State) (limit : ℕ) (result : Result Filling Refusal) → IfOk result (IsFilling limit state.engine now) → IfErr result (λ refusal. refusal ≡ edits.Grid grids.Memory)
+    → IsReply (fill_tried state limit) (Some grid_memory) (lines_reply filling_line result (record state { engine = now }))
+fill_fits state now limit (Ok fillings.Filled) is memory = rw (within limit (due (position_of state.engine)) is.0, is.1) (ap (λ (p : State). Ok (record { lines = filling_line fillings.Filled; state = record state { engine = p } })) (sym is.2))
+fill_fits state now limit (Ok fillings.NoFill) is memory = rw (within limit (due (position_of state.engine)) is.0, is.1) (ap (λ (p : State). Ok (record { lines = filling_line fillings.NoFill; state = record state { engine = p } })) (sym is.2))
+fill_fits state now limit (Ok fillings.Limit) is memory = rw (past limit (due (position_of state.engine)) is.0) (ap (λ (p : State). Ok (record { lines = filling_line fillings.Limit; state = record state { engine = p } })) (sym is.1))
+fill_fits state now limit (Err refusal) is memory = inr (fills (nat_lt limit (due (position_of state.engine))) (found (position_of state.engine)) _ _ _, ap (λ r. Some (refusals.Engine r)) (sym memory))

@@ -6,14 +6,14 @@ use Rattle.std.proofs.lemmas.Bool.{and_parts, and_from, false_from_ne_true}
 use Rattle.xw_grid.specs.declared.cell.LightName.{LightName}
 use Rattle.xw_grid.specs.Light.{lights_of, index_named}
 use Rattle.xw_commands.specs.declared.command.LightArg.{LightArg}
-use Rattle.xw_feas.specs.State.{State as EngineState}
+use Rattle.xw_feas.specs.State.{State}
 use Rattle.xw_fill.specs.NamedFill.{AreLights}
-use Rattle.xw_session.specs.Autofill.{names_of}
+use Rattle.xw_session.specs.NamedSearch.{names_of}
 use Rattle.xw_session.specs.Grades.{entered_lines, named_line, grade_lines}
 use Rattle.xw_session.specs.Reply.{are_lights}
-use Rattle.xw_session.proofs.Autofilling.{IsLight, head_of, tail_of, with_head}
+use Rattle.xw_session.proofs.Naming.{IsLight, head_of, tail_of, with_head}
 
-module _ (engine : EngineState) where
+module _ (engine : State) where
   -- ---- which lights there are
 
   pub all_there : (names : List LightName) → AreLights engine names → are_lights engine.grid names ≡ true

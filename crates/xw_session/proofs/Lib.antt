@@ -1,7 +1,7 @@
 pub mod Answering
 pub mod Engine
-pub mod Autofilling
-pub mod Besting
+pub mod Naming
+pub mod Searching
 pub mod Grading
 pub mod Reasoning
 pub mod Tallying

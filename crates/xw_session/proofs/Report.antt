@@ -11,9 +11,9 @@ use Rattle.xw_grid.specs.declared.fault.GridFault.TheVariants as grids
 use Rattle.xw_grid.specs.Grid.{Grid, is_inside, is_block, is_open, index_of, square_at, is_open_square, is_block_square}
 use Rattle.xw_grid.specs.Light.{lights_of, no_light}
 use Rattle.xw_grid.proofs.LightLemmas.{inside_from_open}
-use Rattle.xw_feas.specs.declared.edit.Refusal.{Refusal as EditRefusal}
+use Rattle.xw_feas.specs.declared.edit.Refusal.{Refusal}
 use Rattle.xw_feas.specs.declared.edit.Refusal.TheVariants as edits
-use Rattle.xw_feas.specs.State.{State as EngineState}
+use Rattle.xw_feas.specs.State.{State}
 use Rattle.xw_feas.specs.Feasible.{Answers}
 use Rattle.xw_feas.specs.Changes.{letters_of}
 use Rattle.xw_feas.specs.Queries.{cell_judged, words_of}
@@ -28,7 +28,7 @@ use Rattle.xw_session.proofs.Engine.{Knows}
 -- ---- lights
 
 -- the line of a light with its count of words is the specified one
-pub counted_line : (engine : EngineState) (answers : Answers) (index : ℕ) (light : Light) (count : ℕ) → Knows engine answers
+pub counted_line : (engine : State) (answers : Answers) (index : ℕ) (light : Light) (count : ℕ) → Knows engine answers
     → slice_get (lights_of engine.grid) index ≡ Some light → count ≡ length (words_of answers index) → numbered_line light.name count ≡ count_line engine index
 counted_line engine answers index light count exact there is =
     let found : get_or (lights_of engine.grid) index no_light ≡ light = get_or_from_slice_get (lights_of engine.grid) index light no_light there in
@@ -50,7 +50,7 @@ judged_open grid cell letters opened = judged (is_inside grid cell) (is_block gr
   judged true true a b = cc
   judged false blocks a b = cc
 
-pub told_letters : (engine : EngineState) (answers : Answers) (cell : Cell) (set : ℕ) → Knows engine answers → is_open engine.grid cell ≡ true
+pub told_letters : (engine : State) (answers : Answers) (cell : Cell) (set : ℕ) → Knows engine answers → is_open engine.grid cell ≡ true
     → cell_judged engine.grid cell (letters_of answers (index_of engine.grid cell)) ≡ Ok (letters_in set)
     → change_line (cell, letters_in set) ≡ letters_told engine cell
 told_letters engine answers cell set exact opened is =
@@ -59,7 +59,7 @@ told_letters engine answers cell set exact opened is =
     let same : letters_in set ≡ good = cc in
     rw opened (ap (λ letters. change_line (cell, letters)) (same ∙ answered_letters (position_of engine) answers exact (index_of engine.grid cell)))
 
-pub never_untold : (engine : EngineState) (answers : Answers) (cell : Cell) (refusal : EditRefusal) → is_open engine.grid cell ≡ true
+pub never_untold : (engine : State) (answers : Answers) (cell : Cell) (refusal : Refusal) → is_open engine.grid cell ≡ true
     → cell_judged engine.grid cell (letters_of answers (index_of engine.grid cell)) ≡ Err refusal → ⊥
 never_untold engine answers cell refusal opened is =
     let good = letters_of answers (index_of engine.grid cell) in

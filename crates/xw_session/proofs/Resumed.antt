@@ -11,10 +11,10 @@ use Rattle.xw_commands.specs.Command.{command_of}
 use Rattle.xw_commands.specs.declared.command.Command.{Command}
 use Rattle.xw_session.specs.Reply.{Reply}
 use Rattle.xw_session.specs.Answer.{Answers, AnswersParsed, AnswersTo, IsExecuted, Replies, ended_by, state_after, step_of, text_of}
-use Rattle.xw_answers.specs.declared.refusal.Refusal.{Refusal}
+use Rattle.xw_answers.specs.declared.refusal.CommandRefusal.{CommandRefusal}
 use Rattle.xw_session.specs.declared.resuming.Stop.{Stop}
 use Rattle.xw_session.specs.declared.resuming.Stop.TheVariants.{NoCommand, Memory}
-use Rattle.xw_session.specs.State.{State}
+use Rattle.xw_session.specs.State.{SessionState}
 use Rattle.xw_session.specs.Redrawn.{IsRedrawn}
 use Rattle.xw_session.specs.Resuming.{AreDone, IsDone, IsReached, MayBeDone, Resumes, ResumesLine, Tells, count, is_memory, line_fault, parsed_fault, refused_line, told_of}
 
@@ -30,26 +30,26 @@ first_of_both text line rest first = sym (lines_are_pieces text) ∙ first ∙ a
 
 -- ---- one line
 
-accepted-reply : (reply : Result Reply Refusal) (done : Unit {0}) → Ok done ≡ ended_by reply → step_of reply ≢ Refused
+accepted-reply : (reply : Result Reply CommandRefusal) (done : Unit {0}) → Ok done ≡ ended_by reply → step_of reply ≢ Refused
 accepted-reply (Ok reply) done is = λ e. cc
 accepted-reply (Err refusal) done is = cc
 
-refused-reply : (reply : Result Reply Refusal) (refusal : Refusal) → Err refusal ≡ ended_by reply → reply ≡ Err refusal
+refused-reply : (reply : Result Reply CommandRefusal) (refusal : CommandRefusal) → Err refusal ≡ ended_by reply → reply ≡ Err refusal
 refused-reply (Ok reply) refusal is = cc
 refused-reply (Err why) refusal is = let same : refusal ≡ why = cc in ap Err (sym same)
 
 -- a command whose answer broke off was executed, and ended somehow
-pub broken-executed : {S E : Type 0} (transcript : S → List ℕ) (failures : S → ℕ) (state after : State) (command : Command) (error : E) (old new : S) → AnswersTo transcript failures state command (Err error) after old new
-    → (ended : Result (Unit {0}) Refusal) × IsExecuted state command ended after
+pub broken-executed : {S E : Type 0} (transcript : S → List ℕ) (failures : S → ℕ) (state after : SessionState) (command : Command) (error : E) (old new : S) → AnswersTo transcript failures state command (Err error) after old new
+    → (ended : Result (Unit {0}) CommandRefusal) × IsExecuted state command ended after
 broken-executed transcript failures state after command error old new (due, owed, a) =
     (ended_by a.reply, record { reply = a.reply; fits = (due, owed, a.fits); is = refl; effect = a.effect })
 
 -- a refused command leaves the state
-pub refused-same : (state after : State) (command : Command) (refusal : Refusal) → IsExecuted state command (Err refusal) after → after ≡ state
+pub refused-same : (state after : SessionState) (command : Command) (refusal : CommandRefusal) → IsExecuted state command (Err refusal) after → after ≡ state
 refused-same state after command refusal executed = executed.effect ∙ ap (state_after state) (refused-reply executed.reply refusal executed.is)
 
-module _ (state after : State) (line : List ℕ) (command : Command) (is : command_of line ≡ Ok (Some command)) where
-  answered : (reply : Result Reply Refusal) → Replies state command reply → after ≡ state_after state reply → Answers state line (step_of reply) (text_of reply) after
+module _ (state after : SessionState) (line : List ℕ) (command : Command) (is : command_of line ≡ Ok (Some command)) where
+  answered : (reply : Result Reply CommandRefusal) → Replies state command reply → after ≡ state_after state reply → Answers state line (step_of reply) (text_of reply) after
   answered reply fits effect = subst (λ parsed. AnswersParsed state parsed (step_of reply) (text_of reply) after) (sym is) (reply, fits, refl, refl, effect)
 
   -- a line is done whose command was executed and not refused
@@ -58,7 +58,7 @@ module _ (state after : State) (line : List ℕ) (command : Command) (is : comma
       (whole, step_of executed.reply, text_of executed.reply, answered executed.reply executed.fits executed.effect, accepted-reply executed.reply done executed.is)
 
   -- or refused, but not for a failed allocation
-  pub done-refused : (refusal : Refusal) → line_fault line ≡ None → is_memory refusal ≡ false → IsExecuted state command (Err refusal) after → IsDone state line (Some refusal) after
+  pub done-refused : (refusal : CommandRefusal) → line_fault line ≡ None → is_memory refusal ≡ false → IsExecuted state command (Err refusal) after → IsDone state line (Some refusal) after
   done-refused refusal whole other executed = (
     whole,
     subst (λ reply. Answers state line (step_of reply) (text_of reply) after) (refused-reply executed.reply refusal executed.is) (answered executed.reply executed.fits executed.effect),
@@ -66,18 +66,18 @@ module _ (state after : State) (line : List ℕ) (command : Command) (is : comma
   )
 
   -- however it ended, its line may be done
-  pub may-done : (ended : Result (Unit {0}) Refusal) → IsExecuted state command ended after → MayBeDone state line after
+  pub may-done : (ended : Result (Unit {0}) CommandRefusal) → IsExecuted state command ended after → MayBeDone state line after
   may-done ended executed = (step_of executed.reply, text_of executed.reply, answered executed.reply executed.fits executed.effect)
 
 -- ---- how the replay of a line ends
 
-module _ {S : Type 0} (transcript : S → List ℕ) (failures : S → ℕ) (file : List ℕ) (number : ℕ) (state after : State) (line : List ℕ) (command : Command) (is : command_of line ≡ Ok (Some command)) (whole : line_fault line ≡ None) where
+module _ {S : Type 0} (transcript : S → List ℕ) (failures : S → ℕ) (file : List ℕ) (number : ℕ) (state after : SessionState) (line : List ℕ) (command : Command) (is : command_of line ≡ Ok (Some command)) (whole : line_fault line ≡ None) where
   -- its command was not refused
   pub resumes-accepted : (done : Unit {0}) (old : S) → IsExecuted state command (Ok done) after → ResumesLine transcript failures file number state line (Ok 0) after old old
   resumes-accepted done old executed = (None, done-accepted state after line command is done whole executed, refl, inl (sym (append-nil (transcript old)), refl))
 
   -- it was refused, and reported unless memory is short
-  pub resumes-refused : (refusal : Refusal) (result : Result ℕ Stop) (old new : S) → IsExecuted state command (Err refusal) after
+  pub resumes-refused : (refusal : CommandRefusal) (result : Result ℕ Stop) (old new : S) → IsExecuted state command (Err refusal) after
       → IfOk result (λ refused. (refused ≡ 1) × (is_memory refusal ≡ false) × Tells transcript failures old new (refused_line file number refusal)) → IfErr result (λ stop. (stop ≡ Memory) × (new ≡ old))
       → ResumesLine transcript failures file number state line result after old new
   resumes-refused refusal (Ok refused) old new executed told untold = (Some refusal, done-refused state after line command is refusal whole told.1 executed, told.0, told.2)
@@ -85,11 +85,11 @@ module _ {S : Type 0} (transcript : S → List ℕ) (failures : S → ℕ) (file
       subst (λ stop. ResumesLine transcript failures file number state line (Err stop) after old new) (sym untold.0) (whole, may-done state after line command is (Err refusal) executed, untold.1)
 
   -- an allocation failed
-  pub resumes-short : (ended : Result (Unit {0}) Refusal) (old : S) → IsExecuted state command ended after → ResumesLine transcript failures file number state line (Err Memory) after old old
+  pub resumes-short : (ended : Result (Unit {0}) CommandRefusal) (old : S) → IsExecuted state command ended after → ResumesLine transcript failures file number state line (Err Memory) after old old
   resumes-short ended old executed = (whole, may-done state after line command is ended executed, refl)
 
 -- a line without a command is done
-pub silent-done : (state : State) (line : List ℕ) → command_of line ≡ Ok None → IsDone state line None state
+pub silent-done : (state : SessionState) (line : List ℕ) → command_of line ≡ Ok None → IsDone state line None state
 silent-done state line is = (
   ap parsed_fault is,
   Silent,
@@ -98,19 +98,19 @@ silent-done state line is = (
   λ same. cc,
 )
 
-pub count-few : (refusal : Option Refusal) → count refusal ≤ 1
+pub count-few : (refusal : Option CommandRefusal) → count refusal ≤ 1
 count-few None = omega arith
 count-few (Some refusal) = omega arith
 
 -- ---- all lines before one
 
 -- one line is done
-pub done-one : (file : List ℕ) (number : ℕ) (start end : State) (line : List ℕ) (refusal : Option Refusal) → IsDone start line refusal end
+pub done-one : (file : List ℕ) (number : ℕ) (start end : SessionState) (line : List ℕ) (refusal : Option CommandRefusal) → IsDone start line refusal end
     → AreDone file number start (line ∷ []) (told_of file number refusal) (count refusal) end
 done-one file number start end line refusal one = (refusal, end, [], 0, one, (refl, refl, refl), sym (append-nil (told_of file number refusal)), omega arith)
 
 -- more lines are done
-pub done-all : (lines others : List (List ℕ)) (file : List ℕ) (number : ℕ) (start mid end : State) (transcript more_transcript : List ℕ) (refused more : ℕ)
+pub done-all : (lines others : List (List ℕ)) (file : List ℕ) (number : ℕ) (start mid end : SessionState) (transcript more_transcript : List ℕ) (refused more : ℕ)
     → AreDone file number start lines transcript refused mid → AreDone file (number + length lines) mid others more_transcript more end
     → AreDone file number start (lines ++ others) (transcript ++ more_transcript) (refused + more) end
 done-all [] others file number start mid end transcript more_transcript refused more done all =
@@ -146,7 +146,7 @@ module _ {S : Type 0} (transcript : S → List ℕ) (failures : S → ℕ) where
   tells-nothing old new same = rw same (inl (sym (append-nil (transcript old)), refl))
 
   -- The lines before the rest of a text are commands that were done: so many, of which so many are refused, and they leave this state.
-  pub record Goes (file : List ℕ) (start : State) (text rest : List ℕ) (number refused : ℕ) (state : State) (old new : S) : Type 0 where
+  pub record Goes (file : List ℕ) (start : SessionState) (text rest : List ℕ) (number refused : ℕ) (state : SessionState) (old new : S) : Type 0 where
     before : List (List ℕ)
     out : List ℕ
     parts : lines_of text ≡ before ++ lines_of rest
@@ -155,7 +155,7 @@ module _ {S : Type 0} (transcript : S → List ℕ) (failures : S → ℕ) where
     tells : Tells transcript failures old new out
 
   -- no line is done
-  pub goes-begun : (file : List ℕ) (start : State) (text : List ℕ) (old : S) → Goes file start text text 0 0 start old old
+  pub goes-begun : (file : List ℕ) (start : SessionState) (text : List ℕ) (old : S) → Goes file start text text 0 0 start old old
   goes-begun file start text old = record {
     before = [];
     out = [];
@@ -166,7 +166,7 @@ module _ {S : Type 0} (transcript : S → List ℕ) (failures : S → ℕ) where
   }
 
   -- more lines are done
-  goes-further : (file : List ℕ) (start mid end : State) (text rest next : List ℕ) (number refused taken more : ℕ) (old now new : S) (lines : List (List ℕ)) (told : List ℕ)
+  goes-further : (file : List ℕ) (start mid end : SessionState) (text rest next : List ℕ) (number refused taken more : ℕ) (old now new : S) (lines : List (List ℕ)) (told : List ℕ)
       → lines_of rest ≡ lines ++ lines_of next → taken ≡ length lines → AreDone file (number + 1) mid lines told more end → Tells transcript failures now new told
       → Goes file start text rest number refused mid old now → Goes file start text next (number + taken) (refused + more) end old new
   goes-further file start mid end text rest next number refused taken more old now new lines told parts counted done said goes =
@@ -182,25 +182,25 @@ module _ {S : Type 0} (transcript : S → List ℕ) (failures : S → ℕ) where
       }
 
   -- one more line is done
-  pub goes-on : (file : List ℕ) (start mid end : State) (text rest next line : List ℕ) (number refused more : ℕ) (old now new : S) → lines_of rest ≡ line ∷ lines_of next
+  pub goes-on : (file : List ℕ) (start mid end : SessionState) (text rest next line : List ℕ) (number refused more : ℕ) (old now new : S) → lines_of rest ≡ line ∷ lines_of next
       → ResumesLine transcript failures file (number + 1) mid line (Ok more) end now new → Goes file start text rest number refused mid old now → Goes file start text next (number + 1) (refused + more) end old new
   goes-on file start mid end text rest next line number refused more old now new first (refusal, did, counted, said) goes =
       goes-further file start mid end text rest next number refused 1 more old now new (line ∷ []) (told_of file (number + 1) refusal) first (omega arith)
       (rw counted (done-one file (number + 1) mid end line refusal did)) said goes
 
   -- the state is still the same
-  pub goes-still : (file : List ℕ) (start mid end : State) (text rest : List ℕ) (number refused : ℕ) (old now : S) → end ≡ mid → Goes file start text rest number refused mid old now
+  pub goes-still : (file : List ℕ) (start mid end : SessionState) (text rest : List ℕ) (number refused : ℕ) (old now : S) → end ≡ mid → Goes file start text rest number refused mid old now
       → Goes file start text rest number refused end old now
   goes-still file start mid end text rest number refused old now same goes = subst (λ state. Goes file start text rest number refused state old now) (sym same) goes
 
   -- lines are done at once
-  pub goes-jump : (file : List ℕ) (start mid end : State) (text rest next reports : List ℕ) (number refused taken more : ℕ) (old now new : S) → IsRedrawn file number rest mid taken more reports next end
+  pub goes-jump : (file : List ℕ) (start mid end : SessionState) (text rest next reports : List ℕ) (number refused taken more : ℕ) (old now new : S) → IsRedrawn file number rest mid taken more reports next end
       → Tells transcript failures now new reports → Goes file start text rest number refused mid old now → Goes file start text next (number + taken) (refused + more) end old new
   goes-jump file start mid end text rest next reports number refused taken more old now new drew said goes =
       goes-further file start mid end text rest next number refused taken more old now new drew.lines reports drew.parts drew.counted drew.done said goes
 
   -- a line is reached
-  reached : (file : List ℕ) (start state : State) (text rest next line : List ℕ) (number refused : ℕ) (old now : S) → lines_of rest ≡ line ∷ lines_of next
+  reached : (file : List ℕ) (start state : SessionState) (text rest next line : List ℕ) (number refused : ℕ) (old now : S) → lines_of rest ≡ line ∷ lines_of next
       → (goes : Goes file start text rest number refused state old now) → IsReached file start (lines_of text) goes.out state line (number + 1)
   reached file start state text rest next line number refused old now first goes = record {
     before = goes.before;
@@ -212,7 +212,7 @@ module _ {S : Type 0} (transcript : S → List ℕ) (failures : S → ℕ) where
   }
 
   -- the next line stops them
-  pub goes-stop : (file : List ℕ) (start mid end : State) (text rest next line : List ℕ) (number refused : ℕ) (stop : Stop) (old now new : S) → lines_of rest ≡ line ∷ lines_of next
+  pub goes-stop : (file : List ℕ) (start mid end : SessionState) (text rest next line : List ℕ) (number refused : ℕ) (stop : Stop) (old now new : S) → lines_of rest ≡ line ∷ lines_of next
       → ResumesLine transcript failures file (number + 1) mid line (Err stop) end now new → Goes file start text rest number refused mid old now
       → (out : List ℕ) × Resumes file start (lines_of text) (Err stop) out end × Tells transcript failures old new out
   goes-stop file start mid end text rest next line number refused (NoCommand told refusal) old now new first (here, why, same, quiet) goes =
@@ -229,7 +229,7 @@ module _ {S : Type 0} (transcript : S → List ℕ) (failures : S → ℕ) where
       )
 
   -- nothing is left
-  pub goes-end : (file : List ℕ) (start end : State) (text rest : List ℕ) (number refused : ℕ) (old new : S) → length rest ≡ 0 → Goes file start text rest number refused end old new
+  pub goes-end : (file : List ℕ) (start end : SessionState) (text rest : List ℕ) (number refused : ℕ) (old new : S) → length rest ≡ 0 → Goes file start text rest number refused end old new
       → (out : List ℕ) × Resumes file start (lines_of text) (Ok refused) out end × Tells transcript failures old new out
   goes-end file start end text [] number refused old new none goes =
       let all : lines_of text ≡ goes.before = goes.parts ∙ append-nil goes.before in

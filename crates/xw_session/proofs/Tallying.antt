@@ -14,7 +14,7 @@ use Rattle.xw_grid.proofs.LightTableLemmas.{held_step}
 use Rattle.xw_feas.specs.Board.{board_of, light_at}
 use Rattle.xw_feas.specs.Feasible.{Answers}
 use Rattle.xw_feas.specs.Queries.{tally_of}
-use Rattle.xw_feas.specs.State.{State as EngineState}
+use Rattle.xw_feas.specs.State.{State}
 use Rattle.xw_feas.proofs.FormedLemmas.{light_in, length-light_at}
 use Rattle.xw_fill.specs.Position.{position_of}
 use Rattle.xw_fill.proofs.FeasibleWordsLemmas.{answered_words}
@@ -54,7 +54,7 @@ pub start_found : (grid : Grid) (light : ℕ) (found : Light) → slice_get (lig
 start_found grid light found is = ap (λ (l : Light). l.start) (sym (get_or_from_slice_get (lights_of grid) light found no_light is))
 
 -- an engine counts the feasible words
-pub words_counted : (engine : EngineState) (answers : Answers) (direction : Direction) (cell : Cell) (letter light : ℕ) → Knows engine answers
+pub words_counted : (engine : State) (answers : Answers) (direction : Direction) (cell : Cell) (letter light : ℕ) → Knows engine answers
     → tally_of answers light (distance direction (start_of engine.grid light) cell) letter ≡ words_with engine direction cell letter light
 words_counted engine answers direction cell letter light exact =
     ap (count_by (λ word. slice_index word (distance direction (start_of engine.grid light) cell) == letter)) (answered_words (position_of engine) answers exact light)

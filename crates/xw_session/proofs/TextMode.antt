@@ -6,9 +6,9 @@ use Rattle.xw_commands.specs.declared.command.Field.{Field}
 use Rattle.xw_commands.specs.declared.command.TextMode.{TextMode}
 use Rattle.xw_commands.specs.declared.command.TextMode.TheVariants.{Behind}
 use Rattle.xw_session.specs.declared.session.putting.Target.{Target}
-use Rattle.xw_answers.specs.declared.refusal.Refusal.{Refusal}
-use Rattle.xw_answers.specs.declared.refusal.Refusal.TheVariants as refusals
-use Rattle.xw_session.specs.State.{State}
+use Rattle.xw_answers.specs.declared.refusal.CommandRefusal.{CommandRefusal}
+use Rattle.xw_answers.specs.declared.refusal.CommandRefusal.TheVariants as refusals
+use Rattle.xw_session.specs.State.{SessionState}
 use Rattle.xw_answers.specs.Escape.{text_spelled, has_nul}
 use Rattle.xw_session.specs.Put.{target_of, has_target, text_at, with_text_at, with_piece}
 use Rattle.xw_session.specs.Reply.{Reply, put, edited, want_of_text, grid_memory}
@@ -28,7 +28,7 @@ last_of_three true false x y z p q = refl
 last_of_three true true x y z p q = cc
 last_of_three false b x y z p q = cc
 
-module _ (state : State) (putting : TextMode) (field : Field) (spelling : List ℕ) where
+module _ (state : SessionState) (putting : TextMode) (field : Field) (spelling : List ℕ) where
   pub nul_due : is_some (text_spelled spelling) ≡ true → has_target state.engine.grid (target_of field) ≡ true → has_nul spelling ≡ true
       → put state putting field (text_spelled spelling) ≡ Err refusals.NulByte
   nul_due is targeted nul =
@@ -46,7 +46,7 @@ module _ (state : State) (putting : TextMode) (field : Field) (spelling : List �
             ∙ last_of_three (has_target state.engine.grid (target_of field)) (has_nul found.0) _ _ _ targeted (nul_spelled false spelling found.0 found.1 ∙ plain),
       )
 
-is_edited : (due : Result Reply Refusal) (state : State) → due ≡ edited state → IsOk due
+is_edited : (due : Result Reply CommandRefusal) (state : SessionState) → due ≡ edited state → IsOk due
 is_edited (Ok reply) state e = refl
 is_edited (Err refusal) state e = cc
 
@@ -55,14 +55,14 @@ wanted [] some = absurd (some refl)
 wanted (byte ∷ bytes) some = refl
 
 -- if a text is put, an allocation may fail
-pub memory_due : (state : State) (putting : TextMode) (field : Field) (spelling : List ℕ) → is_some (text_spelled spelling) ≡ true → has_target state.engine.grid (target_of field) ≡ true → has_nul spelling ≡ false
+pub memory_due : (state : SessionState) (putting : TextMode) (field : Field) (spelling : List ℕ) → is_some (text_spelled spelling) ≡ true → has_target state.engine.grid (target_of field) ≡ true → has_nul spelling ≡ false
     → (spelling ≡ [] → ⊥) → IsOk (put state putting field (text_spelled spelling)) × (want_of_text spelling ≡ Some grid_memory)
 memory_due state putting field spelling is targeted plain some =
     let due = put_due state putting field spelling is targeted plain in
     (is_edited (put state putting field (text_spelled spelling)) (with_piece state putting (target_of field) due.0) due.2, wanted spelling some)
 
 -- a piece that is not empty is appended
-pub put_behind : (state : State) (target : Target) (piece : List ℕ) → (piece ≡ [] → ⊥) → with_text_at state target (text_at state target ++ piece) ≡ with_piece state Behind target piece
+pub put_behind : (state : SessionState) (target : Target) (piece : List ℕ) → (piece ≡ [] → ⊥) → with_text_at state target (text_at state target ++ piece) ≡ with_piece state Behind target piece
 put_behind state target [] some = absurd (some refl)
 put_behind state target (byte ∷ bytes) some = refl
 

@@ -3,13 +3,12 @@ use Rattle.std.specs.declared.alloc.Global.{Global}
 use Rattle.std.specs.Prelude.{Vec, ◌≡◌, ◌⊎◌, ℕ, Bool, List, [], ◌++◌, flat_map, Option, Some, None, Result, Ok, Err, IsOk, IfOk, if◌then◌else◌}
 use Rattle.xw_grid.specs.Grid.{Grid}
 use Rattle.xw_feas.specs.declared.edit.Edit.{Edit}
-use Rattle.xw_feas.specs.declared.edit.Refusal.{Refusal as EditRefusal}
+use Rattle.xw_feas.specs.declared.edit.Refusal.{Refusal}
 use Rattle.xw_feas.specs.declared.changed.Changed.{Changed}
+use Rattle.xw_session.specs.declared.session.asking.Watched.{Watched}
 use Rattle.xw_feas.specs.State.{action_of, after}
 use Rattle.xw_feas.specs.Changed.{changes_left}
 use Rattle.xw_feas.specs.Changes.{spelled_out}
-use Rattle.xw_fill.specs.declared.search.Filling.{Filling}
-use Rattle.xw_fill.specs.declared.best.Best.{Best}
 use Rattle.xw_lines.specs.declared.outcome.Step.{Step}
 use Rattle.xw_lines.specs.declared.outcome.Step.TheVariants.{Silent, Accepted, Refused}
 use Rattle.xw_commands.specs.declared.command.Command.{Command}
@@ -20,21 +19,22 @@ use Rattle.xw_commands.specs.declared.change.Change.{Change}
 use Rattle.xw_commands.specs.declared.search.Search.{Search}
 use Rattle.xw_commands.specs.declared.search.Search.TheVariants as searches
 use Rattle.xw_commands.specs.declared.command.SyntaxFault.{SyntaxFault}
-use Rattle.xw_answers.specs.declared.refusal.Refusal.{Refusal}
-use Rattle.xw_answers.specs.declared.refusal.Refusal.TheVariants as refusals
+use Rattle.xw_answers.specs.declared.refusal.CommandRefusal.{CommandRefusal}
+use Rattle.xw_answers.specs.declared.refusal.CommandRefusal.TheVariants as refusals
 use Rattle.xw_commands.specs.Command.{command_of}
+use Rattle.xw_fill.specs.Best.{IsBest}
+use Rattle.xw_fill.specs.NamedFill.{IsAutofilled}
 use Rattle.xw_fill.specs.declared.why.NoReason.{NoReason}
-use Rattle.xw_answers.specs.Refusal.{refusal_of}
 use Rattle.xw_session.specs.Why.{refusal_without_reason, IsWhyAnswer, entry_lines}
-use Rattle.xw_session.specs.Reply.{Reply, answer_of, asked, changed, searched, want_of, want_of_change, want_of_action, name_of_light, moved, filling_name}
-use Rattle.xw_session.specs.Autofill.{names_of, IsAutofillDue}
-use Rattle.xw_session.specs.Best.{best_lines, IsBestDue}
+use Rattle.xw_session.specs.Reply.{Reply, answer_of, asked, changed, searched, want_of, want_of_change, want_of_action, name_of_light, moved, filling_line}
+use Rattle.xw_session.specs.NamedSearch.{names_of, IsSearchDue}
+use Rattle.xw_session.specs.Best.{best_lines}
 use Rattle.xw_lines.specs.Sends.{Sends}
-use Rattle.xw_session.specs.State.{State}
-use Rattle.xw_answers.specs.Text.{accepted, refused, word_line, change_line}
+use Rattle.xw_session.specs.State.{SessionState}
+use Rattle.xw_answers.specs.Text.{accepted, refused, change_line}
 
 -- an allowed reply: the specified one, or `want` (Memory) if the specified one is not a refusal
-abbrev pub IsReply : Result Reply Refusal → Option Refusal → Result Reply Refusal → Type 0
+abbrev pub IsReply : Result Reply CommandRefusal → Option CommandRefusal → Result Reply CommandRefusal → Type 0
 IsReply due want (Ok reply) = due ≡ Ok reply
 IsReply due want (Err refusal) = (due ≡ Err refusal) ⊎ (IsOk due × (want ≡ Some refusal))
 
@@ -44,116 +44,115 @@ IsOnlyOr None several due = several
 IsOnlyOr (Some only) several due = only ≡ due
 
 -- one of several answers to a query
-abbrev pub IsOneOf : State → Query → Result (List ℕ) Refusal → Type 0
+abbrev pub IsOneOf : SessionState → Query → Result (List ℕ) CommandRefusal → Type 0
 IsOneOf state (queries.Why named) answer = IsWhyAnswer state (name_of_light named) answer
 IsOneOf state other answer = ⊥
 
 -- an answer that the query may get if no allocation fails
-abbrev pub IsAnswer : State → Query → Result (List ℕ) Refusal → Type 0
+abbrev pub IsAnswer : SessionState → Query → Result (List ℕ) CommandRefusal → Type 0
 IsAnswer state query answer = IsOnlyOr (answer_of state query) (IsOneOf state query answer) answer
 
 -- one of several replies to a search
-abbrev pub IsFound : State → Search → Result Reply Refusal → Type 0
-IsFound state (searches.Autofill limit seed lights) due = IsAutofillDue state (names_of lights) due
-IsFound state (searches.Best limit seed lights) due = IsBestDue state (names_of lights) due
+abbrev pub IsFound : SessionState → Search → Result Reply CommandRefusal → Type 0
+IsFound state (searches.Autofill limit seed lights) due = IsSearchDue filling_line IsAutofilled state (names_of lights) due
+IsFound state (searches.Best limit seed lights) due = IsSearchDue best_lines IsBest state (names_of lights) due
 IsFound state other due = ⊥
 
 -- A reply that the command may get if no allocation fails. That to a query has its answer and the state as it was.
-abbrev pub IsDue : State → Command → Result Reply Refusal → Type 0
-IsDue state (commands.Ask query) due = (answer : Result (List ℕ) Refusal) × IsAnswer state query answer × (due ≡ asked state answer)
+abbrev pub IsDue : SessionState → Command → Result Reply CommandRefusal → Type 0
+IsDue state (commands.Ask query) due = (answer : Result (List ℕ) CommandRefusal) × IsAnswer state query answer × (due ≡ asked state answer)
 IsDue state (commands.Change change) due = changed state change ≡ due
 IsDue state (commands.Search search) due = IsOnlyOr (searched state search) (IsFound state search due) due
 
 -- a reply that the command may get
-abbrev pub Replies : State → Command → Result Reply Refusal → Type 0
-Replies state command reply = (due : Result Reply Refusal) × IsDue state command due × IsReply due (want_of state command) reply
+abbrev pub Replies : SessionState → Command → Result Reply CommandRefusal → Type 0
+Replies state command reply = (due : Result Reply CommandRefusal) × IsDue state command due × IsReply due (want_of state command) reply
 
-abbrev pub text_of : Result Reply Refusal → List ℕ
+abbrev pub text_of : Result Reply CommandRefusal → List ℕ
 text_of (Ok reply) = reply.lines ++ accepted
 text_of (Err refusal) = refused refusal
 
 -- a refused command changes nothing
-abbrev pub state_after : State → Result Reply Refusal → State
+abbrev pub state_after : SessionState → Result Reply CommandRefusal → SessionState
 state_after state (Ok reply) = reply.state
 state_after state (Err refusal) = state
 
 -- how a command with this reply ended
-abbrev pub ended_by : Result Reply Refusal → Result (Unit {0}) Refusal
+abbrev pub ended_by : Result Reply CommandRefusal → Result (Unit {0}) CommandRefusal
 ended_by (Ok reply) = Ok tt
 ended_by (Err refusal) = Err refusal
 
-abbrev pub step_of : Result Reply Refusal → Step
+abbrev pub step_of : Result Reply CommandRefusal → Step
 step_of (Ok reply) = Accepted
 step_of (Err refusal) = Refused
 
 -- An allowed reply was written to a writer, or a prefix of it if the writer failed. Its effect remains in both cases.
-pub record AnswersBy {S E : Type 0} (transcript : S → List ℕ) (failures : S → ℕ) (state : State) (due : Result Reply Refusal) (want : Option Refusal) (result : Result (Result (Unit {0}) Refusal) E) (after : State) (old new : S) : Type 0 where
-  pub reply : Result Reply Refusal
+pub record AnswersBy {S E : Type 0} (transcript : S → List ℕ) (failures : S → ℕ) (state : SessionState) (due : Result Reply CommandRefusal) (want : Option CommandRefusal) (result : Result (Result (Unit {0}) CommandRefusal) E) (after : SessionState) (old new : S) : Type 0 where
+  pub reply : Result Reply CommandRefusal
   pub fits : IsReply due want reply
   pub effect : after ≡ state_after state reply
   pub sends : Sends transcript failures old new result (text_of reply)
   pub step : IfOk result (λ ended. ended ≡ ended_by reply)
 
 -- an edit of the grid or the dictionary was answered
-abbrev pub AnswersEdit : {S E : Type 0} → (S → List ℕ) → (S → ℕ) → State → Edit → Result (Result (Unit {0}) Refusal) E → State → S → S → Type 0
+abbrev pub AnswersEdit : {S E : Type 0} → (S → List ℕ) → (S → ℕ) → SessionState → Edit → Result (Result (Unit {0}) CommandRefusal) E → SessionState → S → S → Type 0
 AnswersEdit transcript failures state edit result left old new =
     AnswersBy transcript failures state (moved state (after state.engine (action_of edit))) (want_of_action state (action_of edit)) result left old new
 
 -- the command was answered
-abbrev pub AnswersTo : {S E : Type 0} → (S → List ℕ) → (S → ℕ) → State → Command → Result (Result (Unit {0}) Refusal) E → State → S → S → Type 0
+abbrev pub AnswersTo : {S E : Type 0} → (S → List ℕ) → (S → ℕ) → SessionState → Command → Result (Result (Unit {0}) CommandRefusal) E → SessionState → S → S → Type 0
 AnswersTo transcript failures state command result after old new =
-    (due : Result Reply Refusal) × IsDue state command due × AnswersBy transcript failures state due (want_of state command) result after old new
+    (due : Result Reply CommandRefusal) × IsDue state command due × AnswersBy transcript failures state due (want_of state command) result after old new
 
 -- the query was answered, and the state stays as it was
-abbrev pub AnswersQuery : {S E : Type 0} → (S → List ℕ) → (S → ℕ) → State → Query → Result (Result (Unit {0}) Refusal) E → S → S → Type 0
+abbrev pub AnswersQuery : {S E : Type 0} → (S → List ℕ) → (S → ℕ) → SessionState → Query → Result (Result (Unit {0}) CommandRefusal) E → S → S → Type 0
 AnswersQuery transcript failures state query result old new = AnswersTo transcript failures state (commands.Ask query) result state old new
 
-abbrev pub AnswersChange : {S E : Type 0} → (S → List ℕ) → (S → ℕ) → State → Change → Result (Result (Unit {0}) Refusal) E → State → S → S → Type 0
+abbrev pub AnswersChange : {S E : Type 0} → (S → List ℕ) → (S → ℕ) → SessionState → Change → Result (Result (Unit {0}) CommandRefusal) E → SessionState → S → S → Type 0
 AnswersChange transcript failures state change result after old new = AnswersTo transcript failures state (commands.Change change) result after old new
 
-abbrev pub AnswersSearch : {S E : Type 0} → (S → List ℕ) → (S → ℕ) → State → Search → Result (Result (Unit {0}) Refusal) E → State → S → S → Type 0
+abbrev pub AnswersSearch : {S E : Type 0} → (S → List ℕ) → (S → ℕ) → SessionState → Search → Result (Result (Unit {0}) CommandRefusal) E → SessionState → S → S → Type 0
 AnswersSearch transcript failures state search result after old new = AnswersTo transcript failures state (commands.Search search) result after old new
 
 -- ---- what single functions of a session do
 
 -- the change stands for this edit of the engine, or is refused before any edit
-abbrev pub Asks : State → Change → Result Edit Refusal → Type 0
+abbrev pub Asks : SessionState → Change → Result Edit Refusal → Type 0
 Asks state change (Ok edit) = (changed state change ≡ moved state (after state.engine (action_of edit))) × (want_of_change state change ≡ want_of_action state (action_of edit))
-Asks state change (Err refusal) = changed state change ≡ Err refusal
+Asks state change (Err refusal) = changed state change ≡ Err (refusals.Engine refusal)
 
 -- the result of a command without answer lines, as a reply
-abbrev pub reply_of : {T : Type 0} → Result T Refusal → State → Result Reply Refusal
+abbrev pub reply_of : {T : Type 0} → Result T CommandRefusal → SessionState → Result Reply CommandRefusal
 reply_of (Ok u) state = Ok (record { lines = []; state = state })
 reply_of (Err refusal) state = Err refusal
 
--- the result of an engine edit, as a reply with the changed cells if the watch is on
-abbrev pub edit_reply : Bool → Result Changed EditRefusal → State → Result Reply Refusal
-edit_reply is_watched (Ok changed) state = Ok (record { lines = if is_watched then flat_map change_line (spelled_out (changes_left changed)) else []; state = state })
-edit_reply is_watched (Err refusal) state = Err (refusal_of refusal)
+-- what the engine gave, as a reply with its lines, or its refusal
+abbrev pub lines_reply : {T : Type 0} → (T → List ℕ) → Result T Refusal → SessionState → Result Reply CommandRefusal
+lines_reply lines (Ok given) state = Ok (record { lines = lines given; state = state })
+lines_reply lines (Err refusal) state = Err (refusals.Engine refusal)
 
--- the result of a search for a fill, as a reply that names it
-abbrev pub fill_reply : Result Filling EditRefusal → State → Result Reply Refusal
-fill_reply (Ok filling) state = Ok (record { lines = word_line (filling_name filling); state = state })
-fill_reply (Err refusal) state = Err (refusal_of refusal)
+-- the changed cells of an edit if the watch is on
+abbrev pub watched_lines : Watched → List ℕ
+watched_lines edit = if edit.is_watched then flat_map change_line (spelled_out (changes_left edit.changed)) else []
 
--- the result of a search for the best fill, as a reply that reports it
-abbrev pub best_reply : Result Best EditRefusal → State → Result Reply Refusal
-best_reply (Ok best) state = Ok (record { lines = best_lines best; state = state })
-best_reply (Err refusal) state = Err (refusal_of refusal)
+-- what the engine gave for an edit, with whether the watch is on
+abbrev pub watched_edit : Bool → Result Changed Refusal → Result Watched Refusal
+watched_edit is_watched (Ok changed) = Ok (record { changed = changed; is_watched = is_watched })
+watched_edit is_watched (Err refusal) = Err refusal
 
 -- the result of a search for a reason, as a reply with its entries
-abbrev pub why_reply : Grid → Result (Vec (Option ℕ) Global) NoReason → State → Result Reply Refusal
+abbrev pub why_reply : Grid → Result (Vec (Option ℕ) Global) NoReason → SessionState → Result Reply CommandRefusal
 why_reply grid (Ok entries) state = Ok (record { lines = entry_lines grid entries.items; state = state })
 why_reply grid (Err refusal) state = Err (refusal_without_reason refusal)
 
 -- A change was made or refused, and left the state that its reply has.
-abbrev pub Edits : {T : Type 0} → State → Change → Result T Refusal → State → Type 0
+abbrev pub Edits : {T : Type 0} → SessionState → Change → Result T CommandRefusal → SessionState → Type 0
 Edits state change result after = IsReply (changed state change) (want_of_change state change) (reply_of result after) × (after ≡ state_after state (reply_of result after))
 
 -- The command was executed or refused, whatever was written: it got an allowed reply, ended in this way, and left this
 -- state.
-pub record IsExecuted (state : State) (command : Command) (ended : Result (Unit {0}) Refusal) (after : State) : Type 0 where
-  pub reply : Result Reply Refusal
+pub record IsExecuted (state : SessionState) (command : Command) (ended : Result (Unit {0}) CommandRefusal) (after : SessionState) : Type 0 where
+  pub reply : Result Reply CommandRefusal
   pub fits : Replies state command reply
   pub is : ended ≡ ended_by reply
   pub effect : after ≡ state_after state reply
@@ -161,27 +160,27 @@ pub record IsExecuted (state : State) (command : Command) (ended : Result (Unit 
 -- ---- lines
 
 -- the outcome of a line whose command ended in this way
-abbrev pub step_by : Result (Unit {0}) Refusal → Step
+abbrev pub step_by : Result (Unit {0}) CommandRefusal → Step
 step_by (Ok done) = Accepted
 step_by (Err refusal) = Refused
 
-abbrev pub outcome_of : {E : Type 0} → Result (Result (Unit {0}) Refusal) E → Result Step E
+abbrev pub outcome_of : {E : Type 0} → Result (Result (Unit {0}) CommandRefusal) E → Result Step E
 outcome_of (Ok ended) = Ok (step_by ended)
 outcome_of (Err error) = Err error
 
 -- The outcome of a parsed line, its answer, and the state after it.
-abbrev pub AnswersParsed : State → Result (Option Command) SyntaxFault → Step → List ℕ → State → Type 0
+abbrev pub AnswersParsed : SessionState → Result (Option Command) SyntaxFault → Step → List ℕ → SessionState → Type 0
 AnswersParsed state (Ok None) step answer after = (step ≡ Silent) × (answer ≡ []) × (after ≡ state)
 AnswersParsed state (Ok (Some command)) step answer after =
-    (reply : Result Reply Refusal) × Replies state command reply × (step ≡ step_of reply) × (answer ≡ text_of reply) × (after ≡ state_after state reply)
+    (reply : Result Reply CommandRefusal) × Replies state command reply × (step ≡ step_of reply) × (answer ≡ text_of reply) × (after ≡ state_after state reply)
 AnswersParsed state (Err fault) step answer after = (step ≡ Refused) × (answer ≡ refused (refusals.Syntax fault)) × (after ≡ state)
 
-abbrev pub Answers : State → List ℕ → Step → List ℕ → State → Type 0
+abbrev pub Answers : SessionState → List ℕ → Step → List ℕ → SessionState → Type 0
 Answers state line = AnswersParsed state (command_of line)
 
 -- The parsed line was answered on a writer, or a prefix of an answer was written if the writer failed. Its effect
 -- remains in both cases.
-pub record AnswersParsedBy {S E : Type 0} (transcript : S → List ℕ) (failures : S → ℕ) (state : State) (parsed : Result (Option Command) SyntaxFault) (result : Result Step E) (after : State) (old new : S) : Type 0 where
+pub record AnswersParsedBy {S E : Type 0} (transcript : S → List ℕ) (failures : S → ℕ) (state : SessionState) (parsed : Result (Option Command) SyntaxFault) (result : Result Step E) (after : SessionState) (old new : S) : Type 0 where
   pub outcome : Step
   pub answer : List ℕ
   pub fits : AnswersParsed state parsed outcome answer after
@@ -189,5 +188,5 @@ pub record AnswersParsedBy {S E : Type 0} (transcript : S → List ℕ) (failure
   pub is : IfOk result (λ s. s ≡ outcome)
 
 -- the line was answered on a writer, as `AnswersParsedBy` says of a parsed line
-abbrev pub AnswersLine : {S E : Type 0} → (S → List ℕ) → (S → ℕ) → State → List ℕ → Result Step E → State → S → S → Type 0
+abbrev pub AnswersLine : {S E : Type 0} → (S → List ℕ) → (S → ℕ) → SessionState → List ℕ → Result Step E → SessionState → S → S → Type 0
 AnswersLine transcript failures state line result after old new = AnswersParsedBy transcript failures state (command_of line) result after old new

@@ -4,7 +4,7 @@ use Rattle.xw_grid.specs.declared.cell.LightName.{LightName}
 use Rattle.xw_grid.specs.declared.lights.Light.{Light}
 use Rattle.xw_grid.specs.Grid.{Grid}
 use Rattle.xw_words.specs.Dictionary.{entry_at, row as known_words}
-use Rattle.xw_feas.specs.State.{State as EngineState}
+use Rattle.xw_feas.specs.State.{State}
 use Rattle.xw_fill.specs.declared.listing.Duplicate.{Duplicate}
 use Rattle.xw_fill.specs.declared.suggesting.Suggestion.{Suggestion}
 use Rattle.xw_fill.specs.declared.suggesting.Suggestion.TheVariants as suggestions
@@ -21,11 +21,11 @@ size_of None = 0
 size_of (Some light) = light.size
 
 -- the known word at an index among those of the light's length
-abbrev pub word_at : EngineState → LightName → ℕ → List ℕ
+abbrev pub word_at : State → LightName → ℕ → List ℕ
 word_at engine name index = (entry_at (known_words engine.words (size_of (light_of engine.grid name))) index).word
 
 -- the line of a suggestion
-abbrev pub suggestion_line : EngineState → Suggestion → List ℕ
+abbrev pub suggestion_line : State → Suggestion → List ℕ
 suggestion_line engine (suggestions.Dead name) = line_of (codes "dead" ∷ decimal name.number ∷ direction_name name.direction ∷ [])
 suggestion_line engine suggestions.Done = line_of (codes "done" ∷ [])
 suggestion_line engine (suggestions.Try name index) = line_of (codes "try" ∷ decimal name.number ∷ direction_name name.direction ∷ word_at engine name index ∷ [])

@@ -10,7 +10,7 @@ pub mod Choices
 pub mod Put
 pub mod Record
 pub mod Reply
-pub mod Autofill
+pub mod NamedSearch
 pub mod Best
 pub mod Why
 pub mod Answer

@@ -12,7 +12,7 @@ use Rattle.xw_commands.specs.declared.command.TextMode.TheVariants.{Instead, Beh
 use Rattle.xw_session.specs.declared.session.putting.Target.{Target}
 use Rattle.xw_session.specs.declared.session.putting.Target.TheVariants as targets
 use Rattle.xw_answers.specs.Escape.{text_spelled, has_nul}
-use Rattle.xw_session.specs.State.{State, cell_of, with_text_in}
+use Rattle.xw_session.specs.State.{SessionState, cell_of, with_text_in}
 
 -- the target that a field of a command names
 abbrev pub target_of : Field → Target
@@ -31,17 +31,17 @@ text_of_field texts Copyright = texts.copyright
 text_of_field texts Notes = texts.notes
 
 -- the text at a target
-abbrev pub text_at : State → Target → List ℕ
+abbrev pub text_at : SessionState → Target → List ℕ
 text_at state (targets.Text name) = text_of_field state.texts name
 text_at state (targets.Clue cell direction) = clue_at state.clues cell direction
 
 -- the state with the text at a target replaced
-abbrev pub with_text_at : State → Target → List ℕ → State
+abbrev pub with_text_at : SessionState → Target → List ℕ → SessionState
 with_text_at state (targets.Text name) text = record state { texts = with_text_in state.texts name text }
 with_text_at state (targets.Clue cell direction) text = record state { clues = with_clue state.clues cell direction text }
 
 -- the state after a text replaces the one at a target, or is appended to it
-abbrev pub with_piece : State → TextMode → Target → List ℕ → State
+abbrev pub with_piece : SessionState → TextMode → Target → List ℕ → SessionState
 with_piece state Instead target text = with_text_at state target text
 with_piece state Behind target [] = state
 with_piece state Behind target (byte ∷ bytes) = with_text_at state target (text_at state target ++ byte ∷ bytes)

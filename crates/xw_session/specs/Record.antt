@@ -11,9 +11,9 @@ use Rattle.xw_answers.specs.Record.{word_commands, text_commands, part_commands,
 use Rattle.xw_session.specs.declared.session.recording.Section.{Section}
 use Rattle.xw_session.specs.declared.session.recording.Section.TheVariants as sections
 use Rattle.xw_session.specs.Put.{text_of_field}
-use Rattle.xw_session.specs.State.{State}
+use Rattle.xw_session.specs.State.{SessionState}
 
-abbrev pub section_commands : State → Section → List Change
+abbrev pub section_commands : SessionState → Section → List Change
 section_commands state sections.Words = word_commands state.begun state.engine.words
 section_commands state sections.Size = Size state.engine.grid.width state.engine.grid.height ∷ []
 section_commands state (sections.Cells part) = part_commands state.engine.grid state.clues state.circles part
@@ -42,8 +42,8 @@ record_sections =
     ∷ sections.Watch
     ∷ []
 
-abbrev pub record_commands : State → List Change
+abbrev pub record_commands : SessionState → List Change
 record_commands state = flat_map (section_commands state) record_sections
 
-abbrev pub record_lines : State → List ℕ
+abbrev pub record_lines : SessionState → List ℕ
 record_lines state = command_lines (record_commands state)

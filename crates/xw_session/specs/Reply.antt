@@ -14,8 +14,8 @@ use Rattle.xw_grid.specs.Grid.{Grid, is_inside, is_open, is_block, index_of, cel
 use Rattle.xw_grid.specs.Edit.{new_grid}
 use Rattle.xw_grid.specs.Light.{lights_of, index_named}
 use Rattle.xw_grid.specs.Clue.{no_clues, with_clue, is_circled, with_circle}
-use Rattle.xw_feas.specs.declared.edit.Refusal.{Refusal as EditRefusal}
-use Rattle.xw_feas.specs.State.{State as EngineState, Action, after, want_of as want_of_edit, letter_set, cell_cleared, word_placed, list_written, block_toggled, bar_toggled, symmetry_chosen, word_added, word_struck, least_chosen}
+use Rattle.xw_feas.specs.declared.edit.Refusal.{Refusal}
+use Rattle.xw_feas.specs.State.{State, Action, after, want_of as want_of_edit, letter_set, cell_cleared, word_placed, list_written, block_toggled, bar_toggled, symmetry_chosen, word_added, word_struck, least_chosen}
 use Rattle.xw_feas.specs.Changes.{cells_that_differ}
 use Rattle.xw_fill.specs.Position.{filled_in}
 use Rattle.xw_fill.specs.OfState.{feasible_words, feasible_letters, found, due, end}
@@ -36,12 +36,12 @@ use Rattle.xw_commands.specs.declared.change.Change.{Change}
 use Rattle.xw_commands.specs.declared.change.Change.TheVariants as changes
 use Rattle.xw_commands.specs.declared.search.Search.{Search}
 use Rattle.xw_commands.specs.declared.search.Search.TheVariants as searches
-use Rattle.xw_answers.specs.declared.refusal.Refusal.{Refusal}
-use Rattle.xw_answers.specs.declared.refusal.Refusal.TheVariants as refusals
-use Rattle.xw_answers.specs.Refusal.{refusal_of}
+use Rattle.xw_answers.specs.declared.refusal.CommandRefusal.{CommandRefusal}
+use Rattle.xw_answers.specs.declared.refusal.CommandRefusal.TheVariants as refusals
+use Rattle.xw_feas.specs.declared.edit.Refusal.TheVariants as edits
 use Rattle.xw_commands.specs.declared.command.TextMode.{TextMode}
 use Rattle.xw_commands.specs.declared.command.Field.{Field}
-use Rattle.xw_session.specs.State.{State, with_text_in}
+use Rattle.xw_session.specs.State.{SessionState, with_text_in}
 pub use Rattle.xw_session.specs.State.{cell_of}
 use Rattle.xw_answers.specs.Escape.{text_spelled, has_nul}
 use Rattle.xw_session.specs.Tally.{tally_lines}
@@ -59,7 +59,7 @@ use Rattle.xw_answers.specs.Show.{show_lines}
 -- the answer lines before `ok`, and the state after the command
 pub record Reply : Type 0 where
   pub lines : List ℕ
-  pub state : State
+  pub state : SessionState
 
 abbrev pub name_of_light : LightArg → LightName
 name_of_light named = record { number = named.number; direction = named.direction }
@@ -67,73 +67,73 @@ name_of_light named = record { number = named.number; direction = named.directio
 -- ---- the lines of a reply and the state after it
 
 -- a command without answer lines
-abbrev pub edited : State → Result Reply Refusal
+abbrev pub edited : SessionState → Result Reply CommandRefusal
 edited state = Ok (record { lines = []; state = state })
 
 -- lines, and the state unchanged
-abbrev pub shown : State → List ℕ → Result Reply Refusal
+abbrev pub shown : SessionState → List ℕ → Result Reply CommandRefusal
 shown state lines = Ok (record { lines = lines; state = state })
 
 -- the open cells whose feasible letters changed, each with its new letters, in reading order
-abbrev pub changes_between : EngineState → EngineState → List (Cell × List ℕ)
+abbrev pub changes_between : State → State → List (Cell × List ℕ)
 changes_between before after =
     map (λ index. (cell_at after.grid index, feasible_letters after index))
     (cells_that_differ after.grid (feasible_letters before) (feasible_letters after) 0)
 
 -- the changed cells if the watch is on
-abbrev pub watch_lines : State → EngineState → List ℕ
+abbrev pub watch_lines : SessionState → State → List ℕ
 watch_lines state engine = if state.is_watched then flat_map change_line (changes_between state.engine engine) else []
 
 -- an edit of the grid or the dictionary
-abbrev pub moved : State → Result EngineState EditRefusal → Result Reply Refusal
+abbrev pub moved : SessionState → Result State Refusal → Result Reply CommandRefusal
 moved state (Ok engine) = Ok (record { lines = watch_lines state engine; state = record state { engine = engine } })
-moved state (Err refusal) = Err (refusal_of refusal)
+moved state (Err refusal) = Err (refusals.Engine refusal)
 
 -- the letter is checked before the cell
-abbrev pub with_letter : State → CellArg → Option ℕ → Result Reply Refusal
-with_letter state spot None = Err (refusals.Word (words.BadLetter 1))
+abbrev pub with_letter : SessionState → CellArg → Option ℕ → Result Reply CommandRefusal
+with_letter state spot None = Err (refusals.Engine (edits.Word (words.BadLetter 1)))
 with_letter state spot (Some letter) = moved state (after state.engine (letter_set (cell_of spot) letter))
 
 -- a new grid; clues and circles are removed
-abbrev pub resized : State → Result Grid GridFault → Result Reply Refusal
+abbrev pub resized : SessionState → Result Grid GridFault → Result Reply CommandRefusal
 resized state (Ok grid) = edited (record state { engine = record { grid = grid; words = state.engine.words }; clues = no_clues; circles = [] })
-resized state (Err fault) = Err (refusals.Grid fault)
+resized state (Err fault) = Err (refusals.Engine (edits.Grid fault))
 
-abbrev pub matched : State → Result (List (List ℕ)) WordFault → Result (List ℕ) Refusal
+abbrev pub matched : SessionState → Result (List (List ℕ)) WordFault → Result (List ℕ) CommandRefusal
 matched state (Ok found) = Ok (flat_map word_line found)
-matched state (Err fault) = Err (refusals.Word fault)
+matched state (Err fault) = Err (refusals.Engine (edits.Word fault))
 
 -- the light that a command names
 abbrev pub light_named : Grid → LightArg → Option Light
 light_named grid named = light_of grid (name_of_light named)
 
 -- the cells of the light are emptied in one edit
-abbrev pub erased : State → Option Light → Result Reply Refusal
-erased state None = Err refusals.NoLight
+abbrev pub erased : SessionState → Option Light → Result Reply CommandRefusal
+erased state None = Err (refusals.Engine edits.NoLight)
 erased state (Some light) = moved state (after state.engine (list_written (emptied (erased_cells state.engine light))))
 
 -- the clue is stored at the light's start cell and direction
-abbrev pub with_clue_of : State → Option Light → List ℕ → Result Reply Refusal
-with_clue_of state None text = Err refusals.NoLight
+abbrev pub with_clue_of : SessionState → Option Light → List ℕ → Result Reply CommandRefusal
+with_clue_of state None text = Err (refusals.Engine edits.NoLight)
 with_clue_of state (Some light) text = if has_nul text then Err refusals.NulByte else edited (record state { clues = with_clue state.clues light.start light.name.direction text })
 
 -- the text replaces the one in the field
-abbrev pub written : State → TextField → List ℕ → Result Reply Refusal
+abbrev pub written : SessionState → TextField → List ℕ → Result Reply CommandRefusal
 written state field text = if has_nul text then Err refusals.NulByte else edited (record state { texts = with_text_in state.texts field text })
 
 -- the text of a spelling replaces the text of a field, or is appended to it; None means a wrong escape
-abbrev pub put : State → TextMode → Field → Option (List ℕ) → Result Reply Refusal
+abbrev pub put : SessionState → TextMode → Field → Option (List ℕ) → Result Reply CommandRefusal
 put state putting field None = Err refusals.Escape
 put state putting field (Some text) =
-    if not (has_target state.engine.grid (target_of field)) then Err (refusals.Grid grids.OutOfGrid)
+    if not (has_target state.engine.grid (target_of field)) then Err (refusals.Engine (edits.Grid grids.OutOfGrid))
     else if has_nul text then Err refusals.NulByte
     else edited (with_piece state putting (target_of field) text)
 
 -- the circle of an open cell is set, or removed if it was there
-abbrev pub circle_toggled : State → Cell → Result Reply Refusal
+abbrev pub circle_toggled : SessionState → Cell → Result Reply CommandRefusal
 circle_toggled state cell =
-    if not (is_inside state.engine.grid cell) then Err (refusals.Grid grids.OutOfGrid)
-    else if not (is_open state.engine.grid cell) then Err (refusals.Grid grids.OnBlock)
+    if not (is_inside state.engine.grid cell) then Err (refusals.Engine (edits.Grid grids.OutOfGrid))
+    else if not (is_open state.engine.grid cell) then Err (refusals.Engine (edits.Grid grids.OnBlock))
     else edited (record state { circles = with_circle state.circles cell (not (is_circled state.circles cell)) })
 
 -- the first words of a list, or all if no number is given
@@ -142,19 +142,19 @@ first_words None found = found
 first_words (Some most) found = take most found
 
 -- the number of feasible words of a light, and the words that the command asks for
-abbrev pub worded : State → Option ℕ → Option ℕ → Result (List ℕ) Refusal
-worded state None most = Err refusals.NoLight
+abbrev pub worded : SessionState → Option ℕ → Option ℕ → Result (List ℕ) CommandRefusal
+worded state None most = Err (refusals.Engine edits.NoLight)
 worded state (Some light) most =
     Ok (counted_lines (length (feasible_words state.engine light)) (first_words most (feasible_words state.engine light)))
 
 -- the first feasible words of a light, from an index on, with what each leaves
-abbrev pub weighed_from : State → ℕ → ℕ → Result (Option ℕ) Refusal → Result (List ℕ) Refusal
+abbrev pub weighed_from : SessionState → ℕ → ℕ → Result (Option ℕ) Refusal → Result (List ℕ) CommandRefusal
 weighed_from state light most (Ok from) = Ok (choice_lines state.engine light from most)
-weighed_from state light most (Err refusal) = Err refusal
+weighed_from state light most (Err refusal) = Err (refusals.Engine refusal)
 
 -- the first feasible words of a light, from a named word on, with what each leaves
-abbrev pub weighed : State → Option ℕ → ℕ → Option (List ℕ) → Result (List ℕ) Refusal
-weighed state None most first = Err refusals.NoLight
+abbrev pub weighed : SessionState → Option ℕ → ℕ → Option (List ℕ) → Result (List ℕ) CommandRefusal
+weighed state None most first = Err (refusals.Engine edits.NoLight)
 weighed state (Some light) most first = weighed_from state light most (first_index state.engine light first)
 
 -- the grid has each of these lights
@@ -162,30 +162,30 @@ abbrev pub are_lights : Grid → List LightName → Bool
 are_lights grid names = list_all (λ name. is_some (index_named (lights_of grid) name)) names
 
 -- the grades of the words of the named lights, or of all wholly entered lights if none is named
-abbrev pub graded : State → List LightName → Result (List ℕ) Refusal
-graded state names = if are_lights state.engine.grid names then Ok (grade_lines state.engine names) else Err refusals.NoLight
+abbrev pub graded : SessionState → List LightName → Result (List ℕ) CommandRefusal
+graded state names = if are_lights state.engine.grid names then Ok (grade_lines state.engine names) else Err (refusals.Engine edits.NoLight)
 
 -- the feasible letters of an open cell
-abbrev pub lettered : State → Cell → Result (List ℕ) Refusal
+abbrev pub lettered : SessionState → Cell → Result (List ℕ) CommandRefusal
 lettered state cell =
-    if not (is_inside state.engine.grid cell) then Err (refusals.Grid grids.OutOfGrid)
-    else if is_block state.engine.grid cell then Err (refusals.Grid grids.OnBlock)
+    if not (is_inside state.engine.grid cell) then Err (refusals.Engine (edits.Grid grids.OutOfGrid))
+    else if is_block state.engine.grid cell then Err (refusals.Engine (edits.Grid grids.OnBlock))
     else Ok (letters_line (feasible_letters state.engine (index_of state.engine.grid cell)))
 
 -- for each feasible letter of an open cell the counts of its lights
-abbrev pub tallied : State → Cell → Result (List ℕ) Refusal
+abbrev pub tallied : SessionState → Cell → Result (List ℕ) CommandRefusal
 tallied state cell =
-    if not (is_inside state.engine.grid cell) then Err (refusals.Grid grids.OutOfGrid)
-    else if is_block state.engine.grid cell then Err (refusals.Grid grids.OnBlock)
+    if not (is_inside state.engine.grid cell) then Err (refusals.Engine (edits.Grid grids.OutOfGrid))
+    else if is_block state.engine.grid cell then Err (refusals.Engine (edits.Grid grids.OnBlock))
     else Ok (tally_lines state.engine cell)
 
 -- the form of a command, if there is one
-abbrev pub form_shown : Option (List ℕ) → Result (List ℕ) Refusal
+abbrev pub form_shown : Option (List ℕ) → Result (List ℕ) CommandRefusal
 form_shown None = Err (refusals.Syntax faults.Command)
 form_shown (Some form) = Ok (word_line form)
 
 -- the form of the command with this word, or the forms of all commands if no word is given
-abbrev pub helped : Option (List ℕ) → Result (List ℕ) Refusal
+abbrev pub helped : Option (List ℕ) → Result (List ℕ) CommandRefusal
 helped None = Ok all_forms
 helped (Some word) = form_shown (form_named word)
 
@@ -194,18 +194,21 @@ filling_name fillings.Filled = codes "filled"
 filling_name fillings.NoFill = codes "nofill"
 filling_name fillings.Limit = codes "limit"
 
+abbrev pub filling_line : Filling → List ℕ
+filling_line filling = word_line (filling_name filling)
+
 -- Limit if more placements are due than allowed, Filled if a fill is found, and otherwise NoFill
-abbrev pub fill_tried : State → ℕ → Result Reply Refusal
+abbrev pub fill_tried : SessionState → ℕ → Result Reply CommandRefusal
 fill_tried state limit =
-    if nat_lt limit (due state.engine) then shown state (word_line (filling_name fillings.Limit))
-    else if found state.engine then Ok (record { lines = word_line (filling_name fillings.Filled); state = record state { engine = filled_in state.engine (end state.engine).board.entries } })
-    else shown state (word_line (filling_name fillings.NoFill))
+    if nat_lt limit (due state.engine) then shown state (filling_line fillings.Limit)
+    else if found state.engine then Ok (record { lines = filling_line fillings.Filled; state = record state { engine = filled_in state.engine (end state.engine).board.entries } })
+    else shown state (filling_line fillings.NoFill)
 
 -- ---- queries
 
 -- The one answer to a query if no allocation fails, or None for a query that may get one of several: `IsOneOf` of
 -- `Answer.antt` has a row for each of these.
-abbrev pub answer_of : State → Query → Option (Result (List ℕ) Refusal)
+abbrev pub answer_of : SessionState → Query → Option (Result (List ℕ) CommandRefusal)
 answer_of state (queries.Match pattern) = Some (matched state (matching_answer state.engine.words pattern))
 answer_of state queries.Circles = Some (Ok (circle_lines state.engine.grid state.circles))
 answer_of state queries.Show = Some (Ok (show_lines state.engine.grid))
@@ -233,7 +236,7 @@ allocates other = false
 -- ---- changes
 
 -- the reply to a change if no allocation fails
-abbrev pub changed : State → Change → Result Reply Refusal
+abbrev pub changed : SessionState → Change → Result Reply CommandRefusal
 changed state (changes.Size width height) = resized state (new_grid width height)
 changed state (changes.Symmetry kind) = moved state (after state.engine (symmetry_chosen kind))
 changed state (changes.Add word grade) = moved state (after state.engine (word_added word grade))
@@ -251,19 +254,19 @@ changed state (changes.Circle spot) = circle_toggled state (cell_of spot)
 changed state (changes.Watch is_on) = edited (record state { is_watched = is_on })
 changed state (changes.Put putting field spelling) = put state putting field (text_spelled spelling)
 
-abbrev pub grid_memory : Refusal
-grid_memory = refusals.Grid grids.Memory
+abbrev pub grid_memory : CommandRefusal
+grid_memory = refusals.Engine (edits.Grid grids.Memory)
 
 -- a text may need an allocation, unless it is empty
-abbrev pub want_of_text : List ℕ → Option Refusal
+abbrev pub want_of_text : List ℕ → Option CommandRefusal
 want_of_text [] = None
 want_of_text (byte ∷ bytes) = Some grid_memory
 
-abbrev pub want_of_action : State → Action → Option Refusal
-want_of_action state action = option_map refusal_of (want_of_edit state.engine action)
+abbrev pub want_of_action : SessionState → Action → Option CommandRefusal
+want_of_action state action = option_map refusals.Engine (want_of_edit state.engine action)
 
 -- the refusal that a failed allocation gives, if the change may allocate
-abbrev pub want_of_change : State → Change → Option Refusal
+abbrev pub want_of_change : SessionState → Change → Option CommandRefusal
 want_of_change state (changes.Size width height) = Some grid_memory
 want_of_change state (changes.Add word grade) = want_of_action state (word_added word grade)
 want_of_change state (changes.Block spot) = Some grid_memory
@@ -278,24 +281,24 @@ want_of_change state other = None
 
 -- The one reply to a search if no allocation fails, or None for a search that may get one of several: `IsFound` of
 -- `Answer.antt` has a row for each of these.
-abbrev pub searched : State → Search → Option (Result Reply Refusal)
+abbrev pub searched : SessionState → Search → Option (Result Reply CommandRefusal)
 searched state (searches.Fill limit) = Some (fill_tried state limit)
 searched state (searches.Autofill limit seed lights) = None
 searched state (searches.Best limit seed lights) = None
 
 -- the answer to a query as a reply: the state stays as it was
-abbrev pub asked : State → Result (List ℕ) Refusal → Result Reply Refusal
+abbrev pub asked : SessionState → Result (List ℕ) CommandRefusal → Result Reply CommandRefusal
 asked state (Ok lines) = shown state lines
 asked state (Err refusal) = Err refusal
 
 -- the one reply to a command if no allocation fails, or None if the command may get one of several
-abbrev pub reply_to : State → Command → Option (Result Reply Refusal)
+abbrev pub reply_to : SessionState → Command → Option (Result Reply CommandRefusal)
 reply_to state (commands.Ask query) = option_map (asked state) (answer_of state query)
 reply_to state (commands.Change change) = Some (changed state change)
 reply_to state (commands.Search search) = searched state search
 
 -- the refusal that a failed allocation gives, if the command may allocate
-abbrev pub want_of : State → Command → Option Refusal
+abbrev pub want_of : SessionState → Command → Option CommandRefusal
 want_of state (commands.Ask query) = if allocates query then Some grid_memory else None
 want_of state (commands.Change change) = want_of_change state change
 want_of state (commands.Search search) = Some grid_memory

@@ -3,7 +3,7 @@ use Rattle.std.specs.Prelude.{ℕ, Bool, List}
 use Rattle.xw_grid.specs.declared.cell.Cell.{Cell}
 use Rattle.xw_grid.specs.Clue.{ClueMap}
 use Rattle.xw_grid.specs.Grid.{Grid}
-use Rattle.xw_feas.specs.State.{State as EngineState}
+use Rattle.xw_feas.specs.State.{State}
 use Rattle.xw_grid.specs.Puzzle.{TextsShown}
 use Rattle.xw_commands.specs.declared.command.CellArg.{CellArg}
 use Rattle.xw_commands.specs.declared.command.TextField.{TextField}
@@ -11,8 +11,8 @@ use Rattle.xw_commands.specs.declared.command.TextField.TheVariants.{Title, Auth
 
 -- The engine (a grid with a dictionary), the four texts, the clues, the circled cells, whether the watch is on, and
 -- for each length how many words were known when the session started.
-pub record State : Type 0 where
-  pub engine : EngineState
+pub record SessionState : Type 0 where
+  pub engine : State
   pub texts : TextsShown
   pub clues : ClueMap
   pub circles : List Cell
@@ -31,5 +31,5 @@ with_text_in texts Copyright text = record texts { copyright = text }
 with_text_in texts Notes text = record texts { notes = text }
 
 -- the state with another grid
-abbrev pub drawn : State → Grid → State
+abbrev pub drawn : SessionState → Grid → SessionState
 drawn state grid = record state { engine = record state.engine { grid = grid } }

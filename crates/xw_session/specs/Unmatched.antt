@@ -4,19 +4,19 @@ use Rattle.std.specs.List.{range_with_len}
 use Rattle.xw_grid.specs.Light.{lights_of}
 use Rattle.xw_feas.specs.Board.{board_of}
 use Rattle.xw_feas.specs.Feasible.{base_words_at}
-use Rattle.xw_feas.specs.State.{State as EngineState}
+use Rattle.xw_feas.specs.State.{State}
 use Rattle.xw_fill.specs.Position.{name_at}
 use Rattle.xw_fill.specs.OfState.{is_entered}
 use Rattle.xw_answers.specs.Text.{spelled_line}
 
 -- the light is not wholly entered, and has no base word: no active word of its length agrees with its entries
-abbrev pub is_unmatched : EngineState → ℕ → Bool
+abbrev pub is_unmatched : State → ℕ → Bool
 is_unmatched engine light = not (is_entered engine light) && (length (base_words_at (board_of engine.grid) engine.words light) == 0)
 
 -- the line of an unmatched light, with its letters; nothing for any other light
-abbrev pub unmatched_line : EngineState → ℕ → List ℕ
+abbrev pub unmatched_line : State → ℕ → List ℕ
 unmatched_line engine light = if is_unmatched engine light then spelled_line engine.grid (name_at engine light) else []
 
 -- the lines of all unmatched lights, in order
-abbrev pub unmatched_lines : EngineState → List ℕ
+abbrev pub unmatched_lines : State → List ℕ
 unmatched_lines engine = flat_map (unmatched_line engine) (range_with_len 0 (length (lights_of engine.grid)))

@@ -2,16 +2,18 @@
 ghost use Rattle.std.specs.Prelude.{◌≡◌, ℕ, ◌≤◌, ◌+◌, List, Result, Some, None, Ok, false, IfOk, IfErr, OnOk, OnErr};
 ghost use Rattle.xw_lines.specs.Cut.{lines_of};
 ghost use Rattle.xw_commands.specs.Command.{command_of};
-ghost use Rattle.xw_answers.specs.declared.refusal.Refusal.{Refusal as AnyRefusal};
+ghost use Rattle.xw_answers.specs.declared.refusal.CommandRefusal.{CommandRefusal as AnyRefusal};
 ghost use Rattle.xw_session.specs.Answer.{IsExecuted};
 ghost use Rattle.xw_session.specs.Resuming.{line_fault, is_memory as is_want_of_memory, refused_line, ResumesLine, Resumes, Tells};
 
-use crate::session::{Ended, Session};
+use crate::session::Session;
+use crate::session::ending::Ended;
 use crate::vec_sink::VecSink;
 use std::alloc::{AllocError, Global};
 use xw_answers::escape::is_spelling;
-use xw_answers::refusal::{self, Refusal};
+use xw_answers::refusal::{self, CommandRefusal};
 use xw_commands::{Change, Command, command};
+use xw_feas::edit::Refusal;
 use xw_feas::searchable::Searchable;
 use xw_grid::GridFault;
 use xw_lines::{Sink, device};
@@ -22,7 +24,10 @@ use xw_words::WordFault;
 #[derive(Clone, Copy, Debug, PartialEq, Eq)]
 pub enum Stop {
     /// The line with this number, from 1, is not a command in any session; `refusal` says why.
-    NoCommand { number: usize, refusal: Refusal },
+    NoCommand {
+        number: usize,
+        refusal: CommandRefusal,
+    },
     /// An allocation failed.
     Memory,
 }
@@ -39,7 +44,7 @@ impl From<AllocError> for Stop {
 }
 
 /// Returns the command of a line, or why the line is not a command in any session.
-pub(crate) fn command_in(line: &[u8]) -> Result<Option<Command<'_>>, Refusal>
+pub(crate) fn command_in(line: &[u8]) -> Result<Option<Command<'_>>, CommandRefusal>
     ensures ok { IfOk result (λ command. (command_of line.now ≡ Ok command) × (line_fault line.now ≡ None)) }
     ensures err { IfErr result (λ refusal. line_fault line.now ≡ Some refusal) }
 {
@@ -48,21 +53,21 @@ pub(crate) fn command_in(line: &[u8]) -> Result<Option<Command<'_>>, Refusal>
             if is_spelling(spelling.bytes()) {
                 Ok(Some(Command::Change(Change::Put(putting, field, spelling))))
             } else {
-                Err(Refusal::Escape)
+                Err(CommandRefusal::Escape)
             }
         }
         Ok(command) => Ok(command),
-        Err(fault) => Err(Refusal::Syntax(fault)),
+        Err(fault) => Err(CommandRefusal::Syntax(fault)),
     }
 }
 
 /// Whether a refusal says that an allocation failed.
-pub(crate) fn is_memory(refusal: Refusal) -> bool
+pub(crate) fn is_memory(refusal: CommandRefusal) -> bool
     ensures { result ≡ is_want_of_memory refusal }
 {
     matches!(
         refusal,
-        Refusal::Word(WordFault::Memory) | Refusal::Grid(GridFault::Memory)
+        CommandRefusal::Engine(Refusal::Word(WordFault::Memory) | Refusal::Grid(GridFault::Memory))
     )
 }
 
@@ -71,7 +76,7 @@ pub(crate) fn report(
     alloc: Global,
     file: &str,
     number: usize,
-    refusal: Refusal,
+    refusal: CommandRefusal,
 ) -> Result<String, AllocError>
     ensures { IfOk result (λ text. text.bytes.items ≡ refused_line file.now number refusal) }
 {
@@ -108,7 +113,7 @@ fn report_refusal<E: Sink>(
     alloc: Global,
     file: &str,
     number: usize,
-    refusal: Refusal,
+    refusal: CommandRefusal,
     errors: &mut E,
 ) -> Result<usize, Stop>
     ensures told { IfOk result (λ refused. (refused ≡ 1) × (is_want_of_memory refusal ≡ false) × Tells E.transcript E.failures errors.old errors.new (refused_line file.now number refusal)) }

@@ -4,6 +4,7 @@ mod autofilling;
 mod besting;
 mod changing;
 mod choosing;
+pub(crate) mod ending;
 mod erasing;
 mod grading;
 mod helping;
@@ -21,22 +22,20 @@ ghost use Rattle.xw_grid.specs.Grid.{is_inside};
 ghost use Rattle.xw_grid.specs.Clue.{no_clues};
 ghost use Rattle.xw_grid.specs.Puzzle.{texts_view, puzzle_view};
 ghost use Rattle.xw_lines.specs.Run.{IsRun};
-ghost use Rattle.xw_lines.specs.Sends.{Sends};
 ghost use Rattle.xw_lines.specs.Spoken.{NeverStops};
-ghost use Rattle.xw_session.specs.State.{State};
 ghost use Rattle.xw_answers.specs.Record.{known_counts};
 ghost use Rattle.xw_session.specs.Reply.{cell_of};
-ghost use Rattle.xw_session.specs.Answer.{AnswersTo, AnswersQuery, AnswersChange, AnswersSearch, AnswersParsedBy, AnswersLine, Answers, reply_of, text_of, ended_by, outcome_of};
+ghost use Rattle.xw_session.specs.Answer.{AnswersTo, AnswersQuery, AnswersChange, AnswersSearch, AnswersParsedBy, AnswersLine, Answers, outcome_of};
 
 use crate::session::asking::{bar, block, clear, place, set};
+use crate::session::ending::{Ended, end_answer};
 use std::alloc::Global;
 use std::marker::Model;
 use xw_answers::record::{LENGTHS, known_words};
-use xw_answers::refusal::Refusal;
-use xw_answers::text;
+use xw_answers::refusal::CommandRefusal;
 use xw_commands::command::{self, CellArg, SyntaxFault};
 use xw_commands::{Change, Command, Query, Search};
-use xw_feas::edit::{Edit, Refusal as EditRefusal};
+use xw_feas::edit::{Edit, Refusal};
 use xw_feas::feasible::Feasible;
 use xw_feas::searchable::Searchable;
 use xw_fill::best::BestHint;
@@ -95,9 +94,9 @@ pub struct Session<E: Feasible> {
 
 impl<E: Feasible> Model for Session<E> {
     ghost use Rattle.xw_grid.specs.Puzzle.{texts_view};
-    ghost use Rattle.xw_session.specs.State.{State};
+    ghost use Rattle.xw_session.specs.State.{SessionState};
 
-    ghost Value = { State };
+    ghost Value = { SessionState };
 
     ghost view = { λ session. record {
       engine = E.state session.engine;
@@ -109,32 +108,12 @@ impl<E: Feasible> Model for Session<E> {
     } };
 }
 
-/// How a command ended: it was accepted, or refused.
-pub(crate) type Ended = Result<(), Refusal>;
-
 /// Whether a change changes at most entries and the least grade.
 fn keeps_words_and_lights(change: &Change<'_>) -> bool {
     matches!(
         change,
         Change::Set(..) | Change::Clear(_) | Change::Place(..) | Change::Erase(_) | Change::Least(_)
     )
-}
-
-/// Writes the end of an answer: `ok`, or the refusal.
-fn end_answer<W: Sink>(sink: &mut W, ended: Ended) -> Result<Ended, WriteFailed>
-    ensures sends { (state : State) → Sends W.transcript W.failures sink.old sink.new result (text_of (reply_of ended state)) }
-    ensures step { (state : State) → IfOk result (λ answered. answered ≡ ended_by (reply_of ended state)) }
-{
-    match ended {
-        Ok(()) => {
-            text::write_accepted(sink)?;
-            Ok(Ok(()))
-        }
-        Err(refusal) => {
-            text::write_refused(sink, refusal)?;
-            Ok(Err(refusal))
-        }
-    }
 }
 
 /// Returns the outcome of a line whose command was answered.
@@ -231,18 +210,18 @@ impl<E: Feasible> Session<E> {
     }
 
     /// Copies the grid, the texts, the clues and the circles. Returns `Memory` if an allocation fails.
-    pub fn puzzle(&self) -> Result<Puzzle, EditRefusal>
+    pub fn puzzle(&self) -> Result<Puzzle, Refusal>
         ensures ok { IfOk result (λ puzzle. puzzle_view puzzle ≡ record {
           grid = self.now.engine.grid;
           texts = self.now.texts;
           clues = self.now.clues;
           circles = self.now.circles;
         }) }
-        ensures memory { IsOkUnless result (EditRefusal.Grid GridFault.Memory) }
+        ensures memory { IsOkUnless result (Refusal.Grid GridFault.Memory) }
     {
         match self.copied() {
             Ok(puzzle) => Ok(puzzle),
-            Err(fault) => Err(EditRefusal::Grid(fault)),
+            Err(fault) => Err(Refusal::Grid(fault)),
         }
     }
 
@@ -390,7 +369,7 @@ impl<E: Searchable> Session<E> {
         match parsed {
             Ok(None) => Ok(Step::Silent),
             Ok(Some(command)) => outcome(self.answer(command, sink)),
-            Err(fault) => outcome(end_answer(sink, Err(Refusal::Syntax(fault)))),
+            Err(fault) => outcome(end_answer(sink, Err(CommandRefusal::Syntax(fault)))),
         }
     }
 

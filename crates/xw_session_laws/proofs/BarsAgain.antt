@@ -17,7 +17,7 @@ use Rattle.xw_grid.proofs.GridLemmas.{cell_at-inside, index_of-cell_at, same_cel
 use Rattle.xw_feas.specs.State.{with_grid as with_edited, by_fault}
 use Rattle.xw_commands.specs.declared.change.Change.TheVariants as changes
 use Rattle.xw_answers.specs.declared.record.Part.TheVariants as parts
-use Rattle.xw_session.specs.State.{State}
+use Rattle.xw_session.specs.State.{SessionState}
 use Rattle.xw_session.specs.Reply.{moved}
 use Rattle.xw_answers.specs.Record.{spot_of, cell_commands, part_commands}
 use Rattle.xw_session_laws.specs.Replay.{state_left, replayed, with_grid, BarsAreOnEdges}
@@ -66,7 +66,7 @@ module _ (grid : Grid) (k : ℕ) (side towards : Side) (alone : grid.symmetry �
       same_lists (map value (cells grid)) (bars grid towards) (size ∙ sym long) (λ j d within.
       bar_at j d (omega (arith, within, size)) ∙ ap (λ b. if b && eqb j k then true else get_or (bars grid towards) j d) other)
 
-barred_edge : (state : State) (inside edge is_bar : Bool) (to : Bool → Grid) → inside ≡ true → edge ≡ true → is_bar ≡ false
+barred_edge : (state : SessionState) (inside edge is_bar : Bool) (to : Bool → Grid) → inside ≡ true → edge ≡ true → is_bar ≡ false
     → state_left (moved state (with_edited state.engine (by_fault (if not inside then Err OutOfGrid else if not edge then Err Border else Ok (to (not is_bar)))))) ≡ Some (with_grid state (to true))
 barred_edge state true true false to p q r = refl
 barred_edge state true true true to p q r = cc
@@ -75,7 +75,7 @@ barred_edge state false edge is_bar to p q r = cc
 
 -- ---- the bars on one side of the cells
 
-module _ (state : State) (made : Grid) (is : IsGrid made) (only : BarsAreOnEdges made) (squares : List Square) where
+module _ (state : SessionState) (made : Grid) (is : IsGrid made) (only : BarsAreOnEdges made) (squares : List Square) where
   abbrev none : List Bool
   none = replicate (made.width * made.height) false
 

@@ -23,7 +23,7 @@ use Rattle.xw_grid.proofs.GridLemmas.{cell_at-inside, index_of-cell_at, same_cel
 use Rattle.xw_commands.specs.declared.change.Change.{Change}
 use Rattle.xw_commands.specs.declared.change.Change.TheVariants as changes
 use Rattle.xw_answers.specs.declared.record.Part.TheVariants.{Letters, Blocks}
-use Rattle.xw_session.specs.State.{State}
+use Rattle.xw_session.specs.State.{SessionState}
 use Rattle.xw_session.specs.Reply.{moved, with_letter}
 use Rattle.xw_answers.specs.Record.{spot_of, letter_commands, block_commands, cell_commands, part_commands}
 use Rattle.xw_session_laws.specs.Replay.{state_left, replayed, bared, with_grid}
@@ -32,7 +32,7 @@ use Rattle.xw_session_laws.proofs.Replaying.{replayed_both, next_done}
 -- ---- one cell after another
 
 -- if the commands of each cell lead from one state to the next, all of them lead from the first to the last
-cells_from : (grid : Grid) (made : Cell → List Change) (after : ℕ → State) (k n : ℕ)
+cells_from : (grid : Grid) (made : Cell → List Change) (after : ℕ → SessionState) (k n : ℕ)
     → ((i : ℕ) → i < k + n → replayed (after i) (made (cell_at grid i)) ≡ Some (after (i + 1)))
     → replayed (after k) (flat_map made (map (cell_at grid) (range_with_len k n))) ≡ Some (after (k + n))
 cells_from grid made after k zero step = let same : k ≡ k + 0 = omega arith in ap (λ i. Some (after i)) same
@@ -44,7 +44,7 @@ cells_from grid made after k (suc n) step =
     ∙ cells_from grid made after (k + 1) n (λ i within. step i (omega (arith, within)))
     ∙ ap (λ i. Some (after i)) last
 
-pub each_cell_again : (grid : Grid) (made : Cell → List Change) (after : ℕ → State)
+pub each_cell_again : (grid : Grid) (made : Cell → List Change) (after : ℕ → SessionState)
     → ((i : ℕ) → i < grid.width * grid.height → replayed (after i) (made (cell_at grid i)) ≡ Some (after (i + 1)))
     → replayed (after 0) (flat_map made (cells grid)) ≡ Some (after (grid.width * grid.height))
 each_cell_again grid made after step =
@@ -100,7 +100,7 @@ square_is grid k inside within =
     ∙ ap (slice_get grid.squares) (index_of-cell_at grid k)
     ∙ slice_get-get_or grid.squares k Block within
 
-abbrev pub with_squares : State → Grid → List Square → State
+abbrev pub with_squares : SessionState → Grid → List Square → SessionState
 with_squares state grid squares = with_grid state (record grid { squares = squares })
 
 letter_chosen : (letter : ℕ) (a b c d : Bool) → a ≡ true → b ≡ true → c ≡ false → (if (a && b) || (c && d) then Some (if c then letter - 32 else letter) else None) ≡ Some letter
@@ -114,20 +114,20 @@ letter_is letter is =
     let high : leb 97 letter ≡ false = grind (arith, nat_tests, is.1) in
     letter_chosen letter (leb 65 letter) (leb letter 90) (leb 97 letter) (leb letter 122) (le-leb 65 letter is.0) (le-leb letter 90 is.1) high
 
-pub entered : (state : State) (inside blocks : Bool) (grid : Grid) → inside ≡ true → blocks ≡ false
+pub entered : (state : SessionState) (inside blocks : Bool) (grid : Grid) → inside ≡ true → blocks ≡ false
     → state_left (moved state (with_edited state.engine (by_fault (if not inside then Err OutOfGrid else if blocks then Err OnBlock else Ok grid)))) ≡ Some (with_grid state grid)
 entered state true false grid p q = refl
 entered state true true grid p q = cc
 entered state false blocks grid p q = cc
 
-module _ (state : State) (grid : Grid) (is : IsGrid grid) where
+module _ (state : SessionState) (grid : Grid) (is : IsGrid grid) where
   abbrev pub bare : List Square
   bare = map bared grid.squares
 
   as_long : length grid.squares ≡ length bare
   as_long = sym (length-map grid.squares bared)
 
-  abbrev lettered : ℕ → State
+  abbrev lettered : ℕ → SessionState
   lettered k = with_squares state grid (mixed grid.squares bare k)
 
   module _ (k : ℕ) (below : k < grid.width * grid.height) where
@@ -171,7 +171,7 @@ module _ (state : State) (grid : Grid) (is : IsGrid grid) where
 
 -- ---- blocks, without symmetry
 
-toggled : (state : State) (inside blocks occupied : Bool) (to : Bool → Grid) → inside ≡ true → blocks ≡ false → occupied ≡ false
+toggled : (state : SessionState) (inside blocks occupied : Bool) (to : Bool → Grid) → inside ≡ true → blocks ≡ false → occupied ≡ false
     → state_left (moved state (with_edited state.engine (by_fault (if not inside then Err OutOfGrid else if not blocks && occupied then Err Occupied else Ok (to (not blocks)))))) ≡ Some (with_grid state (to true))
 toggled state true false false to p q r = refl
 toggled state true false true to p q r = cc
@@ -207,7 +207,7 @@ block_alone grid k alone inside long =
     ∙ ap (λ square. if eqb j k then Block else square) at
     ∙ sym (get_set grid.squares k Block j d there))
 
-module _ (state : State) (grid : Grid) (is : IsGrid grid) where
+module _ (state : SessionState) (grid : Grid) (is : IsGrid grid) where
   abbrev free : List Square
   free = replicate (grid.width * grid.height) (Open None)
 

@@ -21,8 +21,9 @@ use Rattle.xw_grid.proofs.ClueLemmas.{same_at}
 use Rattle.xw_grid.proofs.GridLemmas.{cell_at-inside, take-cells, all-cells}
 use Rattle.xw_commands.specs.declared.change.Change.TheVariants as changes
 use Rattle.xw_answers.specs.declared.record.Part.TheVariants.{Circles}
-use Rattle.xw_answers.specs.declared.refusal.Refusal.TheVariants as refusals
-use Rattle.xw_session.specs.State.{State}
+use Rattle.xw_answers.specs.declared.refusal.CommandRefusal.TheVariants as refusals
+use Rattle.xw_feas.specs.declared.edit.Refusal.TheVariants as edits
+use Rattle.xw_session.specs.State.{SessionState}
 use Rattle.xw_session.specs.Reply.{edited}
 use Rattle.xw_answers.specs.Record.{spot_of, cell_commands, part_commands}
 use Rattle.xw_session_laws.specs.Replay.{state_left, replayed, with_grid}
@@ -74,17 +75,17 @@ not_circled (other ∷ circles) cell after =
     ap (λ b. b || is_circled circles cell) (sym (same_at cell other) ∙ ap is_eq (after 0 other (omega arith)))
     ∙ not_circled circles cell (All-tail (λ other. cell_cmp cell other ≡ Greater) other circles after)
 
-circled : (state : State) (inside opened : Bool) (next : State) → inside ≡ true → opened ≡ true
-    → state_left (if not inside then Err (refusals.Grid OutOfGrid) else if not opened then Err (refusals.Grid OnBlock) else edited next) ≡ Some next
+circled : (state : SessionState) (inside opened : Bool) (next : SessionState) → inside ≡ true → opened ≡ true
+    → state_left (if not inside then Err (refusals.Engine (edits.Grid OutOfGrid)) else if not opened then Err (refusals.Engine (edits.Grid OnBlock)) else edited next) ≡ Some next
 circled state true true next p q = refl
 circled state true false next p q = cc
 circled state false opened next p q = cc
 
-module _ (state : State) (grid : Grid) (is : IsGrid grid) (circles : List Cell) where
+module _ (state : SessionState) (grid : Grid) (is : IsGrid grid) (circles : List Cell) where
   abbrev some_cells : ℕ → List Cell
   some_cells k = filter (is_circled circles) (take k (cells grid))
 
-  abbrev after_some : ℕ → State
+  abbrev after_some : ℕ → SessionState
   after_some k = record (with_grid state (blank grid.width grid.height)) { circles = some_cells k }
 
   module _ (k : ℕ) (below : k < grid.width * grid.height) where

@@ -9,7 +9,7 @@ use Rattle.xw_grid.specs.Clue.{Texts, ClueMap, no_clues, clue_at, text_at, with_
 use Rattle.xw_grid.proofs.GridLemmas.{cell_at-inside}
 use Rattle.xw_commands.specs.declared.command.Field.TheVariants as fields
 use Rattle.xw_answers.specs.declared.record.Part.TheVariants.{Clues}
-use Rattle.xw_session.specs.State.{State}
+use Rattle.xw_session.specs.State.{SessionState}
 use Rattle.xw_answers.specs.Escape.{has_nul}
 use Rattle.xw_answers.specs.Record.{spot_of, clue_commands, cell_commands, part_commands}
 use Rattle.xw_session_laws.specs.Replay.{replayed, with_grid, AreTextsFrom, clues_of}
@@ -26,11 +26,11 @@ is_text_at : (clues : ClueMap) (cell : Cell) (direction : Direction) → clue_at
 is_text_at clues cell Across = refl
 is_text_at clues cell Down = refl
 
-module _ (state : State) (grid : Grid) (is : IsGrid grid) (clues : ClueMap) (direction : Direction) (are : AreTextsFrom grid 0 (clues_of clues direction)) where
+module _ (state : SessionState) (grid : Grid) (is : IsGrid grid) (clues : ClueMap) (direction : Direction) (are : AreTextsFrom grid 0 (clues_of clues direction)) where
   abbrev texts : Texts
   texts = clues_of clues direction
 
-  abbrev after : ℕ → State
+  abbrev after : ℕ → SessionState
   after k = record (with_grid state grid) { clues = with_clues state.clues direction (texts_before grid k texts) }
 
   module _ (k : ℕ) (below : k < grid.width * grid.height) where
@@ -69,12 +69,12 @@ module _ (state : State) (grid : Grid) (is : IsGrid grid) (clues : ClueMap) (dir
       nothing_there Across e = ap (λ es. with_clues state.clues Across es) e
       nothing_there Down e = ap (λ es. with_clues state.clues Down es) e
 
-pub both_again : (state : State) (grid : Grid) → IsGrid grid → (clues : ClueMap) → ((direction : Direction) → AreTextsFrom grid 0 (clues_of clues direction)) → (circles : List Cell)
+pub both_again : (state : SessionState) (grid : Grid) → IsGrid grid → (clues : ClueMap) → ((direction : Direction) → AreTextsFrom grid 0 (clues_of clues direction)) → (circles : List Cell)
     → replayed (record (with_grid state grid) { clues = no_clues }) (part_commands grid clues circles (Clues Across) ++ part_commands grid clues circles (Clues Down))
     ≡ Some (record (with_grid state grid) { clues = clues })
 both_again state grid is clues are circles =
-    let bare : State = record state { clues = no_clues } in
-    let half : State = record state { clues = with_clues no_clues Across clues.across } in
+    let bare : SessionState = record state { clues = no_clues } in
+    let half : SessionState = record state { clues = with_clues no_clues Across clues.across } in
     let rest = part_commands grid clues circles (Clues Down) in
     replayed_both (with_grid bare grid) (part_commands grid clues circles (Clues Across)) rest
     ∙ ap (option_and_then (λ mid. replayed mid rest)) (clues_again bare grid is clues Across (are Across) circles refl)

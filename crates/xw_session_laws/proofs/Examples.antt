@@ -6,10 +6,10 @@ use Rattle.xw_grid.specs.declared.cell.Square.TheVariants.{Open}
 use Rattle.xw_grid.specs.declared.cell.Symmetry.TheVariants as kinds
 use Rattle.xw_grid.specs.Edit.{blank}
 use Rattle.xw_grid.specs.Clue.{no_clues}
-use Rattle.xw_session.specs.State.{State}
+use Rattle.xw_session.specs.State.{SessionState}
 use Rattle.xw_session.specs.Reply.{Reply}
 use Rattle.xw_answers.specs.Text.{accepted, refused}
-use Rattle.xw_answers.specs.declared.refusal.Refusal.TheVariants as refusals
+use Rattle.xw_answers.specs.declared.refusal.CommandRefusal.TheVariants as refusals
 use Rattle.xw_commands.specs.declared.command.SyntaxFault.TheVariants as faults
 use Rattle.xw_answers.specs.Record.{known_counts}
 use Rattle.xw_session.specs.Record.{record_commands, record_lines}
@@ -40,7 +40,7 @@ abbrev third_word : Entry
 third_word = record { word = codes "IT"; active = false; struck = false; grade = 35; regraded = false }
 
 -- a session that knows one word
-abbrev at_first : State
+abbrev at_first : SessionState
 at_first = record {
   engine = record { grid = blank 3 3; words = words_of_two (first_word ∷ []) };
   texts = record { title = codes "gone"; author = []; copyright = []; notes = [] };
@@ -52,7 +52,7 @@ at_first = record {
 
 -- a session with two more words, one of them left out, the first word struck, two cells with a bar between them, a circle
 -- and a clue
-abbrev later : State
+abbrev later : SessionState
 later = record {
   engine = record {
     grid = record { width = 2; height = 1; squares = Open (Some 65) ∷ Open None ∷ []; right = true ∷ false ∷ []; below = false ∷ false ∷ []; symmetry = kinds.Half };
@@ -75,7 +75,7 @@ lines = refl
 -- ---- a journal
 
 -- three open cells, which one word of the dictionary fits
-abbrev before_fill : State
+abbrev before_fill : SessionState
 before_fill = record {
   engine = record { grid = record { width = 3; height = 1; squares = Open None ∷ Open (Some 65) ∷ Open None ∷ []; right = replicate 3 false; below = replicate 3 false; symmetry = kinds.None }; words = no_words };
   texts = record { title = []; author = []; copyright = []; notes = [] };
@@ -85,7 +85,7 @@ before_fill = record {
   begun = known_counts no_words;
 }
 
-abbrev after_fill : State
+abbrev after_fill : SessionState
 after_fill = record before_fill { engine = record before_fill.engine { grid = record before_fill.engine.grid { squares = Open (Some 67) ∷ Open (Some 65) ∷ Open (Some 84) ∷ [] } } }
 
 -- a search is journaled as the letters that it entered, in one group
@@ -134,7 +134,7 @@ flush_left_out : without_flushes (taken Line (codes "watch on\n") ++ taken Line 
 flush_left_out = refl
 
 -- a session that is told to watch, and then refuses a line, may have this journal
-abbrev watching : State
+abbrev watching : SessionState
 watching = record before_fill { is_watched = true }
 
 session_journaled : IsJournaled before_fill (codes "watch on" ∷ codes "lights 1" ∷ []) (codes "watch on\n") watching

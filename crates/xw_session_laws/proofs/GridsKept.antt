@@ -25,8 +25,8 @@ use Rattle.xw_grid.specs.Edit.{blank, with_entry, set_entry, is_occupied, with_o
 use Rattle.xw_grid.specs.Orbit.{is_in_orbit}
 use Rattle.xw_grid.specs.Light.{lights_of, no_light, cells_of}
 use Rattle.xw_grid.proofs.GridLemmas.{length-cells}
-use Rattle.xw_feas.specs.declared.edit.Refusal.{Refusal as EditRefusal}
-use Rattle.xw_feas.specs.State.{State as EngineState, with_grid as with_edited, with_words as with_dictionary, by_fault, with_letters, spelled_in, placed_in, then_write, write_list}
+use Rattle.xw_feas.specs.declared.edit.Refusal.{Refusal}
+use Rattle.xw_feas.specs.State.{State, with_grid as with_edited, with_words as with_dictionary, by_fault, with_letters, spelled_in, placed_in, then_write, write_list}
 use Rattle.xw_fill.specs.Position.{square_with, squares_with, filled_in}
 use Rattle.xw_session.specs.Erase.{emptied}
 
@@ -119,9 +119,9 @@ letter_good byte letter e =
       | false ↦ λ is e. cc
     ] refl e
 
-module _ (engine next : EngineState) (is : IsGrid engine.grid) where
+module _ (engine next : State) (is : IsGrid engine.grid) where
   to_grid : (grid : Grid) → IsGrid grid → with_edited engine (Ok grid) ≡ Ok next → IsGrid next.grid
-  to_grid grid good e = let same : record engine { grid = grid } ≡ next = cc in subst (λ (p : EngineState). IsGrid p.grid) same good
+  to_grid grid good e = let same : record engine { grid = grid } ≡ next = cc in subst (λ (p : State). IsGrid p.grid) same good
 
   by_two : (a b : Bool) (one other : GridFault) (grid : Grid) → IsGrid grid → with_edited engine (by_fault (if not a then Err one else if b then Err other else Ok grid)) ≡ Ok next → IsGrid next.grid
   by_two true false one other grid good e = to_grid grid good e
@@ -129,13 +129,13 @@ module _ (engine next : EngineState) (is : IsGrid engine.grid) where
   by_two false b one other grid good e = cc
 
   pub with_words_good : (words : Result Dictionary WordFault) → with_dictionary engine words ≡ Ok next → IsGrid next.grid
-  with_words_good (Ok words) e = let same : record engine { words = words } ≡ next = cc in subst (λ (p : EngineState). IsGrid p.grid) same is
+  with_words_good (Ok words) e = let same : record engine { words = words } ≡ next = cc in subst (λ (p : State). IsGrid p.grid) same is
   with_words_good (Err fault) e = cc
 
   pub with_letter_good : (cell : Cell) (letter : Option ℕ) → IsSquare (squares.Open letter) → with_edited engine (by_fault (set_entry engine.grid cell letter)) ≡ Ok next → IsGrid next.grid
   with_letter_good cell letter good e = by_two (is_inside engine.grid cell) (is_block engine.grid cell) grids.OutOfGrid grids.OnBlock (with_entry engine.grid cell letter) (square_set engine.grid (index_of engine.grid cell) (squares.Open letter) is good) e
 
-  by_length : (a : Bool) (one : EditRefusal) (grid : Grid) → IsGrid grid → with_edited engine (if a then Ok grid else Err one) ≡ Ok next → IsGrid next.grid
+  by_length : (a : Bool) (one : Refusal) (grid : Grid) → IsGrid grid → with_edited engine (if a then Ok grid else Err one) ≡ Ok next → IsGrid next.grid
   by_length true one grid good e = to_grid grid good e
   by_length false one grid good e = cc
 
@@ -207,7 +207,7 @@ with_good squares.Block entry good = tt
 with_good (squares.Open entered) None good = tt
 with_good (squares.Open entered) (Some letter) good = good letter refl
 
-pub filled_good : (engine : EngineState) (entries : List (Option ℕ)) → IsGrid engine.grid → ((cell letter : ℕ) → get_or entries cell None ≡ Some letter → IsLetter letter) → IsGrid (filled_in engine entries).grid
+pub filled_good : (engine : State) (entries : List (Option ℕ)) → IsGrid engine.grid → ((cell letter : ℕ) → get_or entries cell None ≡ Some letter → IsLetter letter) → IsGrid (filled_in engine entries).grid
 filled_good engine entries is good = record {
   wide = is.wide;
   high = is.high;

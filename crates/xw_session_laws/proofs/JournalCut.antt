@@ -15,7 +15,7 @@ use Rattle.xw_commands.specs.declared.command.Command.TheVariants as all_command
 use Rattle.xw_commands.specs.declared.change.Change.{Change}
 use Rattle.xw_commands.specs.declared.change.Change.TheVariants as changes
 use Rattle.xw_commands.specs.declared.command.CellArg.{CellArg}
-use Rattle.xw_session.specs.State.{State}
+use Rattle.xw_session.specs.State.{SessionState}
 use Rattle.xw_session.specs.Answer.{Answers}
 use Rattle.xw_answers.specs.Record.{spot_of, letter_commands}
 use Rattle.xw_journal.specs.Group.{begin_line, end_line, begins_group, ends_group, complete, grouped}
@@ -145,7 +145,7 @@ no_end (command ∷ commands) (line ∷ first) tail recorded e behind =
 -- ---- the first lines of a journal
 
 -- none of the lines is done
-nothing_done : (start end : State) (lines : List (List ℕ)) (journal : List ℕ) → IsJournaled start lines journal end → AreFirstLines start lines journal end []
+nothing_done : (start end : SessionState) (lines : List (List ℕ)) (journal : List ℕ) → IsJournaled start lines journal end → AreFirstLines start lines journal end []
 nothing_done start end lines journal done = record {
   begins = (lines_of journal, refl);
   parts = record {
@@ -200,12 +200,12 @@ group_unit (command ∷ commands) recorded = record {
   begun = λ first tail next e. group_begun (command ∷ commands) recorded first tail next (sym (grouped_lines command commands recorded) ∙ e);
 }
 
-left_unit : (state : State) (line text : List ℕ) (next : State) → HasNoLf line → Leaves state line text next → IsUnit text
+left_unit : (state : SessionState) (line text : List ℕ) (next : SessionState) → HasNoLf line → Leaves state line text next → IsUnit text
 left_unit state line text next plain (inl (none, same)) = subst IsUnit (sym none) no_unit
 left_unit state line text next plain (inr (inl (is, left, (command, read)))) = subst IsUnit (sym is) (line_unit line plain command read)
 left_unit state line text next plain (inr (inr enters)) = subst IsUnit (sym enters.text-is) (group_unit (entered_commands state.engine.grid next.engine.grid) enters.recorded)
 
-module _ (start mid end : State) (line : List ℕ) (lines : List (List ℕ)) (outcome : Step) (answer others journal : List ℕ)
+module _ (start mid end : SessionState) (line : List ℕ) (lines : List (List ℕ)) (outcome : Step) (answer others journal : List ℕ)
     (said : Answers start line outcome answer mid) (rest : IsJournaled mid lines others end)
     (journal-is : journal ≡ journal_text start.engine.grid line outcome mid.engine.grid ++ others) where
   abbrev text : List ℕ
@@ -266,7 +266,7 @@ no_lines : (first more : List (List ℕ)) → [] ≡ first ++ more → first ≡
 no_lines [] more e = refl
 no_lines (line ∷ first) more e = cc
 
-first_lines_cut : (lines : List (List ℕ)) (start end : State) (journal : List ℕ) (first more : List (List ℕ)) → IsGrid start.engine.grid → AllHaveNoLf lines → IsJournaled start lines journal end → lines_of journal ≡ first ++ more
+first_lines_cut : (lines : List (List ℕ)) (start end : SessionState) (journal : List ℕ) (first more : List (List ℕ)) → IsGrid start.engine.grid → AllHaveNoLf lines → IsJournaled start lines journal end → lines_of journal ≡ first ++ more
     → AreFirstLines start lines journal end (complete first)
 first_lines_cut [] start end journal first more is plain done parts =
     subst (AreFirstLines start [] journal end) (ap complete (sym (no_lines first more (ap lines_of (sym done.0) ∙ parts)))) (nothing_done start end [] journal done)
@@ -274,7 +274,7 @@ first_lines_cut (line ∷ lines) start end journal first more is plain (outcome,
     line_cut start mid end line lines outcome answer others journal said rest journal-is is plain.0 plain.1 first more parts
     (λ tail behind. first_lines_cut lines mid end others tail more (grid_after_line start is line outcome answer mid said) plain.1 rest behind)
 
-pub journal_cut : (start end : State) (lines : List (List ℕ)) (journal front rest : List ℕ) → IsGrid start.engine.grid → AllHaveNoLf lines → IsJournaled start lines journal end
+pub journal_cut : (start end : SessionState) (lines : List (List ℕ)) (journal front rest : List ℕ) → IsGrid start.engine.grid → AllHaveNoLf lines → IsJournaled start lines journal end
     → journal ≡ front ++ rest → AreFirstLines start lines journal end (complete (ended_lines front))
 journal_cut start end lines journal front rest is plain done parts =
     let whole = journal_replays lines start end journal is plain done in

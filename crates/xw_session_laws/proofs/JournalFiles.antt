@@ -7,7 +7,7 @@ use Rattle.std.proofs.lemmas.List.{length-append}
 use Rattle.std.proofs.lemmas.Slice.Eq.{bytes_eq-Decides}
 use Rattle.xw_grid.specs.Grid.{IsGrid}
 use Rattle.xw_lines.specs.Cut.{ended_lines, AllHaveNoLf}
-use Rattle.xw_session.specs.State.{State}
+use Rattle.xw_session.specs.State.{SessionState}
 use Rattle.xw_journal.specs.File.{first_line, is_part, kept_lines}
 use Rattle.xw_journal.specs.Group.{complete}
 use Rattle.xw_session_laws.specs.Replay.{replayed_lines}
@@ -24,7 +24,7 @@ part_of whole front tail next e =
 kept_behind : (front : List ℕ) → kept_lines (first_line ++ front) ≡ codes "# xw session 1" ∷ complete (ended_lines front)
 kept_behind front = refl
 
-module _ (start end : State) (lines : List (List ℕ)) (journal front rest : List ℕ) (is : IsGrid start.engine.grid) (plain : AllHaveNoLf lines) (done : IsJournaled start lines journal end) where
+module _ (start end : SessionState) (lines : List (List ℕ)) (journal front rest : List ℕ) (is : IsGrid start.engine.grid) (plain : AllHaveNoLf lines) (done : IsJournaled start lines journal end) where
   keeps : (behind : List ℕ) → front ≡ first_line ++ behind → journal ≡ behind ++ rest → KeepsFirstLines start lines journal end front
   keeps behind front-is parts =
       let are = journal_cut start end lines journal behind rest is plain done parts in

@@ -15,8 +15,8 @@ use Rattle.xw_commands.specs.declared.change.Change.{Change}
 use Rattle.xw_commands.specs.declared.search.Search.{Search}
 use Rattle.xw_commands.specs.declared.command.SyntaxFault.{SyntaxFault}
 use Rattle.xw_commands.specs.Command.{command_of}
-use Rattle.xw_answers.specs.declared.refusal.Refusal.{Refusal}
-use Rattle.xw_session.specs.State.{State}
+use Rattle.xw_answers.specs.declared.refusal.CommandRefusal.{CommandRefusal}
+use Rattle.xw_session.specs.State.{SessionState}
 use Rattle.xw_session.specs.Reply.{Reply}
 use Rattle.xw_session.specs.Answer.{IsDue, Replies, step_of, state_after, AnswersParsed, Answers}
 use Rattle.xw_journal.specs.Group.{begin_line, end_line, grouped}
@@ -31,7 +31,7 @@ use Rattle.xw_session_laws.proofs.LettersEntered.{IsLettered, letters_entered, e
 -- ---- what one line leaves
 
 -- the line changes nothing, and nothing is written
-abbrev pub IsQuiet : State → List ℕ → State → Type 0
+abbrev pub IsQuiet : SessionState → List ℕ → SessionState → Type 0
 IsQuiet state text next = (text ≡ []) × (next ≡ state)
 
 -- the line is a command
@@ -39,11 +39,11 @@ abbrev pub IsCommand : List ℕ → Type 0
 IsCommand line = (command : Command) × (command_of line ≡ Ok (Some command))
 
 -- the line makes its change again, and is written
-abbrev pub IsChange : State → List ℕ → List ℕ → State → Type 0
+abbrev pub IsChange : SessionState → List ℕ → List ℕ → SessionState → Type 0
 IsChange state line text next = (text ≡ line ++ 10 ∷ []) × (left_by_line state (command_of line) ≡ Some next) × IsCommand line
 
 -- the line is a search, whose letters make its change again and are written
-pub record Enters (state : State) (line text : List ℕ) (next : State) : Type 0 where
+pub record Enters (state : SessionState) (line text : List ℕ) (next : SessionState) : Type 0 where
   pub search : Search
   pub is : command_of line ≡ Ok (Some (commands.Search search))
   pub answer : List ℕ
@@ -52,7 +52,7 @@ pub record Enters (state : State) (line text : List ℕ) (next : State) : Type 0
   pub recorded : AreRecorded (entered_commands state.engine.grid next.engine.grid)
   pub done : replayed state (entered_commands state.engine.grid next.engine.grid) ≡ Some next
 
-abbrev pub Leaves : State → List ℕ → List ℕ → State → Type 0
+abbrev pub Leaves : SessionState → List ℕ → List ℕ → SessionState → Type 0
 Leaves state line text next = IsQuiet state text next ⊎ (IsChange state line text next ⊎ Enters state line text next)
 
 same_lettered : (square : Square) → IsLettered square square
@@ -60,7 +60,7 @@ same_lettered Block = tt
 same_lettered (Open None) = tt
 same_lettered (Open (Some letter)) = refl
 
-module _ (state : State) (is : IsGrid state.engine.grid) where
+module _ (state : SessionState) (is : IsGrid state.engine.grid) where
   -- no letters lead from a grid to itself
   none_again : replayed state (entered_commands state.engine.grid state.engine.grid) ≡ Some state
   none_again = letters_entered state state.engine.grid is state.engine.grid.squares refl (λ k within. same_lettered (get_or state.engine.grid.squares k Block))
@@ -68,7 +68,7 @@ module _ (state : State) (is : IsGrid state.engine.grid) where
   none_recorded : AreRecorded (entered_commands state.engine.grid state.engine.grid)
   none_recorded = entered_recorded state state.engine.grid is state.engine.grid.squares refl (λ k within. same_lettered (get_or state.engine.grid.squares k Block))
 
-  module _ (line : List ℕ) (outcome : Step) (answer : List ℕ) (next : State) (said : Answers state line outcome answer next) where
+  module _ (line : List ℕ) (outcome : Step) (answer : List ℕ) (next : SessionState) (said : Answers state line outcome answer next) where
     abbrev text : List ℕ
     text = journal_text state.engine.grid line outcome next.engine.grid
 
@@ -96,15 +96,15 @@ module _ (state : State) (is : IsGrid state.engine.grid) where
       by_effect (commands.Search search) read (inl left) =
           let stays : state ≡ next = sym (same ∙ left) in
           by_letters search read
-          (subst (λ (s : State). AreRecorded (entered_commands state.engine.grid s.engine.grid)) stays none_recorded)
-          (subst (λ (s : State). replayed state (entered_commands state.engine.grid s.engine.grid) ≡ Some s) stays none_again)
+          (subst (λ (s : SessionState). AreRecorded (entered_commands state.engine.grid s.engine.grid)) stays none_recorded)
+          (subst (λ (s : SessionState). replayed state (entered_commands state.engine.grid s.engine.grid) ≡ Some s) stays none_again)
       by_effect (commands.Search search) read (inr (engine, left, done)) =
           let moves : record state { engine = engine } ≡ next = sym (same ∙ left) in
           by_letters search read
-          (subst (λ (s : State). AreRecorded (entered_commands state.engine.grid s.engine.grid)) moves (search_recorded state is engine done))
-          (subst (λ (s : State). replayed state (entered_commands state.engine.grid s.engine.grid) ≡ Some s) moves (search_again state is engine done))
+          (subst (λ (s : SessionState). AreRecorded (entered_commands state.engine.grid s.engine.grid)) moves (search_recorded state is engine done))
+          (subst (λ (s : SessionState). replayed state (entered_commands state.engine.grid s.engine.grid) ≡ Some s) moves (search_again state is engine done))
 
-    by_reply : (command : Command) → command_of line ≡ Ok (Some command) → (reply : Result Reply Refusal) → Replies state command reply → outcome ≡ step_of reply → next ≡ state_after state reply → Leaves state line text next
+    by_reply : (command : Command) → command_of line ≡ Ok (Some command) → (reply : Result Reply CommandRefusal) → Replies state command reply → outcome ≡ step_of reply → next ≡ state_after state reply → Leaves state line text next
     by_reply command read (Ok reply) (due, owed, fits) step same = by_effect reply step same command read (effected state is reply command (subst (IsDue state command) fits owed))
     by_reply command read (Err refusal) replies step same = inl (ap (λ step. journal_text state.engine.grid line step next.engine.grid) step, same)
 
@@ -118,15 +118,15 @@ module _ (state : State) (is : IsGrid state.engine.grid) where
 
     -- ---- the grid after a line
 
-    grid_after_reply : (command : Command) (reply : Result Reply Refusal) → Replies state command reply → next ≡ state_after state reply → IsGrid next.engine.grid
+    grid_after_reply : (command : Command) (reply : Result Reply CommandRefusal) → Replies state command reply → next ≡ state_after state reply → IsGrid next.engine.grid
     grid_after_reply command (Ok reply) (due, owed, fits) same =
-        subst (λ (s : State). IsGrid s.engine.grid) (sym same) (grid_left state is reply command (subst (IsDue state command) fits owed))
-    grid_after_reply command (Err refusal) replies same = subst (λ (s : State). IsGrid s.engine.grid) (sym same) is
+        subst (λ (s : SessionState). IsGrid s.engine.grid) (sym same) (grid_left state is reply command (subst (IsDue state command) fits owed))
+    grid_after_reply command (Err refusal) replies same = subst (λ (s : SessionState). IsGrid s.engine.grid) (sym same) is
 
     grid_after_parsed : (found : Result (Option Command) SyntaxFault) → AnswersParsed state found outcome answer next → IsGrid next.engine.grid
-    grid_after_parsed (Ok None) said = subst (λ (s : State). IsGrid s.engine.grid) (sym said.2) is
+    grid_after_parsed (Ok None) said = subst (λ (s : SessionState). IsGrid s.engine.grid) (sym said.2) is
     grid_after_parsed (Ok (Some command)) said = grid_after_reply command said.0 said.1 said.4
-    grid_after_parsed (Err fault) said = subst (λ (s : State). IsGrid s.engine.grid) (sym said.2) is
+    grid_after_parsed (Err fault) said = subst (λ (s : SessionState). IsGrid s.engine.grid) (sym said.2) is
 
     pub grid_after_line : IsGrid next.engine.grid
     grid_after_line = grid_after_parsed (command_of line) said
@@ -134,7 +134,7 @@ module _ (state : State) (is : IsGrid state.engine.grid) where
 -- ---- as lines
 
 -- whole lines of a text, which lead from one state to another
-pub record Replays (start : State) (bytes : List ℕ) (end : State) : Type 0 where
+pub record Replays (start : SessionState) (bytes : List ℕ) (end : SessionState) : Type 0 where
   pub lines : List (List ℕ)
   pub whole : bytes ≡ with_lfs lines []
   pub plain : AllHaveNoLf lines
@@ -148,7 +148,7 @@ pub plain_joined : (front lines : List (List ℕ)) → AllHaveNoLf front → All
 plain_joined [] lines a b = b
 plain_joined (line ∷ front) lines a b = (a.0, plain_joined front lines a.1 b)
 
-pub both_replays : (start mid end : State) (bytes others : List ℕ) → Replays start bytes mid → Replays mid others end → Replays start (bytes ++ others) end
+pub both_replays : (start mid end : SessionState) (bytes others : List ℕ) → Replays start bytes mid → Replays mid others end → Replays start (bytes ++ others) end
 both_replays start mid end bytes others a b = record {
   lines = a.lines ++ b.lines;
   whole = ap (λ xs. xs ++ others) a.whole ∙ ap (λ xs. with_lfs a.lines [] ++ xs) b.whole ∙ lfs_joined a.lines b.lines [];
@@ -157,7 +157,7 @@ both_replays start mid end bytes others a b = record {
 }
 
 -- a comment changes nothing
-after_comment : (state : State) (line : List ℕ) (lines : List (List ℕ)) → command_of line ≡ Ok None → replayed_lines state (line ∷ lines) ≡ replayed_lines state lines
+after_comment : (state : SessionState) (line : List ℕ) (lines : List (List ℕ)) → command_of line ≡ Ok None → replayed_lines state (line ∷ lines) ≡ replayed_lines state lines
 after_comment state line lines e = ap (λ found. option_and_then (λ next. replayed_lines next lines) (left_by_line state found)) e
 
 -- the lines of a group of commands
@@ -178,14 +178,14 @@ group_plain commands recorded =
       end_plain : HasNoLf end_line
       end_plain = (λ z. cc, (λ z. cc, (λ z. cc, (λ z. cc, (λ z. cc, (λ z. cc, (λ z. cc, (λ z. cc, tt))))))))
 
-group_done : (state next : State) (commands : List Change) → AreRecorded commands → replayed state commands ≡ Some next → replayed_lines state (group_lines commands) ≡ Some next
+group_done : (state next : SessionState) (commands : List Change) → AreRecorded commands → replayed state commands ≡ Some next → replayed_lines state (group_lines commands) ≡ Some next
 group_done state next commands recorded done =
     after_comment state begin_line (map line_without_lf commands ++ end_line ∷ []) refl
     ∙ both_replayed state (map line_without_lf commands) (end_line ∷ [])
     ∙ ap (option_and_then (λ mid. replayed_lines mid (end_line ∷ []))) (replayed_as_read state commands recorded ∙ done)
     ∙ after_comment next end_line [] refl
 
-group_replays : (state next : State) (commands : List Change) → AreRecorded commands → replayed state commands ≡ Some next → Replays state (grouped commands) next
+group_replays : (state next : SessionState) (commands : List Change) → AreRecorded commands → replayed state commands ≡ Some next → Replays state (grouped commands) next
 group_replays state next [] recorded done = record { lines = []; whole = refl; plain = tt; done = done }
 group_replays state next (command ∷ commands) recorded done = record {
   lines = group_lines (command ∷ commands);
@@ -194,14 +194,14 @@ group_replays state next (command ∷ commands) recorded done = record {
   done = group_done state next (command ∷ commands) recorded done;
 }
 
-pub line_replays : (state : State) (line bytes : List ℕ) (next : State) → HasNoLf line → Leaves state line bytes next → Replays state bytes next
+pub line_replays : (state : SessionState) (line bytes : List ℕ) (next : SessionState) → HasNoLf line → Leaves state line bytes next → Replays state bytes next
 line_replays state line bytes next plain (inl (none, same)) = record { lines = []; whole = none; plain = tt; done = ap Some (sym same) }
 line_replays state line bytes next plain (inr (inl (is, left, command))) = record { lines = line ∷ []; whole = is; plain = (plain, tt); done = ap (option_and_then (λ next. Some next)) left }
 line_replays state line bytes next plain (inr (inr enters)) =
     subst (λ bytes. Replays state bytes next) (sym enters.text-is) (group_replays state next (entered_commands state.engine.grid next.engine.grid) enters.recorded enters.done)
 
 -- the lines of such a text
-module _ (start end : State) (bytes : List ℕ) (is : Replays start bytes end) where
+module _ (start end : SessionState) (bytes : List ℕ) (is : Replays start bytes end) where
   bytes_cut : cut bytes ≡ record { ended = is.lines; rest = [] }
   bytes_cut = ap cut is.whole ∙ cut-with_lfs is.lines [] is.plain tt
 
@@ -214,7 +214,7 @@ module _ (start end : State) (bytes : List ℕ) (is : Replays start bytes end) w
   pub lines_again : replayed_lines start (lines_of bytes) ≡ Some end
   lines_again = ap (replayed_lines start) lines_there ∙ is.done
 
-pub both_there : (start mid end : State) (bytes others : List ℕ) → Replays start bytes mid → Replays mid others end → lines_of (bytes ++ others) ≡ lines_of bytes ++ lines_of others
+pub both_there : (start mid end : SessionState) (bytes others : List ℕ) → Replays start bytes mid → Replays mid others end → lines_of (bytes ++ others) ≡ lines_of bytes ++ lines_of others
 unfolding both_replays
 both_there start mid end bytes others a b =
     lines_there start end (bytes ++ others) (both_replays start mid end bytes others a b)

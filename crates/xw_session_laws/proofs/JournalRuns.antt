@@ -19,7 +19,7 @@ use Rattle.xw_lines.specs.declared.outcome.Step.{Step}
 use Rattle.xw_commands.specs.declared.change.Change.{Change}
 use Rattle.xw_commands.specs.declared.change.Change.TheVariants as changes
 use Rattle.xw_commands.specs.declared.command.CellArg.{CellArg}
-use Rattle.xw_session.specs.State.{State}
+use Rattle.xw_session.specs.State.{SessionState}
 use Rattle.xw_session.specs.Answer.{Answers}
 use Rattle.xw_answers.specs.Record.{command_lines}
 use Rattle.xw_answers.specs.Spelling.{command_line}
@@ -82,7 +82,7 @@ group_unmarked (command ∷ letters) recorded sets =
     joined (codes "# xw begin\n") (command_lines (command ∷ letters) ++ codes "# xw end\n") refl
     (joined (command_lines (command ∷ letters)) (codes "# xw end\n") (letters_unmarked (command ∷ letters) recorded sets) refl)
 
-text_unmarked : (state : State) (line text : List ℕ) (next : State) → AreBytes line → Leaves state line text next → IsUnmarked text
+text_unmarked : (state : SessionState) (line text : List ℕ) (next : SessionState) → AreBytes line → Leaves state line text next → IsUnmarked text
 text_unmarked state line text next are (inl (none, same)) = subst IsUnmarked (sym none) refl
 text_unmarked state line text next are (inr (inl (is, left, command))) = subst IsUnmarked (sym is) (joined line (10 ∷ []) (bytes_unmarked line are) refl)
 text_unmarked state line text next are (inr (inr enters)) =
@@ -105,7 +105,7 @@ events_unmarked Refused line before after plain = refl
 -- ---- a run
 
 -- what the journal takes of a line is its text
-pub line_taken : (state : State) (line : List ℕ) (outcome : Step) (answer : List ℕ) (next : State) → IsGrid state.engine.grid → AreBytes line → Answers state line outcome answer next
+pub line_taken : (state : SessionState) (line : List ℕ) (outcome : Step) (answer : List ℕ) (next : SessionState) → IsGrid state.engine.grid → AreBytes line → Answers state line outcome answer next
     → without_flushes (journal_events state.engine.grid line outcome next.engine.grid) ≡ journal_text state.engine.grid line outcome next.engine.grid
 line_taken state line outcome answer next is are said =
     let text = journal_text state.engine.grid line outcome next.engine.grid in
@@ -131,17 +131,17 @@ run_journaled (line ∷ lines) start end out refused is are (outcome, answer, mi
 
 -- ---- one more line
 
-grid_behind : (lines : List (List ℕ)) (start end : State) (bytes : List ℕ) → IsGrid start.engine.grid → IsJournaled start lines bytes end → IsGrid end.engine.grid
-grid_behind [] start end bytes is (none, same) = subst (λ (s : State). IsGrid s.engine.grid) (sym same) is
+grid_behind : (lines : List (List ℕ)) (start end : SessionState) (bytes : List ℕ) → IsGrid start.engine.grid → IsJournaled start lines bytes end → IsGrid end.engine.grid
+grid_behind [] start end bytes is (none, same) = subst (λ (s : SessionState). IsGrid s.engine.grid) (sym same) is
 grid_behind (line ∷ lines) start end bytes is (outcome, answer, mid, others, said, rest, bytes-is) = grid_behind lines mid end others (grid_after_line start is line outcome answer mid said) rest
 
-one_more : (lines : List (List ℕ)) (start mid end : State) (bytes line answer : List ℕ) (outcome : Step) → IsJournaled start lines bytes mid → Answers mid line outcome answer end
+one_more : (lines : List (List ℕ)) (start mid end : SessionState) (bytes line answer : List ℕ) (outcome : Step) → IsJournaled start lines bytes mid → Answers mid line outcome answer end
     → IsJournaled start (lines ++ line ∷ []) (bytes ++ journal_text mid.engine.grid line outcome end.engine.grid) end
 one_more [] start mid end bytes line answer outcome (none, same) said =
     let text = journal_text mid.engine.grid line outcome end.engine.grid in
     let here : Answers start line outcome answer end = subst (λ s. Answers s line outcome answer end) same said in
     let plain : bytes ++ text ≡ journal_text start.engine.grid line outcome end.engine.grid ++ [] =
-    ap (λ xs. xs ++ text) none ∙ ap (λ (s : State). journal_text s.engine.grid line outcome end.engine.grid) same ∙ sym (append-nil (journal_text start.engine.grid line outcome end.engine.grid)) in
+    ap (λ xs. xs ++ text) none ∙ ap (λ (s : SessionState). journal_text s.engine.grid line outcome end.engine.grid) same ∙ sym (append-nil (journal_text start.engine.grid line outcome end.engine.grid)) in
     (outcome, answer, end, [], here, (refl, refl), plain)
 one_more (first ∷ lines) start mid end bytes line answer outcome (step, told, next, others, done, rest, bytes-is) said =
     let text = journal_text mid.engine.grid line outcome end.engine.grid in

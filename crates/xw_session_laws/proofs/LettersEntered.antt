@@ -11,11 +11,11 @@ use Rattle.xw_grid.specs.Grid.{Grid, IsGrid, is_inside, index_of, cell_at, cells
 use Rattle.xw_grid.specs.Edit.{with_entry}
 use Rattle.xw_grid.proofs.GridLemmas.{cell_at-inside, index_of-cell_at, inside_small, length-cells}
 use Rattle.xw_feas.specs.Board.{board_of, square_entry}
-use Rattle.xw_feas.specs.State.{State as EngineState}
+use Rattle.xw_feas.specs.State.{State}
 use Rattle.xw_fill.specs.Position.{square_with, squares_with}
 use Rattle.xw_commands.specs.declared.change.Change.{Change}
 use Rattle.xw_commands.specs.declared.change.Change.TheVariants as changes
-use Rattle.xw_session.specs.State.{State}
+use Rattle.xw_session.specs.State.{SessionState}
 use Rattle.xw_session.specs.Reply.{with_letter}
 use Rattle.xw_answers.specs.Record.{spot_of, letter_commands}
 use Rattle.xw_answers.proofs.LightTexts.{cell_in_order}
@@ -38,12 +38,12 @@ IsLettered (Open (Some letter)) Block = ⊥
 IsLettered (Open (Some letter)) (Open None) = ⊥
 IsLettered (Open (Some letter)) (Open (Some other)) = letter ≡ other
 
-module _ (state : State) (grid : Grid) (is : IsGrid grid) (now : List Square) (long : length now ≡ length grid.squares)
+module _ (state : SessionState) (grid : Grid) (is : IsGrid grid) (now : List Square) (long : length now ≡ length grid.squares)
     (lettered : (k : ℕ) → k < length grid.squares → IsLettered (get_or grid.squares k Block) (get_or now k Block)) where
   abbrev after : Grid
   after = record grid { squares = now }
 
-  abbrev reached : ℕ → State
+  abbrev reached : ℕ → SessionState
   reached k = with_squares state grid (mixed now grid.squares k)
 
   abbrev commands_of : Cell → Square → Square → List Change
@@ -128,7 +128,7 @@ with_lettered (Open None) (Some letter) kept good = good letter refl
 with_lettered (Open (Some letter)) None kept good = let bad : ◌≡◌ {A = Option ℕ} None (Some letter) = kept letter refl in cc
 with_lettered (Open (Some letter)) (Some other) kept good = let same : Some other ≡ Some letter = kept letter refl in cc
 
-module _ (state : State) (is : IsGrid state.engine.grid) (next : EngineState) (done : IsSearched state.engine next) where
+module _ (state : SessionState) (is : IsGrid state.engine.grid) (next : State) (done : IsSearched state.engine next) where
   abbrev filled : List Square
   filled = squares_with state.engine.grid.squares done.entries
 
@@ -144,11 +144,11 @@ module _ (state : State) (is : IsGrid state.engine.grid) (next : EngineState) (d
   -- the letters lead to the state after the search
   pub search_again : replayed state (entered_commands state.engine.grid next.grid) ≡ Some (record state { engine = next })
   search_again =
-      ap (λ (p : EngineState). replayed state (entered_commands state.engine.grid p.grid)) done.is
+      ap (λ (p : State). replayed state (entered_commands state.engine.grid p.grid)) done.is
       ∙ letters_entered state state.engine.grid is filled (length-filled state.engine.grid.squares done.entries) filled_lettered
-      ∙ ap (λ (p : EngineState). Some (record state { engine = p })) (sym done.is)
+      ∙ ap (λ (p : State). Some (record state { engine = p })) (sym done.is)
 
   pub search_recorded : AreRecorded (entered_commands state.engine.grid next.grid)
   search_recorded =
-      subst (λ (p : EngineState). AreRecorded (entered_commands state.engine.grid p.grid)) (sym done.is)
+      subst (λ (p : State). AreRecorded (entered_commands state.engine.grid p.grid)) (sym done.is)
       (entered_recorded state state.engine.grid is filled (length-filled state.engine.grid.squares done.entries) filled_lettered)

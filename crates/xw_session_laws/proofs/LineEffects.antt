@@ -15,8 +15,8 @@ use Rattle.xw_grid.specs.Edit.{blank, new_grid}
 use Rattle.xw_grid.specs.Clue.{no_clues, with_clue, with_circle, is_circled}
 use Rattle.xw_grid.specs.Light.{lights_of, index_named}
 use Rattle.xw_feas.specs.Board.{board_of, square_entry}
-use Rattle.xw_feas.specs.declared.edit.Refusal.{Refusal as EditRefusal}
-use Rattle.xw_feas.specs.State.{State as EngineState, letter_set, cell_cleared, word_placed, list_written, block_toggled, bar_toggled, symmetry_chosen, word_added, word_struck, least_chosen, after}
+use Rattle.xw_feas.specs.declared.edit.Refusal.{Refusal}
+use Rattle.xw_feas.specs.State.{State, letter_set, cell_cleared, word_placed, list_written, block_toggled, bar_toggled, symmetry_chosen, word_added, word_struck, least_chosen, after}
 use Rattle.xw_feas.specs.WellFormed.{HasLetterEntries}
 use Rattle.xw_feas.proofs.FormedLemmas.{laid_out}
 use Rattle.xw_fill.specs.Position.{position_of, filled_in}
@@ -39,31 +39,31 @@ use Rattle.xw_commands.specs.declared.command.CellArg.{CellArg}
 use Rattle.xw_commands.specs.declared.command.Field.{Field}
 use Rattle.xw_commands.specs.declared.command.TextField.{TextField}
 use Rattle.xw_commands.specs.declared.command.TextMode.{TextMode}
-use Rattle.xw_answers.specs.declared.refusal.Refusal.{Refusal}
-use Rattle.xw_answers.specs.declared.refusal.Refusal.TheVariants as refusals
+use Rattle.xw_answers.specs.declared.refusal.CommandRefusal.{CommandRefusal}
+use Rattle.xw_answers.specs.declared.refusal.CommandRefusal.TheVariants as refusals
+use Rattle.xw_feas.specs.declared.edit.Refusal.TheVariants as edits
 use Rattle.xw_session.specs.declared.session.putting.Target.{Target}
 use Rattle.xw_session.specs.declared.session.putting.Target.TheVariants as targets
 use Rattle.xw_commands.specs.declared.command.TextMode.TheVariants.{Instead, Behind}
-use Rattle.xw_answers.specs.Refusal.{refusal_of}
-use Rattle.xw_session.specs.Autofill.{names_of}
+use Rattle.xw_session.specs.NamedSearch.{names_of}
 use Rattle.xw_session.specs.Erase.{erased_cells, emptied}
 use Rattle.xw_session.specs.Answer.{IsDue}
 use Rattle.xw_answers.specs.Escape.{text_spelled, has_nul}
-use Rattle.xw_session.specs.State.{State, with_text_in, cell_of}
+use Rattle.xw_session.specs.State.{SessionState, with_text_in, cell_of}
 use Rattle.xw_session.specs.Put.{target_of, has_target, text_at, with_text_at, with_piece}
 use Rattle.xw_answers.specs.Text.{word_line}
-use Rattle.xw_session.specs.Reply.{Reply, asked, changed, edited, shown, moved, watch_lines, with_letter, resized, with_clue_of, erased, written, circle_toggled, put, light_named, name_of_light, filling_name}
+use Rattle.xw_session.specs.Reply.{Reply, asked, changed, edited, shown, moved, watch_lines, with_letter, resized, with_clue_of, erased, written, circle_toggled, put, light_named, name_of_light, filling_line}
 use Rattle.xw_session_laws.proofs.SessionKept.{ok_state}
 use Rattle.xw_session_laws.proofs.GridsKept.{blank_good, letter_good, with_words_good, with_letter_good, with_word_good, emptied_good, with_orbit_good, with_bar_good, with_symmetry_good, square_good, filled_good}
 
 -- ---- a search
 
 -- the entries of an engine
-abbrev pub entries_of : EngineState → List (Option ℕ)
+abbrev pub entries_of : State → List (Option ℕ)
 entries_of engine = (position_of engine).board.entries
 
 -- the search entered letters, and every letter that was there stays
-pub record IsSearched (engine next : EngineState) : Type 0 where
+pub record IsSearched (engine next : State) : Type 0 where
   pub entries : List (Option ℕ)
   pub letters : (cell letter : ℕ) → get_or entries cell None ≡ Some letter → IsLetter letter
   pub kept : (cell letter : ℕ) → get_or (entries_of engine) cell None ≡ Some letter → get_or entries cell None ≡ Some letter
@@ -83,7 +83,7 @@ letter_entries grid is cell letter at =
       by_square (squares.Open None) good e = cc
       by_square (squares.Open (Some other)) good e = let same : other ≡ letter = cc in subst IsLetter same good
 
-end_is_fill : (engine : EngineState) → IsGrid engine.grid → found (position_of engine) ≡ true → IsSearched engine (filled_in engine (end (position_of engine)).board.entries)
+end_is_fill : (engine : State) → IsGrid engine.grid → found (position_of engine) ≡ true → IsSearched engine (filled_in engine (end (position_of engine)).board.entries)
 end_is_fill engine is there =
     let laid = laid_out engine.grid is (letter_entries engine.grid is) in
     let done = found_is_fill (unentered_count (position_of engine)) (position_of engine) (entries_of engine) (shaped (position_of engine).board laid) (reached-start (position_of engine) laid.letters) there in
@@ -97,17 +97,17 @@ end_is_fill engine is there =
 -- ---- what a reply leaves, by its command
 
 -- a query leaves the state as it was, a change leaves its own, and a search may enter letters
-abbrev pub HasEffect : State → Command → Reply → Type 0
+abbrev pub HasEffect : SessionState → Command → Reply → Type 0
 HasEffect state (commands.Ask query) reply = reply.state ≡ state
 HasEffect state (commands.Change change) reply = changed state change ≡ Ok reply
-HasEffect state (commands.Search search) reply = (reply.state ≡ state) ⊎ ((next : EngineState) × (reply.state ≡ record state { engine = next }) × IsSearched state.engine next)
+HasEffect state (commands.Search search) reply = (reply.state ≡ state) ⊎ ((next : State) × (reply.state ≡ record state { engine = next }) × IsSearched state.engine next)
 
-module _ (state : State) (is : IsGrid state.engine.grid) (reply : Reply) where
-  by_test : (P : Type 0) (b : Bool) (x y : Result Reply Refusal) → (x ≡ Ok reply → P) → (b ≡ false → y ≡ Ok reply → P) → (if b then x else y) ≡ Ok reply → P
+module _ (state : SessionState) (is : IsGrid state.engine.grid) (reply : Reply) where
+  by_test : (P : Type 0) (b : Bool) (x y : Result Reply CommandRefusal) → (x ≡ Ok reply → P) → (b ≡ false → y ≡ Ok reply → P) → (if b then x else y) ≡ Ok reply → P
   by_test P true x y here there e = here e
   by_test P false x y here there e = there refl e
 
-  refused_not : (P : Type 0) (refusal : Refusal) → ◌≡◌ {A = Result Reply Refusal} (Err refusal) (Ok reply) → P
+  refused_not : (P : Type 0) (refusal : CommandRefusal) → ◌≡◌ {A = Result Reply CommandRefusal} (Err refusal) (Ok reply) → P
   refused_not P refusal e = cc
 
   -- ---- queries
@@ -118,14 +118,14 @@ module _ (state : State) (is : IsGrid state.engine.grid) (reply : Reply) where
   when_shown : (lines : List ℕ) → shown state lines ≡ Ok reply → Stays
   when_shown lines e = sym (ok_state (record { lines = lines; state = state }) reply e)
 
-  of_answer : (answer : Result (List ℕ) Refusal) → ◌≡◌ {A = Result Reply Refusal} (Ok reply) (asked state answer) → Stays
+  of_answer : (answer : Result (List ℕ) CommandRefusal) → ◌≡◌ {A = Result Reply CommandRefusal} (Ok reply) (asked state answer) → Stays
   of_answer (Ok lines) e = when_shown lines (sym e)
   of_answer (Err refusal) e = refused_not Stays refusal (sym e)
 
   -- ---- searches
 
   abbrev Searched : Type 0
-  Searched = (reply.state ≡ state) ⊎ ((next : EngineState) × (reply.state ≡ record state { engine = next }) × IsSearched state.engine next)
+  Searched = (reply.state ≡ state) ⊎ ((next : State) × (reply.state ≡ record state { engine = next }) × IsSearched state.engine next)
 
   by_fill : (past there : Bool) (limit filled none : List ℕ) → found (position_of state.engine) ≡ there
       → (if past then shown state limit else if there then Ok (record { lines = filled; state = record state { engine = filled_in state.engine (end (position_of state.engine)).board.entries } }) else shown state none) ≡ Ok reply → Searched
@@ -135,21 +135,21 @@ module _ (state : State) (is : IsGrid state.engine.grid) (reply : Reply) where
       inr (next, sym (ok_state (record { lines = filled; state = record state { engine = next } }) reply e), end_is_fill state.engine is is_found)
   by_fill false false limit filled none is_found e = inl (when_shown none e)
 
-  by_end : (named : ℕ → Bool) (filling : Filling) (engine : EngineState) → reply.state ≡ record state { engine = engine } → IsAutofilled named state.engine engine filling → Searched
+  by_end : (named : ℕ → Bool) (filling : Filling) (engine : State) → reply.state ≡ record state { engine = engine } → IsAutofilled named state.engine engine filling → Searched
   by_end named fillings.Filled engine told (entries, fill, same) = inr (engine, told, record { entries = entries; letters = fill.letters; kept = fill.kept; is = same })
-  by_end named fillings.NoFill engine told (none, same) = inl (told ∙ ap (λ (p : EngineState). record state { engine = p }) same)
-  by_end named fillings.Limit engine told same = inl (told ∙ ap (λ (p : EngineState). record state { engine = p }) same)
+  by_end named fillings.NoFill engine told (none, same) = inl (told ∙ ap (λ (p : State). record state { engine = p }) same)
+  by_end named fillings.Limit engine told same = inl (told ∙ ap (λ (p : State). record state { engine = p }) same)
 
-  by_best : (named : ℕ → Bool) (best : Best) (engine : EngineState) → reply.state ≡ record state { engine = engine } → IsBest named state.engine engine best → Searched
+  by_best : (named : ℕ → Bool) (best : Best) (engine : State) → reply.state ≡ record state { engine = engine } → IsBest named state.engine engine best → Searched
   by_best named (bests.Filled least bound) engine told (filled, proved) = inr (engine, told, record { entries = filled.entries; letters = filled.fill.letters; kept = filled.fill.kept; is = filled.holds })
-  by_best named bests.NoFill engine told (none, same) = inl (told ∙ ap (λ (p : EngineState). record state { engine = p }) same)
-  by_best named (bests.Limit bound) engine told (above, proved, same) = inl (told ∙ ap (λ (p : EngineState). record state { engine = p }) same)
+  by_best named bests.NoFill engine told (none, same) = inl (told ∙ ap (λ (p : State). record state { engine = p }) same)
+  by_best named (bests.Limit bound) engine told (above, proved, same) = inl (told ∙ ap (λ (p : State). record state { engine = p }) same)
 
   searched_so : (search : Search) → IsDue state (commands.Search search) (Ok reply) → Searched
   searched_so (searches.Fill limit) e =
-      by_fill (nat_lt limit (due (position_of state.engine))) (found (position_of state.engine)) (word_line (filling_name fillings.Limit)) (word_line (filling_name fillings.Filled)) (word_line (filling_name fillings.NoFill)) refl e
-  searched_so (searches.Autofill limit seed lights) e = by_end (is_named state.engine (names_of lights)) e.filling e.engine (ap (λ (reply : Reply). reply.state) e.is) e.done
-  searched_so (searches.Best limit seed lights) e = by_best (is_named state.engine (names_of lights)) e.best e.engine (ap (λ (reply : Reply). reply.state) e.is) e.done
+      by_fill (nat_lt limit (due (position_of state.engine))) (found (position_of state.engine)) (filling_line fillings.Limit) (filling_line fillings.Filled) (filling_line fillings.NoFill) refl e
+  searched_so (searches.Autofill limit seed lights) e = by_end (is_named state.engine (names_of lights)) e.end e.engine (ap (λ (reply : Reply). reply.state) e.is) e.done
+  searched_so (searches.Best limit seed lights) e = by_best (is_named state.engine (names_of lights)) e.end e.engine (ap (λ (reply : Reply). reply.state) e.is) e.done
 
   -- ---- all commands
 
@@ -163,42 +163,42 @@ module _ (state : State) (is : IsGrid state.engine.grid) (reply : Reply) where
   abbrev Good : Type 0
   Good = IsGrid reply.state.engine.grid
 
-  good_at : (one : Reply) → ◌≡◌ {A = Result Reply Refusal} (Ok one) (Ok reply) → IsGrid one.state.engine.grid → Good
-  good_at one e good = subst (λ (s : State). IsGrid s.engine.grid) (ok_state one reply e) good
+  good_at : (one : Reply) → ◌≡◌ {A = Result Reply CommandRefusal} (Ok one) (Ok reply) → IsGrid one.state.engine.grid → Good
+  good_at one e good = subst (λ (s : SessionState). IsGrid s.engine.grid) (ok_state one reply e) good
 
   good_quiet : Stays → Good
-  good_quiet same = subst (λ (s : State). IsGrid s.engine.grid) (sym same) is
+  good_quiet same = subst (λ (s : SessionState). IsGrid s.engine.grid) (sym same) is
 
   good_searched : Searched → Good
   good_searched (inl same) = good_quiet same
   good_searched (inr (next, told, done)) =
-      let filled : IsGrid next.grid = subst (λ (p : EngineState). IsGrid p.grid) (sym done.is) (filled_good state.engine done.entries is done.letters) in
-      subst (λ (s : State). IsGrid s.engine.grid) (sym told) filled
+      let filled : IsGrid next.grid = subst (λ (p : State). IsGrid p.grid) (sym done.is) (filled_good state.engine done.entries is done.letters) in
+      subst (λ (s : SessionState). IsGrid s.engine.grid) (sym told) filled
 
-  good_edited : (next : State) → IsGrid next.engine.grid → edited next ≡ Ok reply → Good
+  good_edited : (next : SessionState) → IsGrid next.engine.grid → edited next ≡ Ok reply → Good
   good_edited next good e = good_at (record { lines = []; state = next }) e good
 
-  good_moved : (result : Result EngineState EditRefusal) → ((next : EngineState) → result ≡ Ok next → IsGrid next.grid) → moved state result ≡ Ok reply → Good
+  good_moved : (result : Result State Refusal) → ((next : State) → result ≡ Ok next → IsGrid next.grid) → moved state result ≡ Ok reply → Good
   good_moved (Ok next) good e = good_at (record { lines = watch_lines state next; state = record state { engine = next } }) e (good next refl)
-  good_moved (Err refusal) good e = refused_not Good (refusal_of refusal) e
+  good_moved (Err refusal) good e = refused_not Good (refusals.Engine refusal) e
 
   good_letter : (at : CellArg) (letter : ℕ) (found : Option ℕ) → letter_of letter ≡ found → with_letter state at found ≡ Ok reply → Good
-  good_letter at letter None is_found e = refused_not Good (refusals.Word (faults.BadLetter 1)) e
+  good_letter at letter None is_found e = refused_not Good (refusals.Engine (edits.Word (faults.BadLetter 1))) e
   good_letter at letter (Some capital) is_found e =
       good_moved (after state.engine (letter_set (cell_of at) capital)) (λ next. with_letter_good state.engine next is (cell_of at) (Some capital) (letter_good letter capital is_found)) e
 
   good_erased : (light : Option Light) → erased state light ≡ Ok reply → Good
-  good_erased None e = refused_not Good refusals.NoLight e
+  good_erased None e = refused_not Good (refusals.Engine edits.NoLight) e
   good_erased (Some light) e =
       good_moved (after state.engine (list_written (emptied (erased_cells state.engine light)))) (λ next. emptied_good state.engine next is (erased_cells state.engine light)) e
 
   good_size : (result : Result Grid GridFault) → ((grid : Grid) → result ≡ Ok grid → IsGrid grid) → resized state result ≡ Ok reply → Good
   good_size (Ok grid) good e =
       good_at (record { lines = []; state = record state { engine = record { grid = grid; words = state.engine.words }; clues = no_clues; circles = [] } }) e (good grid refl)
-  good_size (Err fault) good e = refused_not Good (refusals.Grid fault) e
+  good_size (Err fault) good e = refused_not Good (refusals.Engine (edits.Grid fault)) e
 
   good_clue : (light : Option Light) (text : List ℕ) → with_clue_of state light text ≡ Ok reply → Good
-  good_clue None text e = refused_not Good refusals.NoLight e
+  good_clue None text e = refused_not Good (refusals.Engine edits.NoLight) e
   good_clue (Some light) text e =
       by_test Good (has_nul text) (Err refusals.NulByte) (edited (record state { clues = with_clue state.clues light.start light.name.direction text })) (refused_not Good refusals.NulByte)
       (λ _. good_edited (record state { clues = with_clue state.clues light.start light.name.direction text }) is) e
@@ -210,9 +210,9 @@ module _ (state : State) (is : IsGrid state.engine.grid) (reply : Reply) where
 
   good_circle : (cell : Cell) → circle_toggled state cell ≡ Ok reply → Good
   good_circle cell e =
-      let next : State = record state { circles = with_circle state.circles cell (not (is_circled state.circles cell)) } in
-      by_test Good (not (is_inside state.engine.grid cell)) (Err (refusals.Grid grids.OutOfGrid)) (if not (is_open state.engine.grid cell) then Err (refusals.Grid grids.OnBlock) else edited next) (refused_not Good (refusals.Grid grids.OutOfGrid))
-      (λ _. by_test Good (not (is_open state.engine.grid cell)) (Err (refusals.Grid grids.OnBlock)) (edited next) (refused_not Good (refusals.Grid grids.OnBlock)) (λ _. good_edited next is)) e
+      let next : SessionState = record state { circles = with_circle state.circles cell (not (is_circled state.circles cell)) } in
+      by_test Good (not (is_inside state.engine.grid cell)) (Err (refusals.Engine (edits.Grid grids.OutOfGrid))) (if not (is_open state.engine.grid cell) then Err (refusals.Engine (edits.Grid grids.OnBlock)) else edited next) (refused_not Good (refusals.Engine (edits.Grid grids.OutOfGrid)))
+      (λ _. by_test Good (not (is_open state.engine.grid cell)) (Err (refusals.Engine (edits.Grid grids.OnBlock))) (edited next) (refused_not Good (refusals.Engine (edits.Grid grids.OnBlock))) (λ _. good_edited next is)) e
 
   good_target : (target : Target) (text : List ℕ) → IsGrid (with_text_at state target text).engine.grid
   good_target (targets.Text name) text = is
@@ -226,8 +226,8 @@ module _ (state : State) (is : IsGrid state.engine.grid) (reply : Reply) where
   good_put : (putting : TextMode) (field : Field) (spelling : Option (List ℕ)) → put state putting field spelling ≡ Ok reply → Good
   good_put putting field None e = refused_not Good refusals.Escape e
   good_put putting field (Some text) e =
-      let next : Result Reply Refusal = edited (with_piece state putting (target_of field) text) in
-      by_test Good (not (has_target state.engine.grid (target_of field))) (Err (refusals.Grid grids.OutOfGrid)) (if has_nul text then Err refusals.NulByte else next) (refused_not Good (refusals.Grid grids.OutOfGrid))
+      let next : Result Reply CommandRefusal = edited (with_piece state putting (target_of field) text) in
+      by_test Good (not (has_target state.engine.grid (target_of field))) (Err (refusals.Engine (edits.Grid grids.OutOfGrid))) (if has_nul text then Err refusals.NulByte else next) (refused_not Good (refusals.Engine (edits.Grid grids.OutOfGrid)))
       (λ _. by_test Good (has_nul text) (Err refusals.NulByte) next (refused_not Good refusals.NulByte) (λ _. good_edited (with_piece state putting (target_of field) text) (good_piece putting (target_of field) text))) e
 
   size_good : (width height : ℕ) (grid : Grid) → new_grid width height ≡ Ok grid → IsGrid grid

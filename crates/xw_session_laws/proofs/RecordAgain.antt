@@ -18,7 +18,7 @@ use Rattle.xw_commands.specs.declared.command.TextField.{TextField}
 use Rattle.xw_commands.specs.declared.command.TextField.TheVariants.{Title, Author, Copyright, Notes}
 use Rattle.xw_answers.specs.declared.record.Part.TheVariants as parts
 use Rattle.xw_session.specs.declared.session.recording.Section.TheVariants as sections
-use Rattle.xw_session.specs.State.{State, with_text_in}
+use Rattle.xw_session.specs.State.{SessionState, with_text_in}
 use Rattle.xw_session.specs.Put.{text_of_field}
 use Rattle.xw_answers.specs.Record.{word_commands}
 use Rattle.xw_session.specs.Record.{section_commands, record_sections, record_commands}
@@ -31,10 +31,10 @@ use Rattle.xw_session_laws.proofs.InOrder.{all_circles}
 use Rattle.xw_session_laws.proofs.BarsAgain.{right_again, below_again}
 use Rattle.xw_session_laws.proofs.CluesAgain.{with_clues, clues_again}
 
-section_then : (state mid : State) (front rest : List Change) (last : Option State) → replayed state front ≡ Some mid → replayed mid rest ≡ last → replayed state (front ++ rest) ≡ last
+section_then : (state mid : SessionState) (front rest : List Change) (last : Option SessionState) → replayed state front ≡ Some mid → replayed mid rest ≡ last → replayed state (front ++ rest) ≡ last
 section_then state mid front rest last e f = replayed_both state front rest ∙ ap (option_and_then (λ mid. replayed mid rest)) e ∙ f
 
-module _ (words : Dictionary) (made state : State) (is : BeganWith words made) (begins : state.engine.words ≡ words) where
+module _ (words : Dictionary) (made state : SessionState) (is : BeganWith words made) (begins : state.engine.words ≡ words) where
   abbrev grid : Grid
   grid = made.engine.grid
 
@@ -42,46 +42,46 @@ module _ (words : Dictionary) (made state : State) (is : BeganWith words made) (
   free = replicate (grid.width * grid.height) (Open None)
 
   -- the states after the sections
-  abbrev worded : State
+  abbrev worded : SessionState
   worded = with_words state made.engine.words
 
-  abbrev sized : State
+  abbrev sized : SessionState
   sized = record worded { engine = record { grid = blank grid.width grid.height; words = made.engine.words }; clues = no_clues; circles = [] }
 
-  abbrev circled : State
+  abbrev circled : SessionState
   circled = record sized { circles = made.circles }
 
-  abbrev blocked : State
+  abbrev blocked : SessionState
   blocked = with_grid circled (record grid { squares = map bared grid.squares; symmetry = kinds.None })
 
-  abbrev turned : State
+  abbrev turned : SessionState
   turned = with_grid circled (record grid { squares = map bared grid.squares })
 
-  abbrev lettered : State
+  abbrev lettered : SessionState
   lettered = with_grid circled grid
 
-  abbrev with_text : State → TextField → State
+  abbrev with_text : SessionState → TextField → SessionState
   with_text now name = record now { texts = with_text_in now.texts name (text_of_field made.texts name) }
 
-  abbrev titled : State
+  abbrev titled : SessionState
   titled = with_text lettered Title
 
-  abbrev authored : State
+  abbrev authored : SessionState
   authored = with_text titled Author
 
-  abbrev copyrighted : State
+  abbrev copyrighted : SessionState
   copyrighted = with_text authored Copyright
 
-  abbrev noted : State
+  abbrev noted : SessionState
   noted = with_text copyrighted Notes
 
-  abbrev clued_across : State
+  abbrev clued_across : SessionState
   clued_across = record noted { clues = with_clues noted.clues Across made.clues.across }
 
-  abbrev clued : State
+  abbrev clued : SessionState
   clued = record noted { clues = made.clues }
 
-  abbrev whole : State
+  abbrev whole : SessionState
   whole = record made { begun = state.begun }
 
   -- the commands of the sections after the first `count`
@@ -99,7 +99,7 @@ module _ (words : Dictionary) (made state : State) (is : BeganWith words made) (
   symmetry_done : replayed blocked (section_commands made sections.Symmetry) ≡ Some turned
   symmetry_done = symmetry_again blocked grid.symmetry is.grid.turned
 
-  text_done : (now : State) (name : TextField) → replayed now (section_commands made (sections.Text name)) ≡ Some (with_text now name)
+  text_done : (now : SessionState) (name : TextField) → replayed now (section_commands made (sections.Text name)) ≡ Some (with_text now name)
   text_done now name = text_again now (fields.Text name) (text_of_field made.texts name) refl (is.texts name)
 
   -- the commands of a record are all accepted and rebuild the session

@@ -26,7 +26,7 @@ use Rattle.xw_answers.specs.declared.record.Part.{Part}
 use Rattle.xw_answers.specs.declared.record.Part.TheVariants as parts
 use Rattle.xw_session.specs.declared.session.recording.Section.{Section}
 use Rattle.xw_session.specs.declared.session.recording.Section.TheVariants as sections
-use Rattle.xw_session.specs.State.{State}
+use Rattle.xw_session.specs.State.{SessionState}
 use Rattle.xw_commands.specs.Command.{command_of}
 use Rattle.xw_lines.specs.Cut.{Cut, cut, lines_of, last_line, with_lfs, AllHaveNoLf}
 use Rattle.xw_session.specs.Put.{text_of_field}
@@ -165,7 +165,7 @@ module _ (grid : Grid) (is : IsGrid grid) (clues : ClueMap) (circles : List Cell
 
 -- ---- the whole record
 
-section_recorded : (words : Dictionary) (made : State) → BeganWith words made → (section : Section) → AreRecorded (section_commands made section)
+section_recorded : (words : Dictionary) (made : SessionState) → BeganWith words made → (section : Section) → AreRecorded (section_commands made section)
 section_recorded words made is sections.Words =
     let least = made.engine.words.least in
     both_recorded (flat_map (length_commands made.begun made.engine.words) (range_with_len 0 256)) (least_commands least)
@@ -176,7 +176,7 @@ section_recorded words made is sections.Symmetry = (tt, tt)
 section_recorded words made is (sections.Text name) = text_recorded (fields.Text name) (text_of_field made.texts name) tt
 section_recorded words made is sections.Watch = (tt, tt)
 
-record_recorded : (words : Dictionary) (made : State) → BeganWith words made → AreRecorded (record_commands made)
+record_recorded : (words : Dictionary) (made : SessionState) → BeganWith words made → AreRecorded (record_commands made)
 record_recorded words made is = each_recorded (section_commands made) sections.Words record_sections (λ i within. section_recorded words made is (get_or record_sections i sections.Words))
 
 -- ---- lines
@@ -206,17 +206,17 @@ each_read [] are = refl
 each_read (command ∷ commands) are =
     ap (λ found. found ∷ map command_of (map line_without_lf commands)) (read_again command are.0).2 ∙ ap (λ rest. read_as command ∷ rest) (each_read commands are.1)
 
-next_the_same : (left : Option State) (f g : State → Option State) → ((next : State) → f next ≡ g next) → option_and_then f left ≡ option_and_then g left
+next_the_same : (left : Option SessionState) (f g : SessionState → Option SessionState) → ((next : SessionState) → f next ≡ g next) → option_and_then f left ≡ option_and_then g left
 next_the_same None f g same = refl
 next_the_same (Some next) f g same = same next
 
-pub replayed_as_read : (state : State) (commands : List Change) → AreRecorded commands → replayed_lines state (map line_without_lf commands) ≡ replayed state commands
+pub replayed_as_read : (state : SessionState) (commands : List Change) → AreRecorded commands → replayed_lines state (map line_without_lf commands) ≡ replayed state commands
 replayed_as_read state [] are = refl
 replayed_as_read state (command ∷ commands) are =
     ap (λ found. option_and_then (λ next. replayed_lines next (map line_without_lf commands)) (left_by_line state found)) (read_again command are.0).2
     ∙ next_the_same (state_left (changed state command)) (λ next. replayed_lines next (map line_without_lf commands)) (λ next. replayed next commands) (λ next. replayed_as_read next commands are.1)
 
-module _ (words : Dictionary) (made : State) (is : BeganWith words made) where
+module _ (words : Dictionary) (made : SessionState) (is : BeganWith words made) where
   -- each line of a record parses as its command
   pub lines_read : map command_of (lines_of (record_lines made)) ≡ map read_as (record_commands made)
   lines_read =
@@ -224,7 +224,7 @@ module _ (words : Dictionary) (made : State) (is : BeganWith words made) where
       ap (map command_of) (lines_are (record_commands made) are) ∙ each_read (record_commands made) are
 
   -- the lines do what the commands do
-  pub lines_done : (state : State) → replayed_lines state (lines_of (record_lines made)) ≡ replayed state (record_commands made)
+  pub lines_done : (state : SessionState) → replayed_lines state (lines_of (record_lines made)) ≡ replayed state (record_commands made)
   lines_done state =
       let are = record_recorded words made is in
       ap (replayed_lines state) (lines_are (record_commands made) are) ∙ replayed_as_read state (record_commands made) are

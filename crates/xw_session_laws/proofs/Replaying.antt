@@ -36,7 +36,7 @@ use Rattle.xw_commands.specs.declared.command.TextMode.TheVariants.{Instead, Beh
 use Rattle.xw_commands.specs.declared.command.TextField.TheVariants.{Title, Author, Copyright, Notes}
 use Rattle.xw_session.specs.declared.session.putting.Target.{Target}
 use Rattle.xw_session.specs.declared.session.putting.Target.TheVariants as targets
-use Rattle.xw_session.specs.State.{State}
+use Rattle.xw_session.specs.State.{SessionState}
 use Rattle.xw_answers.specs.Escape.{escaped_text, has_nul}
 use Rattle.xw_session.specs.Put.{target_of, has_target, with_text_at, with_piece}
 use Rattle.xw_session.specs.Reply.{put, changed, resized, moved}
@@ -48,18 +48,18 @@ use Rattle.xw_session.proofs.TextMode.{last_of_three}
 
 -- ---- one after another
 
-one_and_others : (left : Option State) (front rest : List Change)
-    → ((next : State) → replayed next (front ++ rest) ≡ option_and_then (λ mid. replayed mid rest) (replayed next front))
+one_and_others : (left : Option SessionState) (front rest : List Change)
+    → ((next : SessionState) → replayed next (front ++ rest) ≡ option_and_then (λ mid. replayed mid rest) (replayed next front))
     → option_and_then (λ next. replayed next (front ++ rest)) left ≡ option_and_then (λ mid. replayed mid rest) (option_and_then (λ next. replayed next front) left)
 one_and_others None front rest others = refl
 one_and_others (Some next) front rest others = others next
 
 -- commands after other commands
-pub replayed_both : (state : State) (front rest : List Change) → replayed state (front ++ rest) ≡ option_and_then (λ mid. replayed mid rest) (replayed state front)
+pub replayed_both : (state : SessionState) (front rest : List Change) → replayed state (front ++ rest) ≡ option_and_then (λ mid. replayed mid rest) (replayed state front)
 replayed_both state [] rest = refl
 replayed_both state (command ∷ front) rest = one_and_others (state_left (changed state command)) front rest (λ next. replayed_both next front rest)
 
-pub next_done : (state next : State) (command : Change) (commands : List Change) → state_left (changed state command) ≡ Some next → replayed state (command ∷ commands) ≡ replayed next commands
+pub next_done : (state next : SessionState) (command : Change) (commands : List Change) → state_left (changed state command) ≡ Some next → replayed state (command ∷ commands) ≡ replayed next commands
 next_done state next command commands e = ap (option_and_then (λ next. replayed next commands)) e
 
 -- ---- texts
@@ -75,7 +75,7 @@ nul_parts text n none =
 plain_piece : (text : List ℕ) (before : ℕ) → has_nul text ≡ false → has_nul (piece_at text before) ≡ false
 plain_piece text before none = (nul_parts (drop (2000 * before) text) 2000 (nul_parts text (2000 * before) none).1).0
 
-put_again : (state : State) (putting : TextMode) (field : Field) (piece : List ℕ) → has_target state.engine.grid (target_of field) ≡ true → has_nul piece ≡ false
+put_again : (state : SessionState) (putting : TextMode) (field : Field) (piece : List ℕ) → has_target state.engine.grid (target_of field) ≡ true → has_nul piece ≡ false
     → state_left (changed state (Put putting field (escaped_text piece))) ≡ Some (with_piece state putting (target_of field) piece)
 put_again state putting field piece targeted plain =
     ap (λ found. state_left (put state putting field found)) (reads_back piece)
@@ -88,7 +88,7 @@ one_piece_more text k =
     sym (take-add (2000 * (k + 1)) 2000 text) ∙ ap (λ n. take n text) more
 
 -- a text in a field that grows by appended pieces
-module _ (state : State) (field : Field) (text : List ℕ) (plain : has_nul text ≡ false)
+module _ (state : SessionState) (field : Field) (text : List ℕ) (plain : has_nul text ≡ false)
     (targeted : (front : List ℕ) → has_target (with_text_at state (target_of field) front).engine.grid (target_of field) ≡ true)
     (behind : (front piece : List ℕ) → 0 < length front → with_piece (with_text_at state (target_of field) front) Behind (target_of field) piece ≡ with_text_at state (target_of field) (front ++ piece)) where
   further_again : (k n : ℕ) → 0 < length text
@@ -148,22 +148,22 @@ set_twice clues cell direction (byte ∷ bytes) [] some more = absurd (omega (ar
 set_twice clues cell Across (byte ∷ bytes) (next ∷ others) some more = ap (λ (texts : Texts). record clues { across = texts }) (inserted_twice clues.across cell (byte ∷ bytes) (next ∷ others) (same_order cell))
 set_twice clues cell Down (byte ∷ bytes) (next ∷ others) some more = ap (λ (texts : Texts). record clues { down = texts }) (inserted_twice clues.down cell (byte ∷ bytes) (next ∷ others) (same_order cell))
 
-grown : (state : State) (target : Target) (front piece : List ℕ) → 0 < length front → with_piece (with_text_at state target front) Behind target piece ≡ with_text_at state target (front ++ piece)
+grown : (state : SessionState) (target : Target) (front piece : List ℕ) → 0 < length front → with_piece (with_text_at state target front) Behind target piece ≡ with_text_at state target (front ++ piece)
 grown state target front [] some = ap (with_text_at state target) (sym (append-nil front))
 grown state (targets.Text Title) front (byte ∷ bytes) some = refl
 grown state (targets.Text Author) front (byte ∷ bytes) some = refl
 grown state (targets.Text Copyright) front (byte ∷ bytes) some = refl
 grown state (targets.Text Notes) front (byte ∷ bytes) some = refl
 grown state (targets.Clue cell direction) front (byte ∷ bytes) some =
-    let set : ClueMap → State = λ clues. record state { clues = clues } in
+    let set : ClueMap → SessionState = λ clues. record state { clues = clues } in
     ap (λ text. set (with_clue (with_clue state.clues cell direction front) cell direction (text ++ byte ∷ bytes))) (kept_at state.clues cell direction front)
     ∙ ap set (set_twice state.clues cell direction front (front ++ byte ∷ bytes) some (omega (arith, some, length-append front (byte ∷ bytes))))
 
-still_targeted : (state : State) (target : Target) (front : List ℕ) → has_target state.engine.grid target ≡ true → has_target (with_text_at state target front).engine.grid target ≡ true
+still_targeted : (state : SessionState) (target : Target) (front : List ℕ) → has_target state.engine.grid target ≡ true → has_target (with_text_at state target front).engine.grid target ≡ true
 still_targeted state (targets.Text name) front targeted = refl
 still_targeted state (targets.Clue cell direction) front targeted = targeted
 
-pub text_again : (state : State) (field : Field) (text : List ℕ) → has_target state.engine.grid (target_of field) ≡ true → has_nul text ≡ false
+pub text_again : (state : SessionState) (field : Field) (text : List ℕ) → has_target state.engine.grid (target_of field) ≡ true → has_nul text ≡ false
     → replayed state (text_commands field text) ≡ Some (with_text_at state (target_of field) text)
 text_again state field [] targeted plain = next_done state (with_text_at state (target_of field) []) (Put Instead field []) [] (put_again state Instead field [] targeted refl)
 text_again state field (byte ∷ bytes) targeted plain =
@@ -174,7 +174,7 @@ text_again state field (byte ∷ bytes) targeted plain =
 
 -- ---- size, symmetry and watch
 
-sized : (state : State) (grid : Grid) (a b c d : Bool) → a ≡ true → b ≡ true → c ≡ true → d ≡ true
+sized : (state : SessionState) (grid : Grid) (a b c d : Bool) → a ≡ true → b ≡ true → c ≡ true → d ≡ true
     → state_left (resized state (if (a && b) && (c && d) then Ok grid else Err Size)) ≡ Some (record state { engine = record { grid = grid; words = state.engine.words }; clues = no_clues; circles = [] })
 sized state grid true true true true p q r s = refl
 sized state grid true true true false p q r s = cc
@@ -182,21 +182,21 @@ sized state grid true true false d p q r s = cc
 sized state grid true false c d p q r s = cc
 sized state grid false b c d p q r s = cc
 
-only : (state next : State) (command : Change) → state_left (changed state command) ≡ Some next → replayed state (command ∷ []) ≡ Some next
+only : (state next : SessionState) (command : Change) → state_left (changed state command) ≡ Some next → replayed state (command ∷ []) ≡ Some next
 only state next command e = next_done state next command [] e
 
-pub size_again : (state made : State) → IsGrid made.engine.grid → replayed state (section_commands made sections.Size)
+pub size_again : (state made : SessionState) → IsGrid made.engine.grid → replayed state (section_commands made sections.Size)
     ≡ Some (record state { engine = record { grid = blank made.engine.grid.width made.engine.grid.height; words = state.engine.words }; clues = no_clues; circles = [] })
 size_again state made is =
     let grid = made.engine.grid in
     only state _ (changes.Size grid.width grid.height) (sized state (blank grid.width grid.height) (nat_le 1 grid.width) (nat_le grid.width 255) (nat_le 1 grid.height) (nat_le grid.height 255)
     (le-leb 1 grid.width is.wide.0) (le-leb grid.width 255 is.wide.1) (le-leb 1 grid.height is.high.0) (le-leb grid.height 255 is.high.1))
 
-turned : (state : State) (test : Bool) (grid : Grid) → test ≡ true → state_left (moved state (with_grid state.engine (by_fault (if not test then Err NotSquare else Ok grid)))) ≡ Some (record state { engine = record state.engine { grid = grid } })
+turned : (state : SessionState) (test : Bool) (grid : Grid) → test ≡ true → state_left (moved state (with_grid state.engine (by_fault (if not test then Err NotSquare else Ok grid)))) ≡ Some (record state { engine = record state.engine { grid = grid } })
 turned state true grid e = refl
 turned state false grid e = cc
 
-pub symmetry_again : (state : State) (kind : Symmetry) → (kind ≡ kinds.Quarter → state.engine.grid.width ≡ state.engine.grid.height)
+pub symmetry_again : (state : SessionState) (kind : Symmetry) → (kind ≡ kinds.Quarter → state.engine.grid.width ≡ state.engine.grid.height)
     → replayed state (changes.Symmetry kind ∷ []) ≡ Some (record state { engine = record state.engine { grid = record state.engine.grid { symmetry = kind } } })
 symmetry_again state kinds.None square = refl
 symmetry_again state kinds.Half square = refl

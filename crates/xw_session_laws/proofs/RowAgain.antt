@@ -13,7 +13,7 @@ use Rattle.xw_words.specs.Dictionary.{Entry, AreWords, row, with_row, no_entry, 
 use Rattle.xw_text.proofs.Position.{position_is_some, position_is_none}
 use Rattle.xw_commands.specs.declared.change.Change.{Change}
 use Rattle.xw_commands.specs.declared.change.Change.TheVariants.{Add, Strike}
-use Rattle.xw_session.specs.State.{State}
+use Rattle.xw_session.specs.State.{SessionState}
 use Rattle.xw_session.specs.Reply.{changed as reply_of_change}
 use Rattle.xw_answers.specs.Record.{named_grade, add_command, regrade_commands, strike_commands, row_commands}
 use Rattle.xw_session_laws.specs.Replay.{state_left, replayed, with_words, fresh, IsSince, ComeFirst}
@@ -69,9 +69,9 @@ mixed_at P xs ys j k d most here there =
 
 -- ---- the words of one length
 
-module _ (state : State) (count : ℕ) (entries : List Entry) (are : AreWords count entries) (several : 2 ≤ count) (short : count ≤ 255)
+module _ (state : SessionState) (count : ℕ) (entries : List Entry) (are : AreWords count entries) (several : 2 ≤ count) (short : count ≤ 255)
     (long : length state.engine.words.rows ≡ 256) (none_out : state.engine.words.least ≡ 0) where
-  abbrev with_these : List Entry → State
+  abbrev with_these : List Entry → SessionState
   with_these es = with_words state (with_row state.engine.words count es)
 
   row_is : (es : List Entry) → row (with_these es).engine.words count ≡ es

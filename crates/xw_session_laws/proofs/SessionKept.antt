@@ -20,8 +20,8 @@ use Rattle.xw_grid.specs.Edit.{blank, new_grid, with_entry, is_occupied, with_or
 use Rattle.xw_grid.specs.Clue.{ClueMap, no_clues, with_clue, with_circle, is_circled}
 use Rattle.xw_grid.specs.Light.{lights_of, no_light, index_named, cells_of}
 use Rattle.xw_grid.proofs.OrderLemmas.{lights_are_made, made_inside}
-use Rattle.xw_feas.specs.declared.edit.Refusal.{Refusal as EditRefusal}
-use Rattle.xw_feas.specs.State.{State as EngineState, Action, letter_set, cell_cleared, word_placed, list_written, block_toggled, bar_toggled, symmetry_chosen, word_added, word_struck, least_chosen, after, with_grid as with_edited, with_words as with_dictionary, by_fault, with_letters, spelled_in, placed_in, then_write, write_list}
+use Rattle.xw_feas.specs.declared.edit.Refusal.{Refusal}
+use Rattle.xw_feas.specs.State.{State, Action, letter_set, cell_cleared, word_placed, list_written, block_toggled, bar_toggled, symmetry_chosen, word_added, word_struck, least_chosen, after, with_grid as with_edited, with_words as with_dictionary, by_fault, with_letters, spelled_in, placed_in, then_write, write_list}
 use Rattle.xw_feas.specs.WellFormed.{IsWellFormed}
 use Rattle.xw_fill.specs.Position.{position_of, filled_in}
 use Rattle.xw_fill.specs.Search.{found, due, end}
@@ -46,20 +46,20 @@ use Rattle.xw_commands.specs.declared.command.TextField.{TextField}
 use Rattle.xw_commands.specs.declared.command.TextField.TheVariants.{Title, Author, Copyright, Notes}
 use Rattle.xw_commands.specs.declared.command.SyntaxFault.{SyntaxFault}
 use Rattle.xw_lines.specs.declared.outcome.Step.{Step}
-use Rattle.xw_answers.specs.declared.refusal.Refusal.{Refusal}
-use Rattle.xw_answers.specs.declared.refusal.Refusal.TheVariants as refusals
+use Rattle.xw_answers.specs.declared.refusal.CommandRefusal.{CommandRefusal}
+use Rattle.xw_answers.specs.declared.refusal.CommandRefusal.TheVariants as refusals
+use Rattle.xw_feas.specs.declared.edit.Refusal.TheVariants as edits
 use Rattle.xw_session.specs.declared.session.putting.Target.{Target}
 use Rattle.xw_session.specs.declared.session.putting.Target.TheVariants as targets
-use Rattle.xw_answers.specs.Refusal.{refusal_of}
-use Rattle.xw_session.specs.Autofill.{names_of}
+use Rattle.xw_session.specs.NamedSearch.{names_of}
 use Rattle.xw_session.specs.Best.{best_lines}
 use Rattle.xw_session.specs.Erase.{erased_cells, emptied}
 use Rattle.xw_session.specs.Answer.{IsDue, Replies, state_after, AnswersParsed}
 use Rattle.xw_answers.specs.Escape.{text_spelled, has_nul}
-use Rattle.xw_session.specs.State.{State, with_text_in, cell_of}
+use Rattle.xw_session.specs.State.{SessionState, with_text_in, cell_of}
 use Rattle.xw_session.specs.Put.{target_of, has_target, text_of_field, text_at, with_text_at, with_piece}
 use Rattle.xw_answers.specs.Text.{word_line}
-use Rattle.xw_session.specs.Reply.{asked, changed, Reply, edited, shown, moved, watch_lines, with_letter, resized, with_clue_of, erased, written, circle_toggled, put, light_named, name_of_light, filling_name}
+use Rattle.xw_session.specs.Reply.{asked, changed, Reply, edited, shown, moved, watch_lines, with_letter, resized, with_clue_of, erased, written, circle_toggled, put, light_named, name_of_light, filling_line}
 use Rattle.xw_session_laws.specs.Replay.{BarsAreOnEdges, AreFrom, AreTextsFrom, clues_of, BeganWith, SessionsBegin}
 use Rattle.xw_session_laws.proofs.InOrder.{plain_at}
 use Rattle.xw_session_laws.proofs.KeptInOrder.{circle_kept, clue_kept, cells_there, texts_there}
@@ -75,7 +75,7 @@ pub record GridKept (grid next : Grid) : Type 0 where
   pub bars : BarsAreOnEdges next
 
 -- such a grid, and a dictionary that started with the same words
-pub record PositionKept (begun : Dictionary) (engine next : EngineState) : Type 0 where
+pub record PositionKept (begun : Dictionary) (engine next : State) : Type 0 where
   pub grid : GridKept engine.grid next.grid
   pub first : AllComeFirst begun next.words
 
@@ -111,7 +111,7 @@ list_framed (written ∷ list) grid next e = by_tests (is_inside grid written.0)
 ok_words : (one other : Dictionary) → ◌≡◌ {A = Result Dictionary WordFault} (Ok one) (Ok other) → one ≡ other
 ok_words one other e = cc
 
-module _ (begun : Dictionary) (engine next : EngineState) (is : IsGrid engine.grid) (only : BarsAreOnEdges engine.grid) (first : AllComeFirst begun engine.words) where
+module _ (begun : Dictionary) (engine next : State) (is : IsGrid engine.grid) (only : BarsAreOnEdges engine.grid) (first : AllComeFirst begun engine.words) where
   -- an edit of the grid
   to_grid : (grid : Grid) → GridKept engine.grid grid → with_edited engine (Ok grid) ≡ Ok next → PositionKept begun engine next
   to_grid grid kept e =
@@ -138,7 +138,7 @@ module _ (begun : Dictionary) (engine next : EngineState) (is : IsGrid engine.gr
   by_one false grid kept e = to_grid grid kept e
   by_one true grid kept e = cc
 
-  by_length : (a : Bool) (one : EditRefusal) (grid : Grid) → GridKept engine.grid grid → with_edited engine (if a then Ok grid else Err one) ≡ Ok next → PositionKept begun engine next
+  by_length : (a : Bool) (one : Refusal) (grid : Grid) → GridKept engine.grid grid → with_edited engine (if a then Ok grid else Err one) ≡ Ok next → PositionKept begun engine next
   by_length true one grid kept e = to_grid grid kept e
   by_length false one grid kept e = cc
 
@@ -181,7 +181,7 @@ light_starts grid (Some index) light e =
 
 -- ---- a session after a reply
 
-pub ok_state : (one other : Reply) → ◌≡◌ {A = Result Reply Refusal} (Ok one) (Ok other) → one.state ≡ other.state
+pub ok_state : (one other : Reply) → ◌≡◌ {A = Result Reply CommandRefusal} (Ok one) (Ok other) → one.state ≡ other.state
 ok_state one other e = let same : one ≡ other = cc in ap (λ (reply : Reply). reply.state) same
 
 text_kept : (texts : TextsShown) (field name : TextField) (text : List ℕ) → has_nul text ≡ false → ((name : TextField) → has_nul (text_of_field texts name) ≡ false) → has_nul (text_of_field (with_text_in texts field text) name) ≡ false
@@ -210,7 +210,7 @@ size_bars : (width height : ℕ) (grid : Grid) (b : Bool) → ◌≡◌ {A = Res
 size_bars width height grid true e = let same : blank width height ≡ grid = cc in subst BarsAreOnEdges same (blank_edges width height)
 size_bars width height grid false e = cc
 
-module _ (words : Dictionary) (state : State) (is : BeganWith words state) where
+module _ (words : Dictionary) (state : SessionState) (is : BeganWith words state) where
   wide : 0 < state.engine.grid.width
   wide = omega (arith, is.grid.wide)
 
@@ -228,7 +228,7 @@ module _ (words : Dictionary) (state : State) (is : BeganWith words state) where
   with_watch : (is_on : Bool) → BeganWith words (record state { is_watched = is_on })
   with_watch is_on = record { grid = is.grid; bars = is.bars; known = is.known; least = is.least; dictionary = is.dictionary; first = is.first; begun = is.begun; texts = is.texts; clues = is.clues; circles = is.circles }
 
-  with_position : (next : EngineState) → PositionKept words state.engine next → IsWellFormed next → BeganWith words (record state { engine = next })
+  with_position : (next : State) → PositionKept words state.engine next → IsWellFormed next → BeganWith words (record state { engine = next })
   with_position next kept formed = record {
     grid = formed.grid;
     bars = kept.grid.bars;
@@ -281,46 +281,46 @@ module _ (words : Dictionary) (state : State) (is : BeganWith words state) where
     abbrev Kept : Type 0
     Kept = BeganWith words reply.state
 
-    by_test : (b : Bool) (x y : Result Reply Refusal) → (b ≡ true → x ≡ Ok reply → Kept) → (b ≡ false → y ≡ Ok reply → Kept) → (if b then x else y) ≡ Ok reply → Kept
+    by_test : (b : Bool) (x y : Result Reply CommandRefusal) → (b ≡ true → x ≡ Ok reply → Kept) → (b ≡ false → y ≡ Ok reply → Kept) → (if b then x else y) ≡ Ok reply → Kept
     by_test true x y here there e = here refl e
     by_test false x y here there e = there refl e
 
-    not_refused : (refusal : Refusal) → ◌≡◌ {A = Result Reply Refusal} (Err refusal) (Ok reply) → Kept
+    not_refused : (refusal : CommandRefusal) → ◌≡◌ {A = Result Reply CommandRefusal} (Err refusal) (Ok reply) → Kept
     not_refused refusal e = cc
 
-    left_at : (one : Reply) → (IsWellFormed one.state.engine → BeganWith words one.state) → ◌≡◌ {A = Result Reply Refusal} (Ok one) (Ok reply) → Kept
+    left_at : (one : Reply) → (IsWellFormed one.state.engine → BeganWith words one.state) → ◌≡◌ {A = Result Reply CommandRefusal} (Ok one) (Ok reply) → Kept
     left_at one kept e =
         let same = ok_state one reply e in
-        subst (BeganWith words) same (kept (subst (λ (s : State). IsWellFormed s.engine) (sym same) formed))
+        subst (BeganWith words) same (kept (subst (λ (s : SessionState). IsWellFormed s.engine) (sym same) formed))
 
     when_shown : (lines : List ℕ) → shown state lines ≡ Ok reply → Kept
     when_shown lines e = left_at (record { lines = lines; state = state }) (λ _. is) e
 
-    when_edited : (next : State) → BeganWith words next → edited next ≡ Ok reply → Kept
+    when_edited : (next : SessionState) → BeganWith words next → edited next ≡ Ok reply → Kept
     when_edited next kept e = left_at (record { lines = []; state = next }) (λ _. kept) e
 
-    when_moved : (result : Result EngineState EditRefusal) → ((next : EngineState) → result ≡ Ok next → PositionKept words state.engine next) → moved state result ≡ Ok reply → Kept
+    when_moved : (result : Result State Refusal) → ((next : State) → result ≡ Ok next → PositionKept words state.engine next) → moved state result ≡ Ok reply → Kept
     when_moved (Ok next) kept e = left_at (record { lines = watch_lines state next; state = record state { engine = next } }) (λ good. with_position next (kept next refl) good) e
-    when_moved (Err refusal) kept e = not_refused (refusal_of refusal) e
+    when_moved (Err refusal) kept e = not_refused (refusals.Engine refusal) e
 
     by_edit : (action : Action) → moved state (after state.engine action) ≡ Ok reply → Kept
     by_edit action e = when_moved (after state.engine action) (λ next done. edit_kept words state.engine next is.grid is.bars is.first action done) e
 
     by_letter : (at : CellArg) (letter : Option ℕ) → with_letter state at letter ≡ Ok reply → Kept
-    by_letter at None e = not_refused (refusals.Word (faults.BadLetter 1)) e
+    by_letter at None e = not_refused (refusals.Engine (edits.Word (faults.BadLetter 1))) e
     by_letter at (Some letter) e = by_edit (letter_set (cell_of at) letter) e
 
     by_erase : (light_found : Option Light) → erased state light_found ≡ Ok reply → Kept
-    by_erase None e = not_refused refusals.NoLight e
+    by_erase None e = not_refused (refusals.Engine edits.NoLight) e
     by_erase (Some light) e = by_edit (list_written (emptied (erased_cells state.engine light))) e
 
     by_size : (result : Result Grid GridFault) → ((grid : Grid) → result ≡ Ok grid → BarsAreOnEdges grid) → resized state result ≡ Ok reply → Kept
     by_size (Ok grid) only e =
         left_at (record { lines = []; state = record state { engine = record { grid = grid; words = state.engine.words }; clues = no_clues; circles = [] } }) (λ good. with_size grid (only grid refl) good) e
-    by_size (Err fault) only e = not_refused (refusals.Grid fault) e
+    by_size (Err fault) only e = not_refused (refusals.Engine (edits.Grid fault)) e
 
     by_light : (light_found : Option Light) (text : List ℕ) → ((light : Light) → light_found ≡ Some light → is_inside state.engine.grid light.start ≡ true) → with_clue_of state light_found text ≡ Ok reply → Kept
-    by_light None text starts e = not_refused refusals.NoLight e
+    by_light None text starts e = not_refused (refusals.Engine edits.NoLight) e
     by_light (Some light) text starts e =
         by_test (has_nul text) (Err refusals.NulByte) (edited (record state { clues = with_clue state.clues light.start light.name.direction text })) (λ _ e. not_refused refusals.NulByte e)
         (λ plain e. when_edited (record state { clues = with_clue state.clues light.start light.name.direction text }) (with_clues (with_clue state.clues light.start light.name.direction text) (clue_kept state.engine.grid wide state.clues light.start light.name.direction text (starts light refl) plain is.clues)) e) e
@@ -336,9 +336,9 @@ module _ (words : Dictionary) (state : State) (is : BeganWith words state) where
 
     by_circle : (cell : Cell) → circle_toggled state cell ≡ Ok reply → Kept
     by_circle cell e =
-        let next : State = record state { circles = with_circle state.circles cell (not (is_circled state.circles cell)) } in
-        by_test (not (is_inside state.engine.grid cell)) (Err (refusals.Grid grids.OutOfGrid)) (if not (is_open state.engine.grid cell) then Err (refusals.Grid grids.OnBlock) else edited next) (λ _ e. not_refused (refusals.Grid grids.OutOfGrid) e)
-        (λ inside e. by_test (not (is_open state.engine.grid cell)) (Err (refusals.Grid grids.OnBlock)) (edited next) (λ _ e. not_refused (refusals.Grid grids.OnBlock) e)
+        let next : SessionState = record state { circles = with_circle state.circles cell (not (is_circled state.circles cell)) } in
+        by_test (not (is_inside state.engine.grid cell)) (Err (refusals.Engine (edits.Grid grids.OutOfGrid))) (if not (is_open state.engine.grid cell) then Err (refusals.Engine (edits.Grid grids.OnBlock)) else edited next) (λ _ e. not_refused (refusals.Engine (edits.Grid grids.OutOfGrid)) e)
+        (λ inside e. by_test (not (is_open state.engine.grid cell)) (Err (refusals.Engine (edits.Grid grids.OnBlock))) (edited next) (λ _ e. not_refused (refusals.Engine (edits.Grid grids.OnBlock)) e)
         (λ _ e. when_edited next (with_circles (with_circle state.circles cell (not (is_circled state.circles cell))) (circle_kept state.engine.grid wide cell state.circles (not (is_circled state.circles cell)) (not_not (is_inside state.engine.grid cell) inside) is.circles)) e) e) e
 
     by_fill : (past there : Bool) (limit filled none : List ℕ) (entries : List (Option ℕ))
@@ -350,32 +350,32 @@ module _ (words : Dictionary) (state : State) (is : BeganWith words state) where
     by_fill false false limit filled none entries e = when_shown none e
 
     -- the reply has these lines and a state with this engine
-    abbrev Tells : List ℕ → EngineState → Type 0
+    abbrev Tells : List ℕ → State → Type 0
     Tells lines engine = reply ≡ record { lines = lines; state = record state { engine = engine } }
 
-    by_told : (lines : List ℕ) (engine next : EngineState) → Tells lines engine → engine ≡ next
-        → ◌≡◌ {A = Result Reply Refusal} (Ok (record { lines = lines; state = record state { engine = next } })) (Ok reply)
-    by_told lines engine next is same = ap Ok (ap (λ (p : EngineState). record { lines = lines; state = record state { engine = p } }) (sym same) ∙ sym is)
+    by_told : (lines : List ℕ) (engine next : State) → Tells lines engine → engine ≡ next
+        → ◌≡◌ {A = Result Reply CommandRefusal} (Ok (record { lines = lines; state = record state { engine = next } })) (Ok reply)
+    by_told lines engine next is same = ap Ok (ap (λ (p : State). record { lines = lines; state = record state { engine = p } }) (sym same) ∙ sym is)
 
-    by_entered : (lines : List ℕ) (engine : EngineState) (entries : List (Option ℕ)) → Tells lines engine → engine ≡ filled_in state.engine entries → Kept
+    by_entered : (lines : List ℕ) (engine : State) (entries : List (Option ℕ)) → Tells lines engine → engine ≡ filled_in state.engine entries → Kept
     by_entered lines engine entries told same =
         left_at (record { lines = lines; state = record state { engine = filled_in state.engine entries } })
         (λ good. with_position (filled_in state.engine entries) (record { grid = framed state.engine.grid _ (refl, refl, refl, refl) is.bars; first = is.first }) good) (by_told lines engine (filled_in state.engine entries) told same)
 
-    by_none : (lines : List ℕ) (engine : EngineState) → Tells lines engine → engine ≡ state.engine → Kept
+    by_none : (lines : List ℕ) (engine : State) → Tells lines engine → engine ≡ state.engine → Kept
     by_none lines engine told same = when_shown lines (by_told lines engine state.engine told same)
 
-    by_end : (named : ℕ → Bool) (filling : Filling) (engine : EngineState) → Tells (word_line (filling_name filling)) engine → IsAutofilled named state.engine engine filling → Kept
+    by_end : (named : ℕ → Bool) (filling : Filling) (engine : State) → Tells (filling_line filling) engine → IsAutofilled named state.engine engine filling → Kept
     by_end named fillings.Filled engine told (entries, fill, same) = by_entered _ engine entries told same
     by_end named fillings.NoFill engine told (none, same) = by_none _ engine told same
     by_end named fillings.Limit engine told same = by_none _ engine told same
 
-    by_best : (named : ℕ → Bool) (best : Best) (engine : EngineState) → Tells (best_lines best) engine → IsBest named state.engine engine best → Kept
+    by_best : (named : ℕ → Bool) (best : Best) (engine : State) → Tells (best_lines best) engine → IsBest named state.engine engine best → Kept
     by_best named (bests.Filled least bound) engine told (filled, proved) = by_entered _ engine filled.entries told filled.holds
     by_best named bests.NoFill engine told (none, same) = by_none _ engine told same
     by_best named (bests.Limit bound) engine told (above, proved, same) = by_none _ engine told same
 
-    by_answer : (answer : Result (List ℕ) Refusal) → ◌≡◌ {A = Result Reply Refusal} (Ok reply) (asked state answer) → Kept
+    by_answer : (answer : Result (List ℕ) CommandRefusal) → ◌≡◌ {A = Result Reply CommandRefusal} (Ok reply) (asked state answer) → Kept
     by_answer (Ok lines) e = when_shown lines (sym e)
     by_answer (Err refusal) e = not_refused refusal (sym e)
 
@@ -383,8 +383,8 @@ module _ (words : Dictionary) (state : State) (is : BeganWith words state) where
     by_put putting field None e = not_refused refusals.Escape e
     by_put putting field (Some text) e =
         let target = target_of field in
-        let next : Result Reply Refusal = edited (with_piece state putting target text) in
-        by_test (not (has_target state.engine.grid target)) (Err (refusals.Grid grids.OutOfGrid)) (if has_nul text then Err refusals.NulByte else next) (λ _ e. not_refused (refusals.Grid grids.OutOfGrid) e)
+        let next : Result Reply CommandRefusal = edited (with_piece state putting target text) in
+        by_test (not (has_target state.engine.grid target)) (Err (refusals.Engine (edits.Grid grids.OutOfGrid))) (if has_nul text then Err refusals.NulByte else next) (λ _ e. not_refused (refusals.Engine (edits.Grid grids.OutOfGrid)) e)
         (λ targeted e. by_test (has_nul text) (Err refusals.NulByte) next (λ _ e. not_refused refusals.NulByte e)
         (λ plain e. when_edited (with_piece state putting target text) (piece_kept putting target text (not_not (has_target state.engine.grid target) targeted) plain) e) e) e
 
@@ -409,10 +409,10 @@ module _ (words : Dictionary) (state : State) (is : BeganWith words state) where
 
     search_kept : (search : Search) → IsDue state (commands.Search search) (Ok reply) → Kept
     search_kept (searches.Fill limit) e =
-        by_fill (nat_lt limit (due (position_of state.engine))) (found (position_of state.engine)) (word_line (filling_name fillings.Limit)) (word_line (filling_name fillings.Filled)) (word_line (filling_name fillings.NoFill))
+        by_fill (nat_lt limit (due (position_of state.engine))) (found (position_of state.engine)) (filling_line fillings.Limit) (filling_line fillings.Filled) (filling_line fillings.NoFill)
         (end (position_of state.engine)).board.entries e
-    search_kept (searches.Autofill limit seed lights) e = by_end (is_named state.engine (names_of lights)) e.filling e.engine e.is e.done
-    search_kept (searches.Best limit seed lights) e = by_best (is_named state.engine (names_of lights)) e.best e.engine e.is e.done
+    search_kept (searches.Autofill limit seed lights) e = by_end (is_named state.engine (names_of lights)) e.end e.engine e.is e.done
+    search_kept (searches.Best limit seed lights) e = by_best (is_named state.engine (names_of lights)) e.end e.engine e.is e.done
 
     pub reply_kept : (command : Command) → IsDue state command (Ok reply) → Kept
     reply_kept (commands.Ask query) (answer, is, same) = by_answer answer same
@@ -421,10 +421,10 @@ module _ (words : Dictionary) (state : State) (is : BeganWith words state) where
 
   -- ---- answers
 
-  module _ (next : State) (formed : IsWellFormed next.engine) where
-    after_reply : (command : Command) (reply : Result Reply Refusal) → Replies state command reply → next ≡ state_after state reply → BeganWith words next
+  module _ (next : SessionState) (formed : IsWellFormed next.engine) where
+    after_reply : (command : Command) (reply : Result Reply CommandRefusal) → Replies state command reply → next ≡ state_after state reply → BeganWith words next
     after_reply command (Ok reply) (due, owed, fits) same =
-        subst (BeganWith words) (sym same) (reply_kept reply (subst (λ (s : State). IsWellFormed s.engine) same formed) command (subst (IsDue state command) fits owed))
+        subst (BeganWith words) (sym same) (reply_kept reply (subst (λ (s : SessionState). IsWellFormed s.engine) same formed) command (subst (IsDue state command) fits owed))
     after_reply command (Err refusal) fits same = subst (BeganWith words) (sym same) is
 
     pub answer_kept : (parsed : Result (Option Command) SyntaxFault) (outcome : Step) (answer : List ℕ) → AnswersParsed state parsed outcome answer next → BeganWith words next

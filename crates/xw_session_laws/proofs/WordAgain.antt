@@ -18,14 +18,14 @@ use Rattle.xw_text.proofs.Position.{position_is_none}
 use Rattle.xw_feas.specs.State.{answered, with_words as with_dictionary}
 use Rattle.xw_commands.specs.declared.change.Change.{Change}
 use Rattle.xw_commands.specs.declared.change.Change.TheVariants.{Add, Strike}
-use Rattle.xw_session.specs.State.{State}
+use Rattle.xw_session.specs.State.{SessionState}
 use Rattle.xw_session.specs.Reply.{changed, moved}
 use Rattle.xw_session_laws.specs.Replay.{state_left, replayed, with_words}
 use Rattle.xw_session_laws.proofs.Replaying.{replayed_both}
 
 -- ---- one element after another
 
-items_from : {X : Type 0} (made : X → List Change) (d : X) (xs : List X) (after : ℕ → State)
+items_from : {X : Type 0} (made : X → List Change) (d : X) (xs : List X) (after : ℕ → SessionState)
     → ((i : ℕ) → i < length xs → replayed (after i) (made (get_or xs i d)) ≡ Some (after (suc i)))
     → replayed (after 0) (flat_map made xs) ≡ Some (after (length xs))
 items_from made d [] after step = refl
@@ -36,7 +36,7 @@ items_from made d (x ∷ xs) after step =
     ∙ items_from made d xs (λ i. after (suc i)) (λ i within. step (suc i) (omega (arith, within)))
 
 -- if the commands of each element lead from one state to the next, all of them lead from the first to the last
-pub each_item_again : {X : Type 0} (made : X → List Change) (d : X) (xs : List X) (after : ℕ → State)
+pub each_item_again : {X : Type 0} (made : X → List Change) (d : X) (xs : List X) (after : ℕ → SessionState)
     → ((i : ℕ) → i < length xs → replayed (after i) (made (get_or xs i d)) ≡ Some (after (i + 1)))
     → replayed (after 0) (flat_map made xs) ≡ Some (after (length xs))
 each_item_again made d xs after step =
@@ -77,17 +77,17 @@ unlike a b other = elim (cases_Bool (bytes_eq a b)) [ inl same ↦ absurd (other
 
 -- ---- adding a word, and striking a word
 
-module _ (state : State) (word : List ℕ) (entries : List Entry) (fine : IsItself word) (at : row state.engine.words (length word) ≡ entries) where
+module _ (state : SessionState) (word : List ℕ) (entries : List Entry) (fine : IsItself word) (at : row state.engine.words (length word) ≡ entries) where
   abbrev words : Dictionary
   words = state.engine.words
 
   -- the state with other words of this length
-  abbrev with_these : List Entry → State
+  abbrev with_these : List Entry → SessionState
   with_these es = with_words state (with_row words (length word) es)
 
   added_so : (grade : Option ℕ) (added : Added) → added_at entries (index_in entries word) ≡ Ok added → state_left (changed state (Add word grade)) ≡ Some (with_these (with_added words.least entries word grade added))
   added_so grade added is =
-      let left : Result Added WordFault → Option State = λ answer. state_left (moved state (with_dictionary state.engine (answered (after_add words (map folded word) grade) answer))) in
+      let left : Result Added WordFault → Option SessionState = λ answer. state_left (moved state (with_dictionary state.engine (answered (after_add words (map folded word) grade) answer))) in
       let answer : add_answer words word ≡ Ok added = ap (answer_on add_to words) fine.0 ∙ ap (λ es. add_to es word) at ∙ is in
       ap left answer
       ∙ ap (λ w. Some (with_words state (with_row words (length w) (with_added words.least (row words (length w)) w grade added)))) fine.1
@@ -106,7 +106,7 @@ module _ (state : State) (word : List ℕ) (entries : List Entry) (fine : IsItse
 
   pub struck_again : (index : ℕ) → index_in entries word ≡ Some index → (entry_at entries index).struck ≡ false → state_left (changed state (Strike word)) ≡ Some (with_these (with_struck entries index))
   struck_again index known off =
-      let left : Result ℕ WordFault → Option State = λ answer. state_left (moved state (with_dictionary state.engine (answered (after_strike words (map folded word)) answer))) in
+      let left : Result ℕ WordFault → Option SessionState = λ answer. state_left (moved state (with_dictionary state.engine (answered (after_strike words (map folded word)) answer))) in
       let answer : strike_answer words word ≡ Ok index =
       ap (answer_on strike_from words) fine.0 ∙ ap (λ es. strike_from es word) at ∙ ap (struck_at entries) known ∙ ap (λ b. if b then Err Unknown else Ok index) off in
       ap left answer

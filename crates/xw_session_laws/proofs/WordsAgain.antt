@@ -10,7 +10,7 @@ use Rattle.std.proofs.lemmas.List.{length-map, get_or-map, get_or_default, same_
 use Rattle.std.proofs.lemmas.List.FromFn.{get_or-range_with_len, length-range_with_len, get_or-map-range_with_len}
 use Rattle.xw_words.specs.Dictionary.{Dictionary, Entry, IsDictionary, AreLeft, row, capped, limited, all_limited, with_least}
 use Rattle.xw_commands.specs.declared.change.Change.TheVariants.{Least}
-use Rattle.xw_session.specs.State.{State}
+use Rattle.xw_session.specs.State.{SessionState}
 use Rattle.xw_answers.specs.Record.{known_counts, row_commands, length_commands, least_commands, word_commands}
 use Rattle.xw_session_laws.specs.Replay.{replayed, with_words, ComeFirst}
 use Rattle.xw_session_laws.proofs.Replaying.{replayed_both, next_done}
@@ -77,13 +77,13 @@ module _ (words : Dictionary) (is : IsDictionary words) where
       ∙ limited_again words.least (get_or words.rows k []) (is.left k) ∙ get_or_default words.rows k [] d here) in
       ap (λ n. record { rows = map (all_limited n) rows; least = n }) number ∙ ap (λ rows. record { rows = rows; least = words.least }) same
 
-  maybe_least : (state : State) (b : Bool) → (words.least == 0) ≡ b → replayed (with_words state (all_in words)) (if b then [] else Least words.least ∷ []) ≡ Some (with_words state words)
+  maybe_least : (state : SessionState) (b : Bool) → (words.least == 0) ≡ b → replayed (with_words state (all_in words)) (if b then [] else Least words.least ∷ []) ≡ Some (with_words state words)
   maybe_least state true none = let least : words.least ≡ 0 = grind (arith, nat_tests, none) in ap (λ ws. Some (with_words state ws)) (none_out least)
   maybe_least state false some = next_done (with_words state (all_in words)) (with_words state words) (Least words.least) [] (ap (λ ws. Some (with_words state ws)) least_again)
 
 -- ---- the whole dictionary
 
-module _ (state : State) (begun words : Dictionary) (is : IsDictionary words) (was : length begun.rows ≡ 256) (least : begun.least ≡ 0) (now : state.engine.words ≡ begun)
+module _ (state : SessionState) (begun words : Dictionary) (is : IsDictionary words) (was : length begun.rows ≡ 256) (least : begun.least ≡ 0) (now : state.engine.words ≡ begun)
     (first : (count : ℕ) → ComeFirst (row begun count) (row words count)) where
   abbrev settled : List (List Entry)
   settled = map (all_limited 0) words.rows
@@ -94,7 +94,7 @@ module _ (state : State) (begun words : Dictionary) (is : IsDictionary words) (w
   as_many : length settled ≡ length begun.rows
   as_many = length-settled ∙ sym was
 
-  abbrev after : ℕ → State
+  abbrev after : ℕ → SessionState
   after k = with_words state (record { rows = mixed settled begun.rows k; least = begun.least })
 
   module _ (k : ℕ) (below : k < 256) where

@@ -11,7 +11,7 @@ use Rattle.xw_lines.specs.declared.outcome.RunEnd.TheVariants.{Done, ReadFailed,
 use Rattle.xw_lines.specs.Run.{StopsIn, IsRun}
 use Rattle.xw_commands.specs.Command.{command_of}
 use Rattle.xw_session.specs.Answer.{Answers}
-use Rattle.xw_session.specs.State.{State}
+use Rattle.xw_session.specs.State.{SessionState}
 use Rattle.xw_journal.specs.File.{first_line, is_part, kept_lines}
 use Rattle.xw_journal.specs.Group.{complete}
 use Rattle.xw_journal.specs.Journal.{journal_text, JournaledState, AnswersJournaled, StopsAtJournal}
@@ -19,23 +19,23 @@ use Rattle.xw_session_laws.specs.Replay.{replayed_lines, WantsMemory}
 
 -- Starting in `start`, a session may answer these lines, each accepted, refused or silent, with these bytes in its journal, and ends in
 -- `end`.
-abbrev pub IsJournaled : State → List (List ℕ) → List ℕ → State → Type 0
+abbrev pub IsJournaled : SessionState → List (List ℕ) → List ℕ → SessionState → Type 0
 IsJournaled start [] bytes end = (bytes ≡ []) × (end ≡ start)
 IsJournaled start (line ∷ lines) bytes end =
-    (outcome : Step) × (answer : List ℕ) × (mid : State) × (others : List ℕ)
+    (outcome : Step) × (answer : List ℕ) × (mid : SessionState) × (others : List ℕ)
     × Answers start line outcome answer mid × IsJournaled mid lines others end
     × (bytes ≡ journal_text start.engine.grid line outcome mid.engine.grid ++ others)
 
 -- the lines of a journal, executed in the state where the session started, are all accepted and leave the state where it ended
 abbrev pub JournalsMakeSessionsAgain : Type 0
 JournalsMakeSessionsAgain =
-    (start end : State) (lines : List (List ℕ)) (bytes : List ℕ) → IsGrid start.engine.grid → AllHaveNoLf lines → IsJournaled start lines bytes end
+    (start end : SessionState) (lines : List (List ℕ)) (bytes : List ℕ) → IsGrid start.engine.grid → AllHaveNoLf lines → IsJournaled start lines bytes end
     → replayed_lines start (lines_of bytes) ≡ Some end
 
 -- every line of a journal ends with an LF
 abbrev pub JournalsHaveWholeLines : Type 0
 JournalsHaveWholeLines =
-    (start end : State) (lines : List (List ℕ)) (bytes : List ℕ) → IsGrid start.engine.grid → AllHaveNoLf lines → IsJournaled start lines bytes end
+    (start end : SessionState) (lines : List (List ℕ)) (bytes : List ℕ) → IsGrid start.engine.grid → AllHaveNoLf lines → IsJournaled start lines bytes end
     → last_piece bytes ≡ []
 
 -- ---- the same laws for the answers of a session
@@ -43,32 +43,32 @@ JournalsHaveWholeLines =
 -- a session that starts in the same state and accepts every line of a journal ends in the same state
 abbrev pub AnsweredJournalsMakeSessionsAgain : Type 0
 AnsweredJournalsMakeSessionsAgain =
-    (start end last : State) (lines : List (List ℕ)) (bytes out : List ℕ) → IsGrid start.engine.grid → AllHaveNoLf lines → IsJournaled start lines bytes end
+    (start end last : SessionState) (lines : List (List ℕ)) (bytes out : List ℕ) → IsGrid start.engine.grid → AllHaveNoLf lines → IsJournaled start lines bytes end
     → Spoken Answers start (lines_of bytes) out 0 last → last ≡ end
 
 -- the first line of a journal that a session refuses, if any, is refused for a failed allocation
 abbrev pub JournalsAreRefusedForMemoryOnly : Type 0
 JournalsAreRefusedForMemoryOnly =
-    (start end mid last : State) (lines front rest : List (List ℕ)) (line bytes out answer : List ℕ) → IsGrid start.engine.grid → AllHaveNoLf lines → IsJournaled start lines bytes end
+    (start end mid last : SessionState) (lines front rest : List (List ℕ)) (line bytes out answer : List ℕ) → IsGrid start.engine.grid → AllHaveNoLf lines → IsJournaled start lines bytes end
     → lines_of bytes ≡ front ++ line ∷ rest → Spoken Answers start front out 0 mid → Answers mid line Refused answer last
     → WantsMemory mid (command_of line) answer
 
 -- ---- a part of a journal
 
 -- A journal of `lines` in two parts: that of the lines `done`, and that of the others.
-pub record IsParted (start : State) (lines : List (List ℕ)) (journal : List ℕ) (end : State) : Type 0 where
+pub record IsParted (start : SessionState) (lines : List (List ℕ)) (journal : List ℕ) (end : SessionState) : Type 0 where
   pub done : List (List ℕ)
   pub others : List (List ℕ)
   pub of_lines : lines ≡ done ++ others
   pub bytes : List ℕ
   pub rest : List ℕ
   pub of_journal : journal ≡ bytes ++ rest
-  pub mid : State
+  pub mid : SessionState
   pub so_far : IsJournaled start done bytes mid
   pub further : IsJournaled mid others rest end
 
 -- `first` are the first lines of a journal of `lines`: those of some of the given lines, each with all that it wrote.
-pub record AreFirstLines (start : State) (lines : List (List ℕ)) (journal : List ℕ) (end : State) (first : List (List ℕ)) : Type 0 where
+pub record AreFirstLines (start : SessionState) (lines : List (List ℕ)) (journal : List ℕ) (end : SessionState) (first : List (List ℕ)) : Type 0 where
   -- the lines of the journal begin with them
   pub begins : (more : List (List ℕ)) × (lines_of journal ≡ first ++ more)
   -- they are the lines of the first part of the journal
@@ -81,11 +81,11 @@ pub record AreFirstLines (start : State) (lines : List (List ℕ)) (journal : Li
 -- wrote, or not at all, also a search.
 abbrev pub JournalsAreCutAtLines : Type 0
 JournalsAreCutAtLines =
-    (start end : State) (lines : List (List ℕ)) (journal front rest : List ℕ) → IsGrid start.engine.grid → AllHaveNoLf lines → IsJournaled start lines journal end
+    (start end : SessionState) (lines : List (List ℕ)) (journal front rest : List ℕ) → IsGrid start.engine.grid → AllHaveNoLf lines → IsJournaled start lines journal end
     → journal ≡ front ++ rest → AreFirstLines start lines journal end (complete (ended_lines front))
 
 -- The lines of a file that count leave the state after some first lines of a journal.
-pub record KeepsFirstLines (start : State) (lines : List (List ℕ)) (journal : List ℕ) (end : State) (file : List ℕ) : Type 0 where
+pub record KeepsFirstLines (start : SessionState) (lines : List (List ℕ)) (journal : List ℕ) (end : SessionState) (file : List ℕ) : Type 0 where
   pub first : List (List ℕ)
   pub are : AreFirstLines start lines journal end first
   pub again : replayed_lines start (kept_lines file) ≡ Some are.parts.mid
@@ -93,7 +93,7 @@ pub record KeepsFirstLines (start : State) (lines : List (List ℕ)) (journal : 
 -- The first bytes of the file of a journal have a part of its first line only, or keep the first lines of the journal.
 abbrev pub JournalFilesAreCutAtLines : Type 0
 JournalFilesAreCutAtLines =
-    (start end : State) (lines : List (List ℕ)) (journal front rest : List ℕ) → IsGrid start.engine.grid → AllHaveNoLf lines → IsJournaled start lines journal end
+    (start end : SessionState) (lines : List (List ℕ)) (journal front rest : List ℕ) → IsGrid start.engine.grid → AllHaveNoLf lines → IsJournaled start lines journal end
     → first_line ++ journal ≡ front ++ rest → (is_part front ≡ true) ⊎ KeepsFirstLines start lines journal end front
 
 -- ---- the journal of a run

@@ -11,7 +11,7 @@ use Rattle.xw_grid.specs.declared.cell.Side.{Side}
 use Rattle.xw_grid.specs.Grid.{Grid, IsGrid, is_inside, is_edge, bars, index_of}
 use Rattle.xw_grid.specs.Edit.{blank}
 use Rattle.xw_grid.specs.Clue.{Texts, ClueMap, no_clues}
-use Rattle.xw_feas.specs.State.{State as EngineState}
+use Rattle.xw_feas.specs.State.{State}
 use Rattle.xw_feas.specs.WellFormed.{IsWellFormed}
 use Rattle.xw_files.specs.declared.fault.ReadFault.{ReadFault}
 use Rattle.xw_grid.specs.Puzzle.{PuzzleShown}
@@ -22,7 +22,7 @@ use Rattle.xw_commands.specs.declared.command.SyntaxFault.{SyntaxFault}
 use Rattle.xw_commands.specs.declared.command.TextField.{TextField}
 use Rattle.xw_lines.specs.declared.outcome.Step.{Step}
 use Rattle.xw_lines.specs.declared.outcome.Step.TheVariants.{Refused}
-use Rattle.xw_answers.specs.declared.refusal.Refusal.{Refusal}
+use Rattle.xw_answers.specs.declared.refusal.CommandRefusal.{CommandRefusal}
 use Rattle.xw_commands.specs.Command.{command_of}
 use Rattle.xw_lines.specs.Cut.{lines_of}
 use Rattle.xw_session.specs.Put.{text_of_field}
@@ -32,31 +32,31 @@ use Rattle.xw_session.specs.Reply.{Reply, changed, reply_to, want_of}
 use Rattle.xw_answers.specs.Escape.{has_nul}
 use Rattle.xw_session.specs.Answer.{Answers}
 use Rattle.xw_lines.specs.Spoken.{Spoken}
-use Rattle.xw_session.specs.State.{State}
+use Rattle.xw_session.specs.State.{SessionState}
 use Rattle.xw_answers.specs.Text.{refused}
 
 -- the state after a reply, or None if the command is refused
-abbrev pub state_left : Result Reply Refusal → Option State
+abbrev pub state_left : Result Reply CommandRefusal → Option SessionState
 state_left (Ok reply) = Some reply.state
 state_left (Err refusal) = None
 
 -- the state after all these changes, or None if one is refused
-abbrev pub replayed : State → List Change → Option State
+abbrev pub replayed : SessionState → List Change → Option SessionState
 replayed state [] = Some state
 replayed state (change ∷ changes) = option_and_then (λ next. replayed next changes) (state_left (changed state change))
 
 -- the state after the one reply to a command, or None if it is refused or has no single reply
-abbrev pub left_by : Option (Result Reply Refusal) → Option State
+abbrev pub left_by : Option (Result Reply CommandRefusal) → Option SessionState
 left_by None = None
 left_by (Some reply) = state_left reply
 
 -- the same for lines
-abbrev pub left_by_line : State → Result (Option Command) SyntaxFault → Option State
+abbrev pub left_by_line : SessionState → Result (Option Command) SyntaxFault → Option SessionState
 left_by_line state (Ok None) = Some state
 left_by_line state (Ok (Some command)) = left_by (reply_to state command)
 left_by_line state (Err fault) = None
 
-abbrev pub replayed_lines : State → List (List ℕ) → Option State
+abbrev pub replayed_lines : SessionState → List (List ℕ) → Option SessionState
 replayed_lines state [] = Some state
 replayed_lines state (line ∷ lines) = option_and_then (λ next. replayed_lines next lines) (left_by_line state (command_of line))
 
@@ -66,11 +66,11 @@ bared Block = Block
 bared (Open entered) = Open None
 
 -- the state with its grid replaced
-abbrev pub with_grid : State → Grid → State
+abbrev pub with_grid : SessionState → Grid → SessionState
 with_grid state grid = record state { engine = record state.engine { grid = grid } }
 
 -- the state with its dictionary replaced
-abbrev pub with_words : State → Dictionary → State
+abbrev pub with_words : SessionState → Dictionary → SessionState
 with_words state words = record state { engine = record state.engine { words = words } }
 
 -- ---- the invariant of a session
@@ -119,7 +119,7 @@ clues_of clues Across = clues.across
 clues_of clues Down = clues.down
 
 -- the invariant of a session that started with these words
-pub record BeganWith (words : Dictionary) (state : State) : Type 0 where
+pub record BeganWith (words : Dictionary) (state : SessionState) : Type 0 where
   pub grid : IsGrid state.engine.grid
   pub bars : BarsAreOnEdges state.engine.grid
   pub known : IsDictionary words
@@ -139,7 +139,7 @@ pub record IsFresh (words : Dictionary) : Type 0 where
 -- a session started on a dictionary to which nothing was done, with no texts, clues and circles, meets the invariant
 abbrev pub SessionsBegin : Type 0
 SessionsBegin =
-    (engine : EngineState) → IsWellFormed engine → BarsAreOnEdges engine.grid → IsFresh engine.words
+    (engine : State) → IsWellFormed engine → BarsAreOnEdges engine.grid → IsFresh engine.words
     → BeganWith engine.words (record {
       engine = engine;
       texts = record { title = []; author = []; copyright = []; notes = [] };
@@ -150,7 +150,7 @@ SessionsBegin =
     })
 
 -- the state of a session opened with a dictionary and a puzzle
-abbrev pub opened_on : Dictionary → PuzzleShown → State
+abbrev pub opened_on : Dictionary → PuzzleShown → SessionState
 opened_on words puzzle = record {
   engine = record { grid = puzzle.grid; words = words };
   texts = puzzle.texts;
@@ -169,7 +169,7 @@ SessionsOpen spelled =
 -- Every line keeps the invariant. The contract of the engine gives the well-formedness of the new state.
 abbrev pub SessionsStay : Type 0
 SessionsStay =
-    (words : Dictionary) (state next : State) (line : List ℕ) (outcome : Step) (answer : List ℕ) → BeganWith words state → Answers state line outcome answer next
+    (words : Dictionary) (state next : SessionState) (line : List ℕ) (outcome : Step) (answer : List ℕ) → BeganWith words state → Answers state line outcome answer next
     → IsWellFormed next.engine → BeganWith words next
 
 -- ---- the laws of records
@@ -178,38 +178,38 @@ SessionsStay =
 -- rebuild its state, except for the word counts at the start.
 abbrev pub CommandsMakeSessionsAgain : Type 0
 CommandsMakeSessionsAgain =
-    (words : Dictionary) (made state : State) → BeganWith words made → state.engine.words ≡ words
+    (words : Dictionary) (made state : SessionState) → BeganWith words made → state.engine.words ≡ words
     → replayed state (record_commands made) ≡ Some (record made { begun = state.begun })
 
 -- each line of a record parses as its command
 abbrev pub LinesAreReadAgain : Type 0
 LinesAreReadAgain =
-    (words : Dictionary) (made : State) → BeganWith words made
+    (words : Dictionary) (made : SessionState) → BeganWith words made
     → map command_of (lines_of (record_lines made)) ≡ map (λ change. Ok (Some (commands.Change change))) (record_commands made)
 
 -- the lines of a record rebuild the state too
 abbrev pub LinesMakeSessionsAgain : Type 0
 LinesMakeSessionsAgain =
-    (words : Dictionary) (made state : State) → BeganWith words made → state.engine.words ≡ words
+    (words : Dictionary) (made state : SessionState) → BeganWith words made → state.engine.words ≡ words
     → replayed_lines state (lines_of (record_lines made)) ≡ Some (record made { begun = state.begun })
 
 -- ---- the same laws for the answers of a session
 
 -- the answer is the failed allocation that the line's command may meet
-abbrev pub WantsMemory : State → Result (Option Command) SyntaxFault → List ℕ → Type 0
+abbrev pub WantsMemory : SessionState → Result (Option Command) SyntaxFault → List ℕ → Type 0
 WantsMemory state (Ok None) answer = ⊥
-WantsMemory state (Ok (Some command)) answer = (refusal : Refusal) × (want_of state command ≡ Some refusal) × (answer ≡ refused refusal)
+WantsMemory state (Ok (Some command)) answer = (refusal : CommandRefusal) × (want_of state command ≡ Some refusal) × (answer ≡ refused refusal)
 WantsMemory state (Err fault) answer = ⊥
 
 -- a session that starts with the same words and accepts every line of a record ends in the recorded state
 abbrev pub AnsweredLinesMakeSessionsAgain : Type 0
 AnsweredLinesMakeSessionsAgain =
-    (words : Dictionary) (made state last : State) (out : List ℕ) → BeganWith words made → state.engine.words ≡ words
+    (words : Dictionary) (made state last : SessionState) (out : List ℕ) → BeganWith words made → state.engine.words ≡ words
     → Spoken Answers state (lines_of (record_lines made)) out 0 last → last ≡ record made { begun = state.begun }
 
 -- the first line of a record that a session refuses, if any, is refused for a failed allocation
 abbrev pub RecordsAreRefusedForMemoryOnly : Type 0
 RecordsAreRefusedForMemoryOnly =
-    (words : Dictionary) (made state mid last : State) (front rest : List (List ℕ)) (line out answer : List ℕ) → BeganWith words made → state.engine.words ≡ words
+    (words : Dictionary) (made state mid last : SessionState) (front rest : List (List ℕ)) (line out answer : List ℕ) → BeganWith words made → state.engine.words ≡ words
     → lines_of (record_lines made) ≡ front ++ line ∷ rest → Spoken Answers state front out 0 mid → Answers mid line Refused answer last
     → WantsMemory mid (command_of line) answer

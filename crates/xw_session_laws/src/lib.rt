@@ -22,7 +22,7 @@ ghost use Rattle.xw_commands.specs.declared.change.Change.{Change};
 ghost use Rattle.xw_commands.specs.declared.command.Field.{Field};
 ghost use Rattle.xw_session.specs.declared.session.recording.Section.TheVariants as sections;
 ghost use Rattle.xw_answers.specs.declared.record.Part.TheVariants as parts;
-ghost use Rattle.xw_session.specs.State.{State};
+ghost use Rattle.xw_session.specs.State.{SessionState};
 ghost use Rattle.xw_session.specs.Put.{target_of, has_target, with_text_at};
 ghost use Rattle.xw_answers.specs.Record.{known_counts, text_commands};
 ghost use Rattle.xw_session.specs.Record.{section_commands};
@@ -58,7 +58,7 @@ pub fn what_is_spelled_reads_back()
 
 /// Executing two lists of commands in a row equals executing the second on the state that the first leaves.
 pub fn commands_follow_one_another()
-    ensures { (state : State) (front rest : List Change)
+    ensures { (state : SessionState) (front rest : List Change)
         → replayed state (front ++ rest) ≡ option_and_then (λ mid. replayed mid rest) (replayed state front) }
 {}
 
@@ -66,7 +66,7 @@ pub fn commands_follow_one_another()
 /// done to it, and the least grade. The session must start with the same words, and nothing done to them: none is left
 /// out or struck, and a word of the start has another grade now only if it came back with it.
 pub fn words_are_made_again()
-    ensures { (state made : State) → IsDictionary state.engine.words → IsDictionary made.engine.words
+    ensures { (state made : SessionState) → IsDictionary state.engine.words → IsDictionary made.engine.words
         → state.engine.words.least ≡ 0
         → made.begun ≡ known_counts state.engine.words
         → ((count : ℕ) → ComeFirst (row state.engine.words count) (row made.engine.words count))
@@ -75,45 +75,45 @@ pub fn words_are_made_again()
 
 /// The text commands of a record put a text of any length into its field.
 pub fn texts_are_made_again()
-    ensures { (state : State) (field : Field) (text : List ℕ) → has_target state.engine.grid (target_of field) ≡ true → has_nul text ≡ false
+    ensures { (state : SessionState) (field : Field) (text : List ℕ) → has_target state.engine.grid (target_of field) ≡ true → has_nul text ≡ false
         → replayed state (text_commands field text) ≡ Some (with_text_at state (target_of field) text) }
 {}
 
 /// The `size` command of a record gives a blank grid of this size without clues and circles, `sym` restores the
 /// symmetry, and `watch` turns the watch on or off.
 pub fn size_symmetry_and_watch_are_made_again()
-    ensures size { (state made : State) → IsGrid made.engine.grid
+    ensures size { (state made : SessionState) → IsGrid made.engine.grid
         → replayed state (section_commands made sections.Size) ≡ Some (record state {
           engine = record { grid = blank made.engine.grid.width made.engine.grid.height; words = state.engine.words };
           clues = no_clues;
           circles = [];
         }) }
-    ensures symmetry { (state made : State) → IsGrid made.engine.grid
+    ensures symmetry { (state made : SessionState) → IsGrid made.engine.grid
         → state.engine.grid.width ≡ made.engine.grid.width → state.engine.grid.height ≡ made.engine.grid.height
         → replayed state (section_commands made sections.Symmetry) ≡ Some (record state {
           engine = record state.engine { grid = record state.engine.grid { symmetry = made.engine.grid.symmetry } };
         }) }
-    ensures watch { (state made : State)
+    ensures watch { (state made : SessionState)
         → replayed state (section_commands made sections.Watch) ≡ Some (record state { is_watched = made.is_watched }) }
 {}
 
 /// The circle commands of a record, executed on a blank grid, restore the circles of all cells of the grid, also those
 /// on blocks.
 pub fn circles_are_made_again()
-    ensures { (state made : State) → IsGrid made.engine.grid
+    ensures { (state made : SessionState) → IsGrid made.engine.grid
         → replayed (record (with_grid state (blank made.engine.grid.width made.engine.grid.height)) { circles = [] }) (section_commands made (sections.Cells parts.Circles))
         ≡ Some (record (with_grid state (blank made.engine.grid.width made.engine.grid.height)) { circles = filter (is_circled made.circles) (cells made.engine.grid) }) }
 {}
 
 /// Circles stored in reading order, all inside the grid, equal the list of circled cells of the grid.
 pub fn circles_are_kept_in_order()
-    ensures { (state : State) → AreFrom state.engine.grid 0 state.circles
+    ensures { (state : SessionState) → AreFrom state.engine.grid 0 state.circles
         → filter (is_circled state.circles) (cells state.engine.grid) ≡ state.circles }
 {}
 
 /// The clue commands of a record restore all clues, also those without a light.
 pub fn clues_are_made_again()
-    ensures { (state made : State) → IsGrid made.engine.grid
+    ensures { (state made : SessionState) → IsGrid made.engine.grid
         → ((direction : Direction) → AreTextsFrom made.engine.grid 0 (clues_of made.clues direction))
         → replayed (record (with_grid state made.engine.grid) { clues = no_clues })
         (section_commands made (sections.Cells (parts.Clues Across)) ++ section_commands made (sections.Cells (parts.Clues Down)))
@@ -123,17 +123,17 @@ pub fn clues_are_made_again()
 /// The bar commands of a record, executed on a blank grid, restore the bars: first those right of cells, then those
 /// below. The grid must have no bar on its border.
 pub fn bars_are_made_again()
-    ensures right { (state made : State) → IsGrid made.engine.grid → BarsAreOnEdges made.engine.grid
+    ensures right { (state made : SessionState) → IsGrid made.engine.grid → BarsAreOnEdges made.engine.grid
         → replayed (with_grid state (blank made.engine.grid.width made.engine.grid.height)) (section_commands made (sections.Cells (parts.Bars Right)))
         ≡ Some (with_grid state (barred_right made.engine.grid)) }
-    ensures below { (state made : State) → IsGrid made.engine.grid → BarsAreOnEdges made.engine.grid
+    ensures below { (state made : SessionState) → IsGrid made.engine.grid → BarsAreOnEdges made.engine.grid
         → replayed (with_grid state (barred_right made.engine.grid)) (section_commands made (sections.Cells (parts.Bars Below)))
         ≡ Some (with_grid state (barred made.engine.grid)) }
 {}
 
 /// The block commands of a record, executed on an empty grid without symmetry, restore exactly the blocks.
 pub fn blocks_are_made_again()
-    ensures { (state made : State) → IsGrid made.engine.grid
+    ensures { (state made : SessionState) → IsGrid made.engine.grid
         → replayed (with_grid state (record made.engine.grid { squares = replicate (made.engine.grid.width * made.engine.grid.height) (Open None); symmetry = kinds.None }))
         (section_commands made (sections.Cells parts.Blocks))
         ≡ Some (with_grid state (record made.engine.grid { squares = map bared made.engine.grid.squares; symmetry = kinds.None })) }
@@ -141,7 +141,7 @@ pub fn blocks_are_made_again()
 
 /// The letter commands of a record, executed on a grid that has the blocks but no letters, restore the grid.
 pub fn letters_are_made_again()
-    ensures { (state made : State) → IsGrid made.engine.grid
+    ensures { (state made : SessionState) → IsGrid made.engine.grid
         → replayed (with_grid state (record made.engine.grid { squares = map bared made.engine.grid.squares })) (section_commands made (sections.Cells parts.Letters))
         ≡ Some (with_grid state made.engine.grid) }
 {}

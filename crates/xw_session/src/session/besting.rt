@@ -1,22 +1,19 @@
 //! Answers `best`.
-ghost use Rattle.std.specs.Prelude.{◌≡◌, IfOk, IfErr, OnErr};
-ghost use Rattle.xw_fill.specs.NamedFill.{is_named, IsRefusal};
+ghost use Rattle.std.specs.Prelude.{◌≡◌, IfOk, IfErr, OnOk, OnErr};
+ghost use Rattle.xw_fill.specs.NamedFill.{is_named, AreLights};
 ghost use Rattle.xw_fill.specs.Best.{IsBest};
 ghost use Rattle.xw_lines.specs.Sends.{Sends};
 ghost use Rattle.xw_answers.specs.Text.{number_line};
-ghost use Rattle.xw_session.specs.State.{State};
-ghost use Rattle.xw_session.specs.Autofill.{names_of as names_of_lights};
-ghost use Rattle.xw_session.specs.Best.{best_lines};
-ghost use Rattle.xw_session.specs.Answer.{AnswersSearch, best_reply, text_of, ended_by};
+ghost use Rattle.xw_session.specs.NamedSearch.{names_of as names_of_lights, IsUnsearched};
+ghost use Rattle.xw_session.specs.Answer.{AnswersSearch};
 
-use crate::session::autofilling::{are_lights, names_of};
-use crate::session::queries::write_filling;
-use crate::session::{Ended, Session, end_answer};
+use crate::lookup::names_of;
+use crate::session::Session;
+use crate::session::ending::{Ended, WriteLines, answer_lines};
 use std::alloc::Global;
-use xw_answers::refusal::Refusal;
 use xw_answers::text;
 use xw_commands::lights::LightArgs;
-use xw_feas::edit::Refusal as EditRefusal;
+use xw_feas::edit::Refusal;
 use xw_feas::searchable::Searchable;
 use xw_fill::allowance::Allowance;
 use xw_fill::best::{Best, BestHint, best_fill};
@@ -32,9 +29,10 @@ fn best_filled<E: Searchable>(
     limit: u64,
     seed: u64,
     hint: &mut Option<BestHint>,
-) -> Result<Best, EditRefusal>
+) -> Result<Best, Refusal>
     ensures ok { IfOk result (IsBest (is_named (E.state engine.old) (names_of_lights lights.entry)) (E.state engine.old) (E.state engine.new)) }
-    ensures refused { IfErr result (IsRefusal (E.state engine.old) (names_of_lights lights.entry)) }
+    ensures known { OnOk result (AreLights (E.state engine.old) (names_of_lights lights.entry)) }
+    ensures refused { IfErr result (IsUnsearched (E.state engine.old) (names_of_lights lights.entry)) }
     ensures unchanged { OnErr result (E.state engine.new ≡ E.state engine.old) }
     ensures idle { limit ≡ 0 → E.state engine.new ≡ E.state engine.old }
 {
@@ -50,35 +48,24 @@ fn write_grade<W: Sink>(sink: &mut W, name: &str, grade: u8) -> Result<(), Write
     text::write_named_number(sink, name, u64::from(grade))
 }
 
-/// Writes how a search for the best fill ended.
-fn write_best<W: Sink>(sink: &mut W, best: Best) -> Result<(), WriteFailed>
-    ensures { Sends W.transcript W.failures sink.old sink.new result (best_lines best) }
-{
-    match best {
-        Best::Filled { least, bound } => {
-            write_filling(sink, Filling::Filled)?;
-            write_grade(sink, "least", least)?;
-            write_grade(sink, "bound", bound)
-        }
-        Best::NoFill => write_filling(sink, Filling::NoFill),
-        Best::Limit { bound } => {
-            write_filling(sink, Filling::Limit)?;
-            write_grade(sink, "bound", bound)
-        }
-    }
-}
+impl WriteLines for Best {
+    ghost use Rattle.xw_session.specs.Best.{best_lines};
 
-/// Answers a search for the best fill.
-fn end_best<W: Sink>(sink: &mut W, best: Result<Best, EditRefusal>) -> Result<Ended, WriteFailed>
-    ensures sends { (state : State) → Sends W.transcript W.failures sink.old sink.new result (text_of (best_reply best state)) }
-    ensures step { (state : State) → IfOk result (λ ended. ended ≡ ended_by (best_reply best state)) }
-{
-    match best {
-        Ok(best) => {
-            write_best(sink, best)?;
-            end_answer(sink, Ok(()))
+    ghost lines = { best_lines };
+
+    fn write_lines<W: Sink>(self, sink: &mut W) -> Result<(), WriteFailed> {
+        match self {
+            Best::Filled { least, bound } => {
+                Filling::Filled.write_lines(sink)?;
+                write_grade(sink, "least", least)?;
+                write_grade(sink, "bound", bound)
+            }
+            Best::NoFill => Filling::NoFill.write_lines(sink),
+            Best::Limit { bound } => {
+                Filling::Limit.write_lines(sink)?;
+                write_grade(sink, "bound", bound)
+            }
         }
-        Err(refusal) => end_answer(sink, Err(Refusal::from(refusal))),
     }
 }
 
@@ -95,9 +82,6 @@ impl<E: Searchable> Session<E> {
     ) -> Result<Ended, WriteFailed>
         ensures { AnswersSearch W.transcript W.failures self.old (searches.Best limit seed lights.entry) result self.new sink.old sink.new }
     {
-        if !are_lights(&self.engine, lights.copy()) {
-            return end_answer(sink, Err(Refusal::NoLight));
-        }
         let best = best_filled(
             self.alloc,
             &mut self.engine,
@@ -108,6 +92,6 @@ impl<E: Searchable> Session<E> {
         );
         self.hints
             .end_autofill_if(matches!(best, Ok(Best::Filled { .. })));
-        end_best(sink, best)
+        answer_lines(sink, best)
     }
 }

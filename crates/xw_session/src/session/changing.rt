@@ -5,15 +5,17 @@ ghost use Rattle.xw_grid.specs.Light.{lights_of};
 ghost use Rattle.xw_grid.specs.Clue.{is_circled, with_circle};
 ghost use Rattle.xw_answers.specs.Escape.{has_nul as has_nul_byte};
 ghost use Rattle.xw_session.specs.Reply.{light_named as light_named_so, circle_toggled};
-ghost use Rattle.xw_session.specs.State.{State as AnyState, cell_of, drawn, with_text_in};
+ghost use Rattle.xw_session.specs.State.{SessionState, cell_of, drawn, with_text_in};
 ghost use Rattle.xw_session.specs.Answer.{Edits};
 
 use crate::lookup::light_name;
+use crate::session::ending::Ended;
 use crate::session::{Session, cell_in};
 use std::alloc::Global;
 use xw_answers::lookup::light_named;
-use xw_answers::refusal::Refusal;
+use xw_answers::refusal::CommandRefusal;
 use xw_commands::command::{CellArg, LightArg, TextField};
+use xw_feas::edit::Refusal;
 use xw_feas::feasible::Feasible;
 use xw_grid::{Cell, Circles, Clues, Grid, GridFault, Light, Lights};
 
@@ -39,7 +41,7 @@ fn kept(alloc: Global, text: &[u8]) -> Result<Vec<u8>, GridFault>
 /// Returns the cell at a row and column, which must be an open one. Returns `OutOfGrid`, then `OnBlock`.
 pub(crate) fn circle_cell(grid: &Grid, spot: CellArg) -> Result<Cell, Refusal>
     ensures ok { IfOk result (λ cell. (cell ≡ cell_of spot) × (is_inside grid.now (cell_of spot) ≡ true) × (is_open_cell grid.now (cell_of spot) ≡ true)) }
-    ensures refused { (state : AnyState) → state.engine.grid ≡ grid.now → IfErr result (λ refusal. circle_toggled state (cell_of spot) ≡ Err refusal) }
+    ensures refused { (state : SessionState) → state.engine.grid ≡ grid.now → IfErr result (λ refusal. circle_toggled state (cell_of spot) ≡ Err (CommandRefusal.Engine refusal)) }
 {
     let cell = cell_in(grid, spot)?;
     if !grid.is_open(cell) {
@@ -64,11 +66,11 @@ impl<E: Feasible> Session<E> {
     ghost use Rattle.xw_commands.specs.declared.change.Change.TheVariants as changes;
 
     /// Replaces the grid by an empty one of this size, and removes all clues and circles.
-    pub(crate) fn resize(&mut self, width: u64, height: u64) -> Result<(), Refusal>
+    pub(crate) fn resize(&mut self, width: u64, height: u64) -> Ended
         ensures { Edits self.old (changes.Size width height) result self.new }
     {
         let (Ok(width), Ok(height)) = (u32::try_from(width), u32::try_from(height)) else {
-            return Err(Refusal::Grid(GridFault::Size));
+            return Err(CommandRefusal::Engine(Refusal::Grid(GridFault::Size)));
         };
         let grid = Grid::new(self.alloc, width, height)?;
         self.engine.regrid(grid)?;
@@ -83,29 +85,29 @@ impl<E: Feasible> Session<E> {
         light_in(self.engine.grid(), self.engine.lights(), named)
     }
 
-    pub(crate) fn set_clue(&mut self, named: LightArg, text: &[u8]) -> Result<(), Refusal>
+    pub(crate) fn set_clue(&mut self, named: LightArg, text: &[u8]) -> Ended
         ensures { Edits self.old (changes.Clue named text.now) result self.new }
     {
         self.keep_clue(self.light(named), text)
     }
 
     /// Replaces the clue of a light of any grid, or refuses this if there is no light.
-    pub(crate) fn keep_clue(&mut self, light: Option<Light>, text: &[u8]) -> Result<(), Refusal>
+    pub(crate) fn keep_clue(&mut self, light: Option<Light>, text: &[u8]) -> Ended
         ensures done { (grid : AnyGrid) (named : LightArg) → light_named_so grid named ≡ light → Edits (drawn self.old grid) (changes.Clue named text.now) result (drawn self.new grid) }
         ensures engine { self.new.engine ≡ self.old.engine }
         ensures begun { self.new.begun ≡ self.old.begun }
     {
         let Some(light) = light else {
-            return Err(Refusal::NoLight);
+            return Err(CommandRefusal::Engine(Refusal::NoLight));
         };
         if has_nul(text) {
-            return Err(Refusal::NulByte);
+            return Err(CommandRefusal::NulByte);
         }
         self.clues.set(light.start, light.name.direction, text)?;
         Ok(())
     }
 
-    pub(crate) fn toggle_circle(&mut self, spot: CellArg) -> Result<(), Refusal>
+    pub(crate) fn toggle_circle(&mut self, spot: CellArg) -> Ended
         ensures { Edits self.old (changes.Circle spot) result self.new }
     {
         let cell = circle_cell(self.engine.grid(), spot)?;
@@ -124,13 +126,13 @@ impl<E: Feasible> Session<E> {
     }
 
     /// Replaces a text of the puzzle.
-    pub(crate) fn write(&mut self, field: TextField, text: &[u8]) -> Result<(), Refusal>
+    pub(crate) fn write(&mut self, field: TextField, text: &[u8]) -> Ended
         ensures done { (grid : AnyGrid) → Edits (drawn self.old grid) (changes.Write field text.now) result (drawn self.new grid) }
         ensures engine { self.new.engine ≡ self.old.engine }
         ensures begun { self.new.begun ≡ self.old.begun }
     {
         if has_nul(text) {
-            return Err(Refusal::NulByte);
+            return Err(CommandRefusal::NulByte);
         }
         let kept = kept(self.alloc, text)?;
         self.keep_text(field, kept);
@@ -148,7 +150,7 @@ impl<E: Feasible> Session<E> {
         }
     }
 
-    pub(crate) fn watch(&mut self, is_on: bool) -> Result<(), Refusal>
+    pub(crate) fn watch(&mut self, is_on: bool) -> Ended
         ensures done { (grid : AnyGrid) → Edits (drawn self.old grid) (changes.Watch is_on) result (drawn self.new grid) }
         ensures engine { self.new.engine ≡ self.old.engine }
         ensures begun { self.new.begun ≡ self.old.begun }

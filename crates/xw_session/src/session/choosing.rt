@@ -11,11 +11,13 @@ ghost use Rattle.xw_session.specs.Reply.{name_of_light};
 ghost use Rattle.xw_session.specs.Answer.{AnswersQuery};
 
 use crate::lookup::light_name;
-use crate::session::{Ended, Session, end_answer};
+use crate::session::Session;
+use crate::session::ending::{Ended, end_answer};
 use xw_answers::answer_line::{Token, write_line};
-use xw_answers::refusal::Refusal;
+use xw_answers::refusal::CommandRefusal;
 use xw_answers::text::Pattern;
 use xw_commands::command::{LightArg, Text};
+use xw_feas::edit::Refusal;
 use xw_feas::feasible::Feasible;
 use xw_fill::choices::{fewest_after, fewest_after_any, fewest_words};
 use xw_fill::scan::{is_entered, light_at, name_at, next_word_index, word_count};
@@ -256,14 +258,14 @@ impl<E: Feasible> Session<E> {
         ensures unchanged { self.new ≡ self.old }
     {
         let Some(light) = self.light_index(named) else {
-            return end_answer(sink, Err(Refusal::NoLight));
+            return end_answer(sink, Err(CommandRefusal::Engine(Refusal::NoLight)));
         };
         match first_index(&self.engine, light, first) {
             Ok(from) => {
                 write_weighed(sink, &mut self.engine, light, from, most)?;
                 end_answer(sink, Ok(()))
             }
-            Err(refusal) => end_answer(sink, Err(refusal)),
+            Err(refusal) => end_answer(sink, Err(CommandRefusal::Engine(refusal))),
         }
     }
 }

@@ -3,12 +3,13 @@ ghost use Rattle.std.specs.Prelude.{◌≡◌, ◌+◌, ◌<◌, ◌≤◌, [], 
 ghost use Rattle.xw_session.specs.Erase.{crossing as crossing_direction, is_held as is_held_cell, is_erased as is_erased_cell, erased_if, erased_cells as erased_cells_of, emptied};
 ghost use Rattle.xw_session.specs.Answer.{AnswersChange};
 
+use crate::session::Session;
+use crate::session::ending::{Ended, end_answer};
 use crate::session::tallying::light_through;
-use crate::session::{Ended, Session, end_answer};
 use std::marker::Model;
-use xw_answers::refusal::Refusal;
+use xw_answers::refusal::CommandRefusal;
 use xw_commands::command::LightArg;
-use xw_feas::edit::Edit;
+use xw_feas::edit::{Edit, Refusal};
 use xw_feas::feasible::Feasible;
 use xw_fill::scan::is_entered;
 use xw_grid::{Cell, Direction, Light};
@@ -132,7 +133,7 @@ impl<E: Feasible> Session<E> {
                 let erased = erased_cells(&self.engine, &light);
                 self.answer_edit(&Edit::Write(erased.list()), sink)
             }
-            None => end_answer(sink, Err(Refusal::NoLight)),
+            None => end_answer(sink, Err(CommandRefusal::Engine(Refusal::NoLight))),
         }
     }
 }

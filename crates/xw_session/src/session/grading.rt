@@ -6,16 +6,18 @@ ghost use Rattle.xw_fill.specs.OfState.{light_count, grade_of};
 ghost use Rattle.xw_fill.specs.NamedFill.{AreLights};
 ghost use Rattle.xw_lines.specs.Sends.{Sends};
 ghost use Rattle.xw_session.specs.Reply.{name_of_light};
-ghost use Rattle.xw_session.specs.Autofill.{names_of};
+ghost use Rattle.xw_session.specs.NamedSearch.{names_of};
 ghost use Rattle.xw_session.specs.Grades.{entered_line, entered_lines, named_line, grade_lines};
 ghost use Rattle.xw_session.specs.Answer.{AnswersQuery};
 
-use crate::session::autofilling::{are_lights, known_name};
-use crate::session::{Ended, Session, end_answer};
-use xw_answers::refusal::Refusal;
+use crate::lookup::{are_lights, known_name};
+use crate::session::Session;
+use crate::session::ending::{Ended, end_answer};
+use xw_answers::refusal::CommandRefusal;
 use xw_answers::text;
 use xw_commands::command::LightArg;
 use xw_commands::lights::LightArgs;
+use xw_feas::edit::Refusal;
 use xw_feas::feasible::Feasible;
 use xw_fill::listing::grade;
 use xw_fill::scan::{is_entered, name_at};
@@ -114,7 +116,7 @@ impl<E: Feasible> Session<E> {
         ensures { AnswersQuery W.transcript W.failures self.now (queries.Grades lights.entry) result sink.old sink.new }
     {
         if !are_lights(&self.engine, lights.copy()) {
-            return end_answer(sink, Err(Refusal::NoLight));
+            return end_answer(sink, Err(CommandRefusal::Engine(Refusal::NoLight)));
         }
         write_grades(sink, &self.engine, lights)?;
         end_answer(sink, Ok(()))

@@ -7,9 +7,10 @@ ghost use Rattle.xw_session.specs.Help.{form_lines, changing_forms, all_forms};
 ghost use Rattle.xw_session.specs.Reply.{form_shown};
 ghost use Rattle.xw_session.specs.Answer.{AnswersQuery};
 
-use crate::session::{Ended, Session, end_answer};
+use crate::session::Session;
+use crate::session::ending::{Ended, end_answer};
 use xw_answers::answer_line::{Token, write_line};
-use xw_answers::refusal::Refusal;
+use xw_answers::refusal::CommandRefusal;
 use xw_commands::change::CHANGES;
 use xw_commands::command::{self, SyntaxFault, Text};
 use xw_commands::names::CommandName;
@@ -19,13 +20,13 @@ use xw_feas::feasible::Feasible;
 use xw_lines::device::{Sink, WriteFailed};
 
 /// Returns the form of the command with this word, or `Command` if there is none.
-fn form_of(word: &[u8]) -> Result<&'static str, Refusal>
+fn form_of(word: &[u8]) -> Result<&'static str, CommandRefusal>
     ensures ok { IfOk result (λ form. form_shown (form_named word.now) ≡ Ok (word_line form.now)) }
     ensures refused { IfErr result (λ refusal. form_shown (form_named word.now) ≡ Err refusal) }
 {
     match command::form_named(word) {
         Some(form) => Ok(form),
-        None => Err(Refusal::Syntax(SyntaxFault::Command)),
+        None => Err(CommandRefusal::Syntax(SyntaxFault::Command)),
     }
 }
 

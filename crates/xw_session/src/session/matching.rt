@@ -7,7 +7,8 @@ ghost use Rattle.xw_lines.specs.Sends.{Sends};
 ghost use Rattle.xw_session.specs.Unmatched.{is_unmatched as is_unmatched_light, unmatched_line, unmatched_lines};
 ghost use Rattle.xw_session.specs.Answer.{AnswersQuery};
 
-use crate::session::{Ended, Session, end_answer};
+use crate::session::Session;
+use crate::session::ending::{Ended, end_answer};
 use xw_answers::text::{self, Pattern};
 use xw_feas::feasible::Feasible;
 use xw_fill::scan::{is_entered, name_at};

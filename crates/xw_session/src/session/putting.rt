@@ -3,15 +3,17 @@ ghost use Rattle.std.specs.Prelude.{◌≡◌, ℕ, ◌++◌, List, [], true, fa
 ghost use Rattle.xw_answers.specs.Escape.{text_spelled};
 ghost use Rattle.xw_session.specs.Put.{target_of, has_target, CanPut, text_at as text_at_target, with_text_at, with_piece};
 ghost use Rattle.xw_session.specs.Reply.{put as put_reply};
-ghost use Rattle.xw_session.specs.State.{State};
+ghost use Rattle.xw_session.specs.State.{SessionState};
 ghost use Rattle.xw_session.specs.Answer.{Edits};
 
 use crate::session::changing::has_nul;
+use crate::session::ending::Ended;
 use crate::session::{Session, cell_in};
 use std::alloc::{AllocError, Global};
 use xw_answers::escape;
-use xw_answers::refusal::Refusal;
+use xw_answers::refusal::CommandRefusal;
 use xw_commands::command::{Field, TextField, TextMode};
+use xw_feas::edit::Refusal;
 use xw_feas::feasible::Feasible;
 use xw_grid::{Cell, Direction, Grid, GridFault};
 
@@ -49,16 +51,20 @@ fn field_target(grid: &Grid, field: Field) -> Result<Target, Refusal>
 
 /// Returns the target of a field into which a spelling may be put. Returns the first refusal that applies, in the order
 /// `Escape`, `OutOfGrid`, `NulByte`.
-pub(crate) fn put_target(grid: &Grid, field: Field, spelling: &[u8]) -> Result<Target, Refusal>
+pub(crate) fn put_target(
+    grid: &Grid,
+    field: Field,
+    spelling: &[u8],
+) -> Result<Target, CommandRefusal>
     ensures ok { IfOk result (λ target. CanPut grid.now field spelling.now target) }
-    ensures refused { IfErr result (λ refusal. (state : State) (putting : TextMode) → state.engine.grid ≡ grid.now → put_reply state putting field (text_spelled spelling.now) ≡ Err refusal) }
+    ensures refused { IfErr result (λ refusal. (state : SessionState) (putting : TextMode) → state.engine.grid ≡ grid.now → put_reply state putting field (text_spelled spelling.now) ≡ Err refusal) }
 {
     if !escape::is_spelling(spelling) {
-        return Err(Refusal::Escape);
+        return Err(CommandRefusal::Escape);
     }
     let target = field_target(grid, field)?;
     if has_nul(spelling) {
-        return Err(Refusal::NulByte);
+        return Err(CommandRefusal::NulByte);
     }
     Ok(target)
 }
@@ -96,12 +102,7 @@ impl<E: Feasible> Session<E> {
 
     /// Replaces a field by the text of a spelling, or appends it. Returns the first refusal that applies, in the order
     /// `Escape`, `OutOfGrid`, `NulByte`, `Memory`.
-    pub(crate) fn put(
-        &mut self,
-        putting: TextMode,
-        field: Field,
-        spelling: &[u8],
-    ) -> Result<(), Refusal>
+    pub(crate) fn put(&mut self, putting: TextMode, field: Field, spelling: &[u8]) -> Ended
         ensures { Edits self.old (changes.Put putting field spelling.now) result self.new }
     {
         let target = put_target(self.engine.grid(), field, spelling)?;

@@ -6,21 +6,21 @@ ghost use Rattle.xw_grid.specs.Light.{lights_of, index_named};
 ghost use Rattle.xw_fill.specs.OfState.{feasible_words};
 ghost use Rattle.xw_lines.specs.Sends.{Sends};
 ghost use Rattle.xw_commands.specs.Names.{direction_name};
-ghost use Rattle.xw_answers.specs.Text.{word_line, line_of, counted_lines, letters_line};
+ghost use Rattle.xw_answers.specs.Text.{line_of, counted_lines, letters_line};
 ghost use Rattle.xw_session.specs.Found.{duplicate_line, suggestion_line, word_at as known_word_at};
 ghost use Rattle.xw_session.specs.Reply.{first_words, name_of_light, filling_name as name_of_filling, cell_of, lettered};
-ghost use Rattle.xw_session.specs.Answer.{AnswersQuery, AnswersSearch, fill_reply, text_of, ended_by};
-ghost use Rattle.xw_session.specs.State.{State};
+ghost use Rattle.xw_session.specs.Answer.{AnswersQuery, AnswersSearch};
 
 use crate::lookup::light_name;
-use crate::session::{Ended, Session, end_answer};
+use crate::session::Session;
+use crate::session::ending::{Ended, WriteLines, answer_lines, end_answer};
 use xw_answers::answer_line::{Token, write_line};
 use xw_answers::lookup::light_named;
-use xw_answers::refusal::Refusal;
+use xw_answers::refusal::CommandRefusal;
 use xw_answers::{lists, show, text};
 use xw_commands::command::{CellArg, LightArg};
 use xw_commands::names::Named;
-use xw_feas::edit::Refusal as EditRefusal;
+use xw_feas::edit::Refusal;
 use xw_feas::feasible::Feasible;
 use xw_feas::searchable::Searchable;
 use xw_feas::word_iter::{WordIter, words};
@@ -125,26 +125,13 @@ fn filling_name(filling: Filling) -> &'static str
     }
 }
 
-pub(crate) fn write_filling<W: Sink>(sink: &mut W, filling: Filling) -> Result<(), WriteFailed>
-    ensures { Sends W.transcript W.failures sink.old sink.new result (word_line (name_of_filling filling)) }
-{
-    write_line(sink, &[Token::Name(filling_name(filling))])
-}
+impl WriteLines for Filling {
+    ghost use Rattle.xw_session.specs.Reply.{filling_line};
 
-/// Answers a search for a fill.
-pub(crate) fn end_filling<W: Sink>(
-    sink: &mut W,
-    filled: Result<Filling, EditRefusal>,
-) -> Result<Ended, WriteFailed>
-    ensures sends { (state : State) → Sends W.transcript W.failures sink.old sink.new result (text_of (fill_reply filled state)) }
-    ensures step { (state : State) → IfOk result (λ ended. ended ≡ ended_by (fill_reply filled state)) }
-{
-    match filled {
-        Ok(filling) => {
-            write_filling(sink, filling)?;
-            end_answer(sink, Ok(()))
-        }
-        Err(refusal) => end_answer(sink, Err(Refusal::from(refusal))),
+    ghost lines = { filling_line };
+
+    fn write_lines<W: Sink>(self, sink: &mut W) -> Result<(), WriteFailed> {
+        write_line(sink, &[Token::Name(filling_name(self))])
     }
 }
 
@@ -180,7 +167,7 @@ impl<E: Feasible> Session<E> {
                 lists::write_words(sink, words)?;
                 end_answer(sink, Ok(()))
             }
-            Err(fault) => end_answer(sink, Err(Refusal::Word(fault))),
+            Err(fault) => end_answer(sink, Err(CommandRefusal::Engine(Refusal::Word(fault)))),
         }
     }
 
@@ -249,14 +236,14 @@ impl<E: Feasible> Session<E> {
                 write_counted(sink, count, found, most)?;
                 end_answer(sink, Ok(()))
             }
-            None => end_answer(sink, Err(Refusal::NoLight)),
+            None => end_answer(sink, Err(CommandRefusal::Engine(Refusal::NoLight))),
         }
     }
 
     /// Returns the feasible letters of a cell. Returns `OutOfGrid` or `OnBlock` if it has none.
     fn letters(&self, spot: CellArg) -> Result<LetterSet, Refusal>
         ensures ok { IfOk result (λ set. lettered self.now (cell_of spot) ≡ Ok (letters_line (letters_in set))) }
-        ensures refused { IfErr result (λ refusal. lettered self.now (cell_of spot) ≡ Err refusal) }
+        ensures refused { IfErr result (λ refusal. lettered self.now (cell_of spot) ≡ Err (CommandRefusal.Engine refusal)) }
     {
         let cell = self.cell(spot)?;
         let letters = self.engine.letters(cell)?;
@@ -276,7 +263,7 @@ impl<E: Feasible> Session<E> {
                 text::write_letter_set(sink, letters)?;
                 end_answer(sink, Ok(()))
             }
-            Err(refusal) => end_answer(sink, Err(refusal)),
+            Err(refusal) => end_answer(sink, Err(CommandRefusal::Engine(refusal))),
         }
     }
 
@@ -289,7 +276,7 @@ impl<E: Feasible> Session<E> {
                 write_duplicates(sink, self.engine.grid(), self.engine.lights(), &found)?;
                 end_answer(sink, Ok(()))
             }
-            Err(refusal) => end_answer(sink, Err(Refusal::from(refusal))),
+            Err(refusal) => end_answer(sink, Err(CommandRefusal::Engine(refusal))),
         }
     }
 
@@ -302,7 +289,7 @@ impl<E: Feasible> Session<E> {
                 lists::write_unlisted(sink, self.engine.grid(), self.engine.lights(), &found)?;
                 end_answer(sink, Ok(()))
             }
-            Err(refusal) => end_answer(sink, Err(Refusal::from(refusal))),
+            Err(refusal) => end_answer(sink, Err(CommandRefusal::Engine(refusal))),
         }
     }
 
@@ -331,6 +318,6 @@ impl<E: Searchable> Session<E> {
         let filled = fill(self.alloc, &mut self.engine, limit);
         self.hints
             .end_autofill_if(matches!(filled, Ok(Filling::Filled)));
-        end_filling(sink, filled)
+        answer_lines(sink, filled)
     }
 }

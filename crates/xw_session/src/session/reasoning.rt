@@ -4,15 +4,17 @@ ghost use Rattle.xw_fill.specs.Reason.{entry_in, IsReasonOf, IsRefused};
 ghost use Rattle.xw_lines.specs.Sends.{Sends};
 ghost use Rattle.xw_session.specs.Reply.{name_of_light};
 ghost use Rattle.xw_session.specs.Why.{entry_lines, refusal_without_reason as refusal_where_none};
-ghost use Rattle.xw_session.specs.State.{State};
+ghost use Rattle.xw_session.specs.State.{SessionState};
 ghost use Rattle.xw_session.specs.Answer.{AnswersQuery, why_reply, text_of, ended_by};
 
 use crate::lookup::light_name;
-use crate::session::{Ended, Session, end_answer};
+use crate::session::Session;
+use crate::session::ending::{Ended, end_answer};
 use std::alloc::Global;
-use xw_answers::refusal::Refusal;
+use xw_answers::refusal::CommandRefusal;
 use xw_answers::text;
 use xw_commands::command::LightArg;
+use xw_feas::edit::Refusal;
 use xw_feas::feasible::Feasible;
 use xw_fill::{NoReason, reason};
 use xw_grid::{Grid, GridFault};
@@ -45,13 +47,13 @@ fn write_entries<W: Sink>(
 }
 
 /// Returns the refusal for a search that found no reason.
-fn refusal_without_reason(refusal: NoReason) -> Refusal
+fn refusal_without_reason(refusal: NoReason) -> CommandRefusal
     ensures { result ≡ refusal_where_none refusal }
 {
     match refusal {
-        NoReason::NoLight => Refusal::NoLight,
-        NoReason::Alive => Refusal::Alive,
-        NoReason::Memory => Refusal::Grid(GridFault::Memory),
+        NoReason::NoLight => CommandRefusal::Engine(Refusal::NoLight),
+        NoReason::Alive => CommandRefusal::Alive,
+        NoReason::Memory => CommandRefusal::Engine(Refusal::Grid(GridFault::Memory)),
     }
 }
 
@@ -61,8 +63,8 @@ fn end_reason<W: Sink>(
     grid: &Grid,
     found: Result<Vec<Option<Letter>>, NoReason>,
 ) -> Result<Ended, WriteFailed>
-    ensures sends { (state : State) → Sends W.transcript W.failures sink.old sink.new result (text_of (why_reply grid.now found state)) }
-    ensures step { (state : State) → IfOk result (λ ended. ended ≡ ended_by (why_reply grid.now found state)) }
+    ensures sends { (state : SessionState) → Sends W.transcript W.failures sink.old sink.new result (text_of (why_reply grid.now found state)) }
+    ensures step { (state : SessionState) → IfOk result (λ ended. ended ≡ ended_by (why_reply grid.now found state)) }
 {
     match found {
         Ok(entries) => {

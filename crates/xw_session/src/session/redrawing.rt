@@ -15,20 +15,21 @@ ghost use Rattle.xw_commands.specs.declared.command.Command.TheVariants as comma
 ghost use Rattle.xw_session.specs.Answer.{Asks, Edits, IsExecuted};
 ghost use Rattle.xw_session.specs.Reply.{light_named as light_named_so};
 ghost use Rattle.xw_session.specs.Resuming.{is_memory as is_want_of_memory, refused_line};
-ghost use Rattle.xw_session.specs.State.{State, drawn};
+ghost use Rattle.xw_session.specs.State.{SessionState, drawn};
 ghost use Rattle.xw_session.specs.Redrawn.{IsDrawn, IsMade, IsNoted, IsRedrawn, is_shown};
 
 use crate::resuming::{command_in, is_memory, report};
+use crate::session::Session;
 use crate::session::asking::{bar, block, clear, place as place_edit, set};
 use crate::session::changing::{circle_cell, light_in};
+use crate::session::ending::Ended;
 use crate::session::putting::put_target;
-use crate::session::{Ended, Session};
 use std::alloc::Global;
 use std::marker::Model;
-use xw_answers::refusal::Refusal;
+use xw_answers::refusal::CommandRefusal;
 use xw_commands::command::{self, CellArg, Field, LightArg, TextMode};
 use xw_commands::{Change, Command, Query};
-use xw_feas::edit::{Edit, Refusal as EditRefusal};
+use xw_feas::edit::{Edit, Refusal};
 use xw_feas::feasible::Feasible;
 use xw_feas::place::place;
 use xw_grid::puzzle::{Puzzle, Texts};
@@ -41,7 +42,7 @@ use xw_text::lines::first_line;
 const FEW: usize = 16;
 
 /// Writes a letter into a cell. The lights stay.
-fn set_letter(grid: &mut Grid, cell: Cell, letter: Letter) -> Result<(), EditRefusal>
+fn set_letter(grid: &mut Grid, cell: Cell, letter: Letter) -> Result<(), Refusal>
     ensures made { IsMade grid.old (letter_set cell letter) result grid.new }
     ensures lights { lights_of grid.new ≡ lights_of grid.old }
 {
@@ -51,7 +52,7 @@ fn set_letter(grid: &mut Grid, cell: Cell, letter: Letter) -> Result<(), EditRef
 }
 
 /// Empties a cell. The lights stay.
-fn clear_cell(grid: &mut Grid, cell: Cell) -> Result<(), EditRefusal>
+fn clear_cell(grid: &mut Grid, cell: Cell) -> Result<(), Refusal>
     ensures made { IsMade grid.old (cell_cleared cell) result grid.new }
     ensures lights { lights_of grid.new ≡ lights_of grid.old }
 {
@@ -61,7 +62,7 @@ fn clear_cell(grid: &mut Grid, cell: Cell) -> Result<(), EditRefusal>
 }
 
 /// Makes an edit of a grid that may change its lights. Returns `None` if it is another edit.
-fn reshape(grid: &mut Grid, edit: &Edit<'_>) -> Option<Result<(), EditRefusal>>
+fn reshape(grid: &mut Grid, edit: &Edit<'_>) -> Option<Result<(), Refusal>>
     ensures some { IfSome result (λ made. IsMade grid.old (action_of edit.now) made grid.new) }
     ensures none { IfNone result (grid.new ≡ grid.old) }
 {
@@ -73,14 +74,14 @@ fn reshape(grid: &mut Grid, edit: &Edit<'_>) -> Option<Result<(), EditRefusal>>
     };
     match made {
         Ok(()) => Some(Ok(())),
-        Err(fault) => Some(Err(EditRefusal::Grid(fault))),
+        Err(fault) => Some(Err(Refusal::Grid(fault))),
     }
 }
 
 /// Returns the edit of a grid that a change asks for, or the refusal that comes before the edit. Returns `None` if it
 /// asks for no edit of the grid.
 fn edit_of<'a>(grid: &Grid, change: &'a Change<'_>) -> Option<Result<Edit<'a>, Refusal>>
-    ensures { IfSome result (λ asked. (state : State) → Asks (drawn state grid.now) change.now asked) }
+    ensures { IfSome result (λ asked. (state : SessionState) → Asks (drawn state grid.now) change.now asked) }
 {
     match change {
         Change::Symmetry(kind) => Some(Ok(Edit::Symmetry(*kind))),
@@ -153,7 +154,7 @@ impl Draft {
     }
 
     /// Places a word in a light. Returns `None` if an allocation fails.
-    fn place(&mut self, name: LightName, word: &[u8]) -> Option<Result<(), EditRefusal>>
+    fn place(&mut self, name: LightName, word: &[u8]) -> Option<Result<(), Refusal>>
         ensures some { IfSome result (λ made. IsMade self.old (word_placed name word.now) made self.new) }
         ensures none { IfNone result (self.new ≡ self.old) }
     {
@@ -165,7 +166,7 @@ impl Draft {
     }
 
     /// Makes an edit. Returns `None`, and changes nothing, if it is not one of the grid, or if an allocation fails.
-    fn make(&mut self, edit: &Edit<'_>) -> Option<Result<(), EditRefusal>>
+    fn make(&mut self, edit: &Edit<'_>) -> Option<Result<(), Refusal>>
         ensures some { IfSome result (λ made. IsMade self.old (action_of edit.now) made self.new) }
         ensures none { IfNone result (self.new ≡ self.old) }
     {
@@ -183,22 +184,22 @@ impl Draft {
     /// Makes the edit that a change asks for, or returns the refusal that comes before the edit. Returns `None`, and
     /// changes nothing, as `make` does.
     fn edit(&mut self, asked: &Result<Edit<'_>, Refusal>) -> Option<Ended>
-        ensures some { IfSome result (λ ended. (state : State) (change : AnyChange) → Asks (drawn state self.old) change asked.now → IsExecuted (drawn state self.old) (commands.Change change) ended (drawn state self.new)) }
+        ensures some { IfSome result (λ ended. (state : SessionState) (change : AnyChange) → Asks (drawn state self.old) change asked.now → IsExecuted (drawn state self.old) (commands.Change change) ended (drawn state self.new)) }
         ensures none { IfNone result (self.new ≡ self.old) }
     {
         match asked {
             Ok(edit) => match self.make(edit)? {
                 Ok(()) => Some(Ok(())),
-                Err(refusal) => Some(Err(Refusal::from(refusal))),
+                Err(refusal) => Some(Err(CommandRefusal::Engine(refusal))),
             },
-            Err(refusal) => Some(Err(*refusal)),
+            Err(refusal) => Some(Err(CommandRefusal::Engine(*refusal))),
         }
     }
 
     /// Makes a change that asks for an edit of the grid. Returns `None`, and changes nothing, if it is another one, or if
     /// an allocation fails.
     fn change(&mut self, change: Change<'_>) -> Option<Ended>
-        ensures some { IfSome result (λ ended. (state : State) → IsExecuted (drawn state self.old) (commands.Change change.entry) ended (drawn state self.new)) }
+        ensures some { IfSome result (λ ended. (state : SessionState) → IsExecuted (drawn state self.old) (commands.Change change.entry) ended (drawn state self.new)) }
         ensures none { IfNone result (self.new ≡ self.old) }
     {
         match edit_of(&self.grid, &change) {
@@ -215,7 +216,7 @@ fn add_report(
     reports: &mut Vec<u8>,
     file: &str,
     number: usize,
-    refusal: Refusal,
+    refusal: CommandRefusal,
 ) -> bool
     ensures done { result ≡ true → (is_want_of_memory refusal ≡ false) × (reports.new.items ≡ reports.old.items ++ refused_line file.now number refusal) }
     ensures same { result ≡ false → reports.new.items ≡ reports.old.items }

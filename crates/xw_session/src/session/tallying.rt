@@ -9,10 +9,12 @@ ghost use Rattle.xw_session.specs.Tally.{distance as distance_of, words_with as 
 ghost use Rattle.xw_session.specs.Reply.{cell_of, tallied as tallied_so};
 ghost use Rattle.xw_session.specs.Answer.{AnswersQuery};
 
-use crate::session::{Ended, Session, end_answer};
+use crate::session::Session;
+use crate::session::ending::{Ended, end_answer};
 use xw_answers::answer_line::{Token, write_line};
-use xw_answers::refusal::Refusal;
+use xw_answers::refusal::CommandRefusal;
 use xw_commands::command::CellArg;
+use xw_feas::edit::Refusal;
 use xw_feas::searchable::Searchable;
 use xw_grid::{Cell, Direction, Lights};
 use xw_letters::{Letter, LetterSet};
@@ -134,7 +136,7 @@ impl<E: Searchable> Session<E> {
     /// Returns a cell with its feasible letters. Returns `OutOfGrid` or `OnBlock` if it has none.
     fn tallied(&self, spot: CellArg) -> Result<(Cell, LetterSet), Refusal>
         ensures ok { IfOk result (λ found. tallied_so self.now (cell_of spot) ≡ Ok (flat_map (tally_line self.now.engine found.0) (letters_in found.1))) }
-        ensures refused { IfErr result (λ refusal. tallied_so self.now (cell_of spot) ≡ Err refusal) }
+        ensures refused { IfErr result (λ refusal. tallied_so self.now (cell_of spot) ≡ Err (CommandRefusal.Engine refusal)) }
     {
         let cell = self.cell(spot)?;
         let letters = self.engine.letters(cell)?;
@@ -154,7 +156,7 @@ impl<E: Searchable> Session<E> {
                 write_tallies(sink, &self.engine, found.0, found.1)?;
                 end_answer(sink, Ok(()))
             }
-            Err(refusal) => end_answer(sink, Err(refusal)),
+            Err(refusal) => end_answer(sink, Err(CommandRefusal::Engine(refusal))),
         }
     }
 }

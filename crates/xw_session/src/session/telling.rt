@@ -6,7 +6,8 @@ ghost use Rattle.xw_session.specs.Told.{letters_told, cell_lines, count_line, co
 ghost use Rattle.xw_answers.specs.Stats.{stat_lines};
 ghost use Rattle.xw_session.specs.Answer.{AnswersQuery};
 
-use crate::session::{Ended, Session, end_answer};
+use crate::session::Session;
+use crate::session::ending::{Ended, end_answer};
 use xw_answers::{fields, stats, text};
 use xw_commands::query::Report;
 use xw_feas::feasible::Feasible;

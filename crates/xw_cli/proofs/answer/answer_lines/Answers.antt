@@ -1,7 +1,7 @@
 use Rattle.std.proofs.Common.{[], false}
 use Rattle.xw_lines.specs.Spoken.{NeverStops}
 use Rattle.xw_session.specs.Answer.{Answers}
-use Rattle.xw_puzzle_files.specs.Desk.{Moment}
+use Rattle.xw_desk.specs.Desk.{Moment}
 use Rattle.xw_cli.proofs.Runs.{answers_input}
 use Rattle.xw_cli.proofs.answer.answer_lines.Goals as goal
 

@@ -1,6 +1,6 @@
 use Rattle.std.proofs.Common.{[], false}
 use Rattle.xw_journal.specs.Journal.{AnswersJournaled, StopsAtJournal}
-use Rattle.xw_puzzle_files.specs.Desk.{Moment}
+use Rattle.xw_desk.specs.Desk.{Moment}
 use Rattle.xw_cli.proofs.Runs.{answers_input}
 use Rattle.xw_cli.proofs.answer_journaled.answer_lines.Goals as goal
 

@@ -1,6 +1,6 @@
 use Rattle.std.proofs.Common.{subst}
 use Rattle.xw_disk.specs.Disk.{take_lines}
-use Rattle.xw_puzzle_files.specs.Desk.{Asks}
+use Rattle.xw_desk.specs.Desk.{Asks}
 use Rattle.xw_cli.specs.Performed.{Ends, IsJournalEnd}
 use Rattle.xw_cli.proofs.answer_journaled.converse.Goals as goal
 

@@ -2,7 +2,7 @@ use Rattle.std.proofs.Common.{inl, inr, sym, subst}
 use Rattle.std.proofs.lemmas.Result.{err_from_is_err_and}
 use Rattle.std.specs.Prelude.{Ok, Err}
 use Rattle.xw_disk.specs.Disk.{open_, started}
-use Rattle.xw_puzzle_files.specs.Desk.{Asks, ReportsIf}
+use Rattle.xw_desk.specs.Desk.{Asks, ReportsIf}
 use Rattle.xw_cli.specs.SessionFiles.{Replays, cut_line}
 use Rattle.xw_cli.proofs.journal.resume_journal.Goals as goal
 

@@ -1,6 +1,6 @@
 use Rattle.std.proofs.Common.{◌≡◌, ◌++◌, ◌-◌, ap, ℕ, Bool, List, arith, length, subst}
 use Rattle.xw_words.specs.WordList.{results_of}
-use Rattle.xw_puzzle_files.specs.Desk.{Moment, Reports}
+use Rattle.xw_desk.specs.Desk.{Moment, Reports}
 use Rattle.xw_cli.specs.SessionFiles.{AreNotes, added_in, counts_line}
 use Rattle.xw_cli.proofs.session_files.dictionary_of.Goals as goal
 

@@ -1,7 +1,7 @@
 use Rattle.std.proofs.Common.{inl, sym, subst}
 use Rattle.std.specs.Prelude.{Ok}
 use Rattle.xw_disk.specs.Disk.{read}
-use Rattle.xw_puzzle_files.specs.Desk.{Asks, ReportsIf}
+use Rattle.xw_desk.specs.Desk.{Asks, ReportsIf}
 use Rattle.xw_cli.specs.SessionFiles.{Replays, cut_line}
 use Rattle.xw_cli.proofs.session_files.resume_file.Goals as goal
 

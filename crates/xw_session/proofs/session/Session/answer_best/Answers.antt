@@ -1,44 +1,32 @@
-use Rattle.std.proofs.Common.{List, Err, refl, inl, subst}
+use Rattle.std.proofs.Common.{subst}
 use Rattle.xw_grid.specs.Puzzle.{texts_view}
-use Rattle.xw_fill.specs.NamedFill.{AreLights}
-use Rattle.xw_commands.specs.declared.command.LightArg.{LightArg}
+use Rattle.xw_fill.specs.declared.best.Best.TheVariants as bests
+use Rattle.xw_fill.specs.Best.{IsBest}
 use Rattle.xw_commands.specs.declared.search.Search.TheVariants as searches
-use Rattle.xw_answers.specs.declared.refusal.Refusal.TheVariants as refusals
-use Rattle.xw_session.specs.State.{State}
-use Rattle.xw_session.specs.Autofill.{names_of}
+use Rattle.xw_session.specs.State.{SessionState}
+use Rattle.xw_session.specs.Best.{best_lines}
+use Rattle.xw_session.specs.NamedSearch.{names_of}
 use Rattle.xw_session.specs.Answer.{AnswersSearch}
-use Rattle.xw_session.proofs.Answering.{refused_answers}
-use Rattle.xw_session.proofs.Besting.{best_fits, best_effect}
+use Rattle.xw_session.proofs.Searching.{search_fits, best_limit}
+use Rattle.xw_session.proofs.Engine.{lines_effect}
 use Rattle.xw_session.proofs.session.Session.answer_best.Goals as goal
-
-pub returns-then-not-are_lights : goal.returns-then-not-are_lights
-returns-then-not-are_lights g c =
-    let left = c.self.inside in
-    let start : State = record { engine = g.E.Feasible.state left.engine; texts = texts_view left.texts; clues = left.clues; circles = left.circles; is_watched = left.is_watched; begun = left.begun } in
-    subst (λ (s : State). AnswersSearch g.W.Sink.transcript g.W.Sink.failures s (searches.Best c.args.limit c.args.seed c.args.lights) c.end_answer.result s c.args.sink.now c.end_answer.new.sink) c.self.view_is (
-      Err refusals.NoLight,
-      (refl, subst (λ (lights : List LightArg). AreLights start.engine (names_of lights) → ⊥) c.copy.ensures (c.are_lights.ensures.no c.if-not-are_lights.true)),
-      refused_answers g.W.Sink.transcript g.W.Sink.failures start (Err refusals.NoLight) _ refusals.NoLight _ _ _ (inl refl) c.end_answer.ensures.sends c.end_answer.ensures.step,
-    )
 
 pub returns : goal.returns
 returns g c =
     let left = c.self.inside in
-    let start : State = record { engine = g.E.Feasible.state left.engine; texts = texts_view left.texts; clues = left.clues; circles = left.circles; is_watched = left.is_watched; begun = left.begun } in
-    let now = g.E.Feasible.state c.best_filled-best.new.engine in
-    let end : State = record start { engine = now } in
-    let names = names_of c.args.lights in
-    let there = subst (λ (lights : List LightArg). AreLights start.engine (names_of lights)) c.copy.ensures (c.are_lights.ensures.yes c.if-not-are_lights.false) in
-    let graded = (g.met.E.Feasible.well_formed left.engine).dictionary.least in
-    let fits = best_fits start names there graded now c.best_filled-best.result c.best_filled-best.ensures.ok c.best_filled-best.ensures.refused in
-    subst (λ (s : State). AnswersSearch g.W.Sink.transcript g.W.Sink.failures s (searches.Best c.args.limit c.args.seed c.args.lights) c.end_best.result end c.args.sink.now c.end_best.new.sink) c.self.view_is (
+    let start : SessionState = record { engine = g.E.Feasible.state left.engine; texts = texts_view left.texts; clues = left.clues; circles = left.circles; is_watched = left.is_watched; begun = left.begun } in
+    let found = c.best_filled-best in
+    let now = g.E.Feasible.state found.new.engine in
+    let end : SessionState = record start { engine = now } in
+    let fits = search_fits best_lines IsBest start (names_of c.args.lights) now found.result (bests.Limit 101) (best_limit _ start.engine (g.met.E.Feasible.well_formed left.engine).dictionary.least) found.ensures.known found.ensures.ok found.ensures.refused in
+    subst (λ (s : SessionState). AnswersSearch g.W.Sink.transcript g.W.Sink.failures s (searches.Best c.args.limit c.args.seed c.args.lights) c.answer_lines.result end c.args.sink.now c.answer_lines.new.sink) c.self.view_is (
       fits.0,
       fits.1,
       record {
         reply = _;
         fits = fits.2;
-        effect = best_effect start names there graded now c.best_filled-best.result c.best_filled-best.ensures.unchanged;
-        sends = c.end_best.ensures.sends end;
-        step = c.end_best.ensures.step end;
+        effect = lines_effect _ start now found.result found.ensures.unchanged;
+        sends = c.answer_lines.ensures.sends end;
+        step = c.answer_lines.ensures.step end;
       },
     )

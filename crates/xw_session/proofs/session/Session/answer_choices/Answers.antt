@@ -5,8 +5,9 @@ use Rattle.xw_grid.specs.Light.{lights_of, no_light, index_named, same_name}
 use Rattle.xw_grid.specs.Puzzle.{texts_view}
 use Rattle.xw_feas.proofs.BoardLemmas.{length-lights}
 use Rattle.xw_commands.specs.declared.query.Query.TheVariants as queries
-use Rattle.xw_answers.specs.declared.refusal.Refusal.TheVariants as refusals
-use Rattle.xw_session.specs.State.{State}
+use Rattle.xw_answers.specs.declared.refusal.CommandRefusal.TheVariants as refusals
+use Rattle.xw_feas.specs.declared.edit.Refusal.TheVariants as edits
+use Rattle.xw_session.specs.State.{SessionState}
 use Rattle.xw_session.specs.Choices.{choice_lines}
 use Rattle.xw_session.specs.Answer.{IsAnswer}
 use Rattle.xw_session.specs.Reply.{weighed, name_of_light}
@@ -17,45 +18,45 @@ use Rattle.xw_session.proofs.session.Session.answer_choices.Goals as goal
 pub first_index-requires : goal.first_index-requires
 first_index-requires g c =
     let grid = (g.E.Feasible.state c.self.inside.engine).grid in
-    let found : index_named (lights_of grid) (name_of_light c.args.named) ≡ Some c.in-Some.light = ap (λ (s : State). index_named (lights_of s.engine.grid) (name_of_light c.args.named)) c.self.view_is ∙ sym c.light_index.ensures ∙ c.in-Some.is in
+    let found : index_named (lights_of grid) (name_of_light c.args.named) ≡ Some c.in-Some.light = ap (λ (s : SessionState). index_named (lights_of s.engine.grid) (name_of_light c.args.named)) c.self.view_is ∙ sym c.light_index.ensures ∙ c.in-Some.is in
     let at = position-Some (λ light. same_name light.name (name_of_light c.args.named)) (lights_of grid) c.in-Some.light no_light found in
     omega (arith, at.0, length-lights grid)
 
 pub write_weighed-requires : goal.write_weighed-requires
 write_weighed-requires g c =
     let grid = (g.E.Feasible.state c.self.inside.engine).grid in
-    let found : index_named (lights_of grid) (name_of_light c.args.named) ≡ Some c.in-Some.light = ap (λ (s : State). index_named (lights_of s.engine.grid) (name_of_light c.args.named)) c.self.view_is ∙ sym c.light_index.ensures ∙ c.in-Some.is in
+    let found : index_named (lights_of grid) (name_of_light c.args.named) ≡ Some c.in-Some.light = ap (λ (s : SessionState). index_named (lights_of s.engine.grid) (name_of_light c.args.named)) c.self.view_is ∙ sym c.light_index.ensures ∙ c.in-Some.is in
     let at = position-Some (λ light. same_name light.name (name_of_light c.args.named)) (lights_of grid) c.in-Some.light no_light found in
     omega (arith, at.0, length-lights grid)
 
 pub returns-in_default-clause-answer : goal.returns-in_default-clause-answer
 returns-in_default-clause-answer g c =
-    query_refused g.W.Sink.transcript g.W.Sink.failures c.args.self.now (queries.Choices c.args.named c.args.most c.args.first.now) refusals.NoLight _ _ _ (ap (λ light. weighed c.args.self.now light c.args.most c.args.first.now) (sym c.in_default.ensures)) c.end_answer.ensures.sends c.end_answer.ensures.step
+    query_refused g.W.Sink.transcript g.W.Sink.failures c.args.self.now (queries.Choices c.args.named c.args.most c.args.first.now) (refusals.Engine edits.NoLight) _ _ _ (ap (λ light. weighed c.args.self.now light c.args.most c.args.first.now) (sym c.in_default.ensures)) c.end_answer.ensures.sends c.end_answer.ensures.step
 
 pub returns-in_err-write_weighed-in-Ok-clause-answer : goal.returns-in_err-write_weighed-in-Ok-clause-answer
 returns-in_err-write_weighed-in-Ok-clause-answer g c =
     let left = c.self.inside in
-    let start : State = record { engine = g.E.Feasible.state left.engine; texts = texts_view left.texts; clues = left.clues; circles = left.circles; is_watched = left.is_watched; begun = left.begun } in
+    let start : SessionState = record { engine = g.E.Feasible.state left.engine; texts = texts_view left.texts; clues = left.clues; circles = left.circles; is_watched = left.is_watched; begun = left.begun } in
     let e = err_from_is_err_and c.from_residual.result c.from_residual.ensures.1 in
     let lines = choice_lines start.engine c.in-Some.light c.in-Ok.from c.args.most in
-    let found : index_named (lights_of start.engine.grid) (name_of_light c.args.named) ≡ Some c.in-Some.light = ap (λ (s : State). index_named (lights_of s.engine.grid) (name_of_light c.args.named)) c.self.view_is ∙ sym c.light_index.ensures ∙ c.in-Some.is in
+    let found : index_named (lights_of start.engine.grid) (name_of_light c.args.named) ≡ Some c.in-Some.light = ap (λ (s : SessionState). index_named (lights_of s.engine.grid) (name_of_light c.args.named)) c.self.view_is ∙ sym c.light_index.ensures ∙ c.in-Some.is in
     rw (e.1, ← c.self.view_is) (query_stops g.W.Sink.transcript g.W.Sink.failures start (queries.Choices c.args.named c.args.most c.args.first.now) lines _ _ _ (weighed_by start c.in-Some.light c.args.most c.args.first.now (index_named (lights_of start.engine.grid) (name_of_light c.args.named)) (Ok c.in-Ok.from) found (sym c.in-Ok.is ∙ c.first_index.ensures)) c.in_err-write_weighed-in-Ok.ensures.sends)
 
 pub returns-in_ok-write_weighed-in-Ok-clause-answer : goal.returns-in_ok-write_weighed-in-Ok-clause-answer
 returns-in_ok-write_weighed-in-Ok-clause-answer g c =
     let left = c.self.inside in
-    let start : State = record { engine = g.E.Feasible.state left.engine; texts = texts_view left.texts; clues = left.clues; circles = left.circles; is_watched = left.is_watched; begun = left.begun } in
+    let start : SessionState = record { engine = g.E.Feasible.state left.engine; texts = texts_view left.texts; clues = left.clues; circles = left.circles; is_watched = left.is_watched; begun = left.begun } in
     let lines = choice_lines start.engine c.in-Some.light c.in-Ok.from c.args.most in
-    let found : index_named (lights_of start.engine.grid) (name_of_light c.args.named) ≡ Some c.in-Some.light = ap (λ (s : State). index_named (lights_of s.engine.grid) (name_of_light c.args.named)) c.self.view_is ∙ sym c.light_index.ensures ∙ c.in-Some.is in
+    let found : index_named (lights_of start.engine.grid) (name_of_light c.args.named) ≡ Some c.in-Some.light = ap (λ (s : SessionState). index_named (lights_of s.engine.grid) (name_of_light c.args.named)) c.self.view_is ∙ sym c.light_index.ensures ∙ c.in-Some.is in
     rw (← c.self.view_is) (query_answers g.W.Sink.transcript g.W.Sink.failures start (queries.Choices c.args.named c.args.most c.args.first.now) lines _ _ _ _ (weighed_by start c.in-Some.light c.args.most c.args.first.now (index_named (lights_of start.engine.grid) (name_of_light c.args.named)) (Ok c.in-Ok.from) found (sym c.in-Ok.is ∙ c.first_index.ensures)) c.in_ok-write_weighed-in-Ok.ensures.sends c.end_answer-in-Ok.ensures.sends c.end_answer-in-Ok.ensures.step)
 
 pub returns-in-Err-clause-answer : goal.returns-in-Err-clause-answer
 returns-in-Err-clause-answer g c =
     let left = c.self.inside in
-    let start : State = record { engine = g.E.Feasible.state left.engine; texts = texts_view left.texts; clues = left.clues; circles = left.circles; is_watched = left.is_watched; begun = left.begun } in
-    let found : index_named (lights_of start.engine.grid) (name_of_light c.args.named) ≡ Some c.in-Some.light = ap (λ (s : State). index_named (lights_of s.engine.grid) (name_of_light c.args.named)) c.self.view_is ∙ sym c.light_index.ensures ∙ c.in-Some.is in
+    let start : SessionState = record { engine = g.E.Feasible.state left.engine; texts = texts_view left.texts; clues = left.clues; circles = left.circles; is_watched = left.is_watched; begun = left.begun } in
+    let found : index_named (lights_of start.engine.grid) (name_of_light c.args.named) ≡ Some c.in-Some.light = ap (λ (s : SessionState). index_named (lights_of s.engine.grid) (name_of_light c.args.named)) c.self.view_is ∙ sym c.light_index.ensures ∙ c.in-Some.is in
     let due = weighed_by start c.in-Some.light c.args.most c.args.first.now (index_named (lights_of start.engine.grid) (name_of_light c.args.named)) (Err c.in-Err.refusal) found (sym c.in-Err.is ∙ c.first_index.ensures) in
-    query_refused g.W.Sink.transcript g.W.Sink.failures c.args.self.now (queries.Choices c.args.named c.args.most c.args.first.now) c.in-Err.refusal _ _ _ (subst (λ (s : State). IsAnswer s (queries.Choices c.args.named c.args.most c.args.first.now) (Err c.in-Err.refusal)) c.self.view_is due) c.end_answer-in-Err.ensures.sends c.end_answer-in-Err.ensures.step
+    query_refused g.W.Sink.transcript g.W.Sink.failures c.args.self.now (queries.Choices c.args.named c.args.most c.args.first.now) (refusals.Engine c.in-Err.refusal) _ _ _ (subst (λ (s : SessionState). IsAnswer s (queries.Choices c.args.named c.args.most c.args.first.now) (Err (refusals.Engine c.in-Err.refusal))) c.self.view_is due) c.end_answer-in-Err.ensures.sends c.end_answer-in-Err.ensures.step
 
 pub returns-in_err-write_weighed-in-Ok-clause-unchanged : goal.returns-in_err-write_weighed-in-Ok-clause-unchanged
 returns-in_err-write_weighed-in-Ok-clause-unchanged g c = rw (c.write_weighed.ensures.unchanged, ← c.self.view_is) refl

@@ -5,18 +5,19 @@ use Rattle.xw_grid.specs.Grid.{Grid}
 use Rattle.xw_fill.specs.Listing.{unlisted_of}
 use Rattle.xw_commands.specs.declared.query.Query.TheVariants as queries
 use Rattle.xw_lines.specs.Device.{Begins}
-use Rattle.xw_answers.specs.Refusal.{refusal_of}
-use Rattle.xw_session.specs.State.{State}
+use Rattle.xw_session.specs.State.{SessionState}
 use Rattle.xw_answers.specs.Text.{spelled_line}
 use Rattle.xw_session.proofs.Answering.{query_answers, query_stops, query_unanswered}
 use Rattle.xw_session.proofs.session.Session.answer_unlisted.Goals as goal
+use Rattle.xw_feas.specs.declared.edit.Refusal.{Refusal}
+use Rattle.xw_answers.specs.declared.refusal.CommandRefusal.TheVariants as refusals
 
 pub returns-in_err-write_unlisted-in-Ok : goal.returns-in_err-write_unlisted-in-Ok
 returns-in_err-write_unlisted-in-Ok g c =
     let e = err_from_is_err_and c.from_residual.result c.from_residual.ensures.1 in
     let state = c.args.self.now in
-    let grid : c.grid.result.now ≡ state.engine.grid = c.grid.ensures ∙ ap (λ (s : State). s.engine.grid) c.self.view_is in
-    let found = c.deref.ensures.value ∙ c.in-Ok.ensures.lists ∙ ap (λ (s : State). unlisted_of s.engine) c.self.view_is in
+    let grid : c.grid.result.now ≡ state.engine.grid = c.grid.ensures ∙ ap (λ (s : SessionState). s.engine.grid) c.self.view_is in
+    let found = c.deref.ensures.value ∙ c.in-Ok.ensures.lists ∙ ap (λ (s : SessionState). unlisted_of s.engine) c.self.view_is in
     let lines : flat_map (spelled_line c.grid.result.now) c.deref.result.now ≡ flat_map (spelled_line state.engine.grid) (unlisted_of state.engine) =
     ap (λ (grid : Grid). flat_map (spelled_line grid) c.deref.result.now) grid ∙ ap (flat_map (spelled_line state.engine.grid)) found in
     let wrote = c.in_err-write_unlisted-in-Ok.ensures in
@@ -26,8 +27,8 @@ returns-in_err-write_unlisted-in-Ok g c =
 pub returns-in_ok-write_unlisted-in-Ok : goal.returns-in_ok-write_unlisted-in-Ok
 returns-in_ok-write_unlisted-in-Ok g c =
     let state = c.args.self.now in
-    let grid : c.grid.result.now ≡ state.engine.grid = c.grid.ensures ∙ ap (λ (s : State). s.engine.grid) c.self.view_is in
-    let found = c.deref.ensures.value ∙ c.in-Ok.ensures.lists ∙ ap (λ (s : State). unlisted_of s.engine) c.self.view_is in
+    let grid : c.grid.result.now ≡ state.engine.grid = c.grid.ensures ∙ ap (λ (s : SessionState). s.engine.grid) c.self.view_is in
+    let found = c.deref.ensures.value ∙ c.in-Ok.ensures.lists ∙ ap (λ (s : SessionState). unlisted_of s.engine) c.self.view_is in
     let lines : flat_map (spelled_line c.grid.result.now) c.deref.result.now ≡ flat_map (spelled_line state.engine.grid) (unlisted_of state.engine) =
     ap (λ (grid : Grid). flat_map (spelled_line grid) c.deref.result.now) grid ∙ ap (flat_map (spelled_line state.engine.grid)) found in
     let wrote = c.in_ok-write_unlisted-in-Ok.ensures in
@@ -36,4 +37,4 @@ returns-in_ok-write_unlisted-in-Ok g c =
 
 pub returns-in-Err : goal.returns-in-Err
 returns-in-Err g c =
-    query_unanswered g.W.Sink.transcript g.W.Sink.failures c.args.self.now queries.Unlisted _ c.from.result _ _ _ refl (ap Some (sym (c.from.ensures ∙ ap refusal_of c.in-Err.ensures.memory))) c.end_answer-in-Err.ensures.sends c.end_answer-in-Err.ensures.step
+    query_unanswered g.W.Sink.transcript g.W.Sink.failures c.args.self.now queries.Unlisted _ (refusals.Engine c.in-Err.refusal) _ _ _ refl (ap (λ (r : Refusal). Some (refusals.Engine r)) (sym c.in-Err.ensures.memory)) c.end_answer-in-Err.ensures.sends c.end_answer-in-Err.ensures.step

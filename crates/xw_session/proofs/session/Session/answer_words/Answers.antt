@@ -6,7 +6,8 @@ use Rattle.std.specs.Prelude.{length}
 use Rattle.xw_fill.specs.Position.{position_of}
 use Rattle.xw_fill.specs.FeasibleWords.{feasible_words}
 use Rattle.xw_commands.specs.declared.query.Query.TheVariants as queries
-use Rattle.xw_answers.specs.declared.refusal.Refusal.TheVariants as refusals
+use Rattle.xw_answers.specs.declared.refusal.CommandRefusal.TheVariants as refusals
+use Rattle.xw_feas.specs.declared.edit.Refusal.TheVariants as edits
 use Rattle.xw_answers.specs.Text.{counted_lines}
 use Rattle.xw_session.specs.Reply.{worded, first_words, name_of_light}
 use Rattle.xw_session.proofs.Answering.{query_answers, query_stops, query_refused}
@@ -38,4 +39,4 @@ returns-in_ok-write_counted-in-Some g c =
     (subst (λ (xs : List ℕ). g.W.Sink.transcript c.write_counted.new.sink ≡ g.W.Sink.transcript c.args.sink.now ++ xs) lines wrote.0, wrote.1) c.end_answer.ensures.sends c.end_answer.ensures.step
 
 pub returns-in-None : goal.returns-in-None
-returns-in-None g c = query_refused g.W.Sink.transcript g.W.Sink.failures c.args.self.now (queries.Words c.args.named c.args.most) refusals.NoLight _ _ _ (ap (λ light. worded c.args.self.now light c.args.most) c.in-None.ensures.none) c.end_answer-in-None.ensures.sends c.end_answer-in-None.ensures.step
+returns-in-None g c = query_refused g.W.Sink.transcript g.W.Sink.failures c.args.self.now (queries.Words c.args.named c.args.most) (refusals.Engine edits.NoLight) _ _ _ (ap (λ light. worded c.args.self.now light c.args.most) c.in-None.ensures.none) c.end_answer-in-None.ensures.sends c.end_answer-in-None.ensures.step

@@ -1,7 +1,9 @@
 use Rattle.std.proofs.Common.{◌≡◌, true, false, ap, ◌∙◌, subst}
 use Rattle.std.specs.Prelude.{Err}
 use Rattle.std.proofs.lemmas.Result.{err_from_is_err_and}
-use Rattle.xw_answers.specs.declared.refusal.Refusal.TheVariants.{Grid}
+use Rattle.xw_answers.specs.declared.refusal.CommandRefusal.TheVariants as refusals
+use Rattle.xw_feas.specs.declared.edit.Refusal.TheVariants as edits
+use Rattle.xw_grid.specs.declared.fault.GridFault.{GridFault}
 use Rattle.xw_grid.specs.Grid.{Grid as AnyGrid}
 use Rattle.xw_session.specs.Put.{CanPut}
 use Rattle.xw_session.specs.Reply.{grid_memory}
@@ -12,7 +14,7 @@ pub returns-in_err-put_text-clause-done : goal.returns-in_err-put_text-clause-do
 returns-in_err-put_text-clause-done g c =
     let e = err_from_is_err_and c.from_residual-in_err-put_text.result c.from_residual-in_err-put_text.ensures.1 in
     let can = subst (λ (grid : AnyGrid). CanPut grid c.args.field c.args.spelling.now c.in_ok-target.target) c.draft.view_is c.in_ok-target.ensures.ok in
-    let is : c.from_residual-in_err-put_text.result ≡ Err grid_memory = e.1 ∙ ap Err (e.2 ∙ ap Grid c.in_err-put_text.ensures.memory) in
+    let is : c.from_residual-in_err-put_text.result ≡ Err grid_memory = e.1 ∙ ap Err (e.2 ∙ ap (λ (fault : GridFault). refusals.Engine (edits.Grid fault)) c.in_err-put_text.ensures.memory) in
     rw is (put-memory c.args.self.now c.put_text.new.self c.args.draft.now c.args.putting c.args.field c.args.spelling.now c.in_ok-target.target can
     (λ none. let bad : false ≡ true = c.in_err-put_text.ensures.freed none in cc) c.in_err-put_text.ensures.err)
 

@@ -3,12 +3,12 @@ use Rattle.std.proofs.lemmas.List.{append-nil}
 use Rattle.std.specs.Prelude.{List, ℕ, None, Ok}
 use Rattle.xw_lines.specs.declared.outcome.Step.TheVariants.{Silent}
 use Rattle.xw_session.specs.Answer.{AnswersParsedBy}
-use Rattle.xw_session.specs.State.{State}
+use Rattle.xw_session.specs.State.{SessionState}
 use Rattle.xw_session.proofs.Answering.{line_answers, line_refused, not_silent}
 use Rattle.xw_session.proofs.session.Session.execute.Goals as goal
 
 -- a line without an answer
-line_silent : {S E : Type 0} (transcript : S → List ℕ) (failures : S → ℕ) (state : State) (sink : S) → AnswersParsedBy {E = E} transcript failures state (Ok None) (Ok Silent) state sink sink
+line_silent : {S E : Type 0} (transcript : S → List ℕ) (failures : S → ℕ) (state : SessionState) (sink : S) → AnswersParsedBy {E = E} transcript failures state (Ok None) (Ok Silent) state sink sink
 line_silent transcript failures state sink = record {
   outcome = Silent;
   answer = [];

@@ -2,7 +2,7 @@ use Rattle.std.proofs.Common.{Ok, ◌≡◌, subst}
 use Rattle.xw_letters.specs.LetterSet.{letters_in}
 use Rattle.xw_grid.specs.declared.cell.Cell.{Cell}
 use Rattle.xw_grid.specs.Puzzle.{texts_view}
-use Rattle.xw_session.specs.State.{State}
+use Rattle.xw_session.specs.State.{SessionState}
 use Rattle.xw_answers.specs.Text.{letters_line}
 use Rattle.xw_session.specs.Reply.{lettered, cell_of}
 use Rattle.xw_session.proofs.Engine.{lettered_is}
@@ -11,7 +11,7 @@ use Rattle.xw_session.proofs.session.Session.letters.Goals as goal
 pub returns-clause-ok : goal.returns-clause-ok
 returns-clause-ok g c =
     let left = c.self.inside in
-    let start : State = record { engine = g.E.Feasible.state left.engine; texts = texts_view left.texts; clues = left.clues; circles = left.circles; is_watched = left.is_watched; begun = left.begun } in
-    subst (λ (s : State). lettered s (cell_of c.args.spot) ≡ Ok (letters_line (letters_in c.in_ok-letters.letters))) c.self.view_is
+    let start : SessionState = record { engine = g.E.Feasible.state left.engine; texts = texts_view left.texts; clues = left.clues; circles = left.circles; is_watched = left.is_watched; begun = left.begun } in
+    subst (λ (s : SessionState). lettered s (cell_of c.args.spot) ≡ Ok (letters_line (letters_in c.in_ok-letters.letters))) c.self.view_is
     (subst (λ (cell : Cell). lettered start cell ≡ Ok (letters_line (letters_in c.in_ok-letters.letters))) c.in_ok-cell.ensures.ok.0
     (lettered_is start (g.E.Feasible.answers left.engine) c.in_ok-cell.cell c.in_ok-letters.letters (g.met.E.Feasible.exact left.engine) c.in_ok-letters.ensures))

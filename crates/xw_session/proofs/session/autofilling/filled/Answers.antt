@@ -1,13 +1,23 @@
 use Rattle.std.proofs.Common.{List, ◌∙◌, subst, arith}
-use Rattle.std.specs.Prelude.{IfOk}
+use Rattle.std.specs.Prelude.{IfOk, IfErr}
 use Rattle.xw_grid.specs.declared.cell.LightName.{LightName}
-use Rattle.xw_fill.specs.NamedFill.{IsAutofilled, is_named}
+use Rattle.xw_fill.specs.NamedFill.{IsAutofilled, IsRefusal, is_named}
+use Rattle.xw_session.proofs.Naming.{on_ok, unsearched}
 use Rattle.xw_session.proofs.session.autofilling.filled.Goals as goal
 
 pub returns-clause-ok : goal.returns-clause-ok
 returns-clause-ok g c =
     let before = g.E.Feasible.state c.args.engine.now in
     subst (λ (names : List LightName). IfOk c.autofill.result (IsAutofilled (is_named before names) before (g.E.Feasible.state c.autofill.new.engine))) (c.as_slice.ensures.value ∙ c.in_ok-names.ensures.ok) c.autofill.ensures.ok
+
+pub returns-clause-known : goal.returns-clause-known
+returns-clause-known g c = on_ok c.autofill.result c.in_ok-names.ensures.known
+
+pub returns-clause-refused : goal.returns-clause-refused
+returns-clause-refused g c =
+    let before = g.E.Feasible.state c.args.engine.now in
+    let names = c.as_slice.ensures.value ∙ c.in_ok-names.ensures.ok in
+    unsearched before _ c.autofill.result c.in_ok-names.ensures.known (subst (λ (names : List LightName). IfErr c.autofill.result (IsRefusal before names)) names c.autofill.ensures.refused)
 
 pub returns-clause-idle : goal.returns-clause-idle
 returns-clause-idle g c none =

@@ -1,14 +1,24 @@
 use Rattle.std.proofs.Common.{List, ◌∙◌, subst, arith}
-use Rattle.std.specs.Prelude.{IfOk}
+use Rattle.std.specs.Prelude.{IfOk, IfErr}
 use Rattle.xw_grid.specs.declared.cell.LightName.{LightName}
-use Rattle.xw_fill.specs.NamedFill.{is_named}
+use Rattle.xw_fill.specs.NamedFill.{IsRefusal, is_named}
 use Rattle.xw_fill.specs.Best.{IsBest}
+use Rattle.xw_session.proofs.Naming.{on_ok, unsearched}
 use Rattle.xw_session.proofs.session.besting.best_filled.Goals as goal
 
 pub returns-clause-ok : goal.returns-clause-ok
 returns-clause-ok g c =
     let before = g.E.Feasible.state c.args.engine.now in
     subst (λ (names : List LightName). IfOk c.best_fill.result (IsBest (is_named before names) before (g.E.Feasible.state c.best_fill.new.engine))) (c.as_slice.ensures.value ∙ c.in_ok-names.ensures.ok) c.best_fill.ensures.ok
+
+pub returns-clause-known : goal.returns-clause-known
+returns-clause-known g c = on_ok c.best_fill.result c.in_ok-names.ensures.known
+
+pub returns-clause-refused : goal.returns-clause-refused
+returns-clause-refused g c =
+    let before = g.E.Feasible.state c.args.engine.now in
+    let names = c.as_slice.ensures.value ∙ c.in_ok-names.ensures.ok in
+    unsearched before _ c.best_fill.result c.in_ok-names.ensures.known (subst (λ (names : List LightName). IfErr c.best_fill.result (IsRefusal before names)) names c.best_fill.ensures.refused)
 
 pub returns-clause-idle : goal.returns-clause-idle
 returns-clause-idle g c none =

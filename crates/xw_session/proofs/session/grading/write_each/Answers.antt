@@ -4,10 +4,10 @@ use Rattle.std.proofs.lemmas.Result.{err_from_is_err_and}
 use Rattle.xw_fill.specs.NamedFill.{AreLights}
 use Rattle.xw_commands.specs.declared.command.LightArg.{LightArg}
 use Rattle.xw_session.specs.Reply.{name_of_light}
-use Rattle.xw_session.specs.Autofill.{names_of}
+use Rattle.xw_session.specs.NamedSearch.{names_of}
 use Rattle.xw_session.specs.Grades.{named_line}
 use Rattle.xw_lines.proofs.SendsLemmas.{next_stops}
-use Rattle.xw_session.proofs.Autofilling.{IsLight, head_of, tail_of}
+use Rattle.xw_session.proofs.Naming.{IsLight, head_of, tail_of}
 use Rattle.xw_session.proofs.session.grading.write_each.Goals as goal
 
 pub loop-named-init : goal.loop-named-init

@@ -1,0 +1,13 @@
+use Rattle.std.proofs.Common.{refl, subst}
+use Rattle.xw_desk.specs.Desk.{Moment, Reports}
+use Rattle.xw_desk.proofs.Told.{goes_out}
+use Rattle.xw_desk.proofs.desk.Desk.report.Goals as goal
+
+pub returns : goal.returns
+returns g c =
+    rw (← c.self.view_is) (record {
+      reported = g.E.Sink.transcript c.write_all.new.sink;
+      failures = g.E.Sink.failures c.write_all.new.sink;
+      goes_out = goes_out g.E.Sink.transcript g.E.Sink.failures c.self.inside.errors c.write_all.new.sink c.write_all.result c.args.text.now c.write_all.ensures;
+      alone = refl;
+    })

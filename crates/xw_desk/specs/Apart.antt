@@ -1,0 +1,181 @@
+-- Files of a call that must differ, and the failure that says so.
+use Rattle.std.specs.Prelude.{◌≡◌, ◌⊎◌, ◌&&◌, ◌||◌, ℕ, Bool, true, false, not, bytes_eq, codes, is_some, List, Option, Some, None, option_map, IfSome}
+use Rattle.std.specs.Borrow.{Bor}
+use Rattle.xw_files.specs.declared.kind.Kind.TheVariants.{Puz}
+use Rattle.xw_desk.specs.declared.apart.Pair.{Pair}
+use Rattle.xw_desk.specs.declared.apart.Pair.TheVariants.{ListAndWritten, PuzzleAndSession, StartAndSession, StartAndPuzzle, InputAndWritten, OutputAndOther, OtherAndJournal}
+use Rattle.xw_desk.specs.declared.apart.Role.{Role}
+use Rattle.xw_desk.specs.declared.apart.Role.TheVariants.{Output, Kept, List as Words, Puzzle, Start, Commands, Input, Written, Session, Journal}
+use Rattle.xw_disk.specs.declared.disk.DiskFault.{DiskFault}
+use Rattle.xw_arguments.specs.declared.arguments.SessionFiles.{SessionFiles}
+use Rattle.xw_desk.specs.declared.failure.Failure.{Failure}
+use Rattle.xw_desk.specs.declared.failure.Failure.TheVariants as failures
+use Rattle.xw_desk.specs.Files.{IfNamed}
+use Rattle.xw_desk.specs.Told.{IsFaultOf, IsInUse}
+use Rattle.xw_desk.specs.Names.{IsKindNamed}
+
+-- this file cannot be written, because it is the word list
+abbrev pub IsOneFile : List ℕ → Failure → Type 0
+IsOneFile name (failures.OneFile file) = file.now ≡ name
+IsOneFile name other = ⊥
+
+-- this file is named for the puzzle and for the session
+abbrev pub IsTwoTexts : List ℕ → Failure → Type 0
+IsTwoTexts name (failures.TwoTexts file) = file.now ≡ name
+IsTwoTexts name other = ⊥
+
+-- this file is named for the session, and is the puzzle to start with
+abbrev pub IsOverPuzzle : List ℕ → Failure → Type 0
+IsOverPuzzle name (failures.OverPuzzle file) = file.now ≡ name
+IsOverPuzzle name other = ⊥
+
+-- this file is named for the puzzle, and has the commands to start with
+abbrev pub IsOverStart : List ℕ → Failure → Type 0
+IsOverStart name (failures.OverStart file) = file.now ≡ name
+IsOverStart name other = ⊥
+
+-- this file is named to be written, and is standard input
+abbrev pub IsOverInput : List ℕ → Failure → Type 0
+IsOverInput name (failures.OverInput file) = file.now ≡ name
+IsOverInput name other = ⊥
+
+-- this file is one of the call, and is standard output
+abbrev pub IsSharedOutput : List ℕ → Failure → Type 0
+IsSharedOutput name (failures.SharedOutput file) = file.now ≡ name
+IsSharedOutput name other = ⊥
+
+-- this file is named for the journal and has another role
+abbrev pub IsSharedJournal : List ℕ → Failure → Type 0
+IsSharedJournal name (failures.SharedJournal file) = file.now ≡ name
+IsSharedJournal name other = ⊥
+
+-- ---- which files must differ
+
+-- A file with the first role must not be the journal. Nor may it be the session or the puzzle to write, or a file that
+-- is read: `list` says whether this is the word list.
+abbrev pub pair_with_journal : Role → Option Pair
+pair_with_journal Output = Some OtherAndJournal
+pair_with_journal Input = Some OtherAndJournal
+pair_with_journal Words = Some OtherAndJournal
+pair_with_journal Written = Some OtherAndJournal
+pair_with_journal Session = Some OtherAndJournal
+pair_with_journal one = None
+
+abbrev pub pair_with_session : Role → Option Pair
+pair_with_session Output = Some OutputAndOther
+pair_with_session Words = Some ListAndWritten
+pair_with_session Puzzle = Some StartAndSession
+pair_with_session Commands = Some InputAndWritten
+pair_with_session Written = Some PuzzleAndSession
+pair_with_session one = None
+
+abbrev pub pair_with_puzzle : Role → Option Pair
+pair_with_puzzle Output = Some OutputAndOther
+pair_with_puzzle Kept = Some PuzzleAndSession
+pair_with_puzzle Words = Some ListAndWritten
+pair_with_puzzle Start = Some StartAndPuzzle
+pair_with_puzzle Commands = Some InputAndWritten
+pair_with_puzzle one = None
+
+abbrev pub pair_with_read : Role → Bool → Option Pair
+pair_with_read Output list = Some OutputAndOther
+pair_with_read Kept true = Some ListAndWritten
+pair_with_read one list = None
+
+-- why files with these roles must differ, if they must
+abbrev pub pair_of : Role → Role → Option Pair
+pair_of one Journal = pair_with_journal one
+pair_of one Session = pair_with_session one
+pair_of one Written = pair_with_puzzle one
+pair_of one Words = pair_with_read one true
+pair_of one Puzzle = pair_with_read one false
+pair_of one Start = pair_with_read one false
+pair_of one Commands = pair_with_read one false
+pair_of one other = None
+
+-- the file is named, and its name stands for standard input
+abbrev pub is_input : Option (Bor (List ℕ)) → Bool
+is_input None = false
+is_input (Some name) = bytes_eq name.now (codes "-")
+
+-- a file of the call is read from standard input
+abbrev pub reads_input : SessionFiles → Bool
+reads_input files = is_input files.dict || (is_input files.from_file || is_input files.resume_file)
+
+-- the name of the file with this role in the call; standard input has the name `-`
+abbrev pub name_of : SessionFiles → Role → Option (List ℕ)
+name_of files Words = option_map (λ name. name.now) files.dict
+name_of files Puzzle = option_map (λ name. name.now) files.from_file
+name_of files Start = option_map (λ name. name.now) files.resume_file
+name_of files Commands = Some (codes "-")
+name_of files Written = option_map (λ name. name.now) files.to_file
+name_of files Session = option_map (λ name. name.now) files.save_file
+name_of files Journal = option_map (λ name. name.now) files.journal_file
+name_of files role = None
+
+-- whether the call has a file with this role; commands come on standard input unless a file is read from it
+abbrev pub has : SessionFiles → Role → Bool
+has files Output = true
+has files Kept = is_some files.save_file
+has files Words = is_some files.dict
+has files Puzzle = is_some files.from_file
+has files Start = is_some files.resume_file
+has files Commands = not (reads_input files)
+has files Input = true
+has files Written = is_some files.to_file
+has files Session = is_some files.save_file
+has files Journal = is_some files.journal_file
+
+-- the failure for two files of a call that are one; the name is that of the second
+abbrev pub IsOfPair : Pair → List ℕ → Failure → Type 0
+IsOfPair ListAndWritten name failure = IsOneFile name failure
+IsOfPair PuzzleAndSession name failure = IsTwoTexts name failure
+IsOfPair StartAndSession name failure = IsOverPuzzle name failure
+IsOfPair StartAndPuzzle name failure = IsOverStart name failure
+IsOfPair InputAndWritten name failure = IsOverInput name failure
+IsOfPair OutputAndOther name failure = IsSharedOutput name failure
+IsOfPair OtherAndJournal name failure = IsSharedJournal name failure
+
+-- this file is named for the session, and its name asks for `.puz`
+abbrev pub IsNamedPuz : List ℕ → Failure → Type 0
+IsNamedPuz name (failures.SavedAsPuz file) = file.now ≡ name
+IsNamedPuz name other = ⊥
+
+abbrev pub IsSavedAsPuz : List ℕ → Failure → Type 0
+IsSavedAsPuz name failure = IsKindNamed name Puz × IsNamedPuz name failure
+
+-- the session has a name that asks for `.puz`
+abbrev pub IsRefusedPuz : Option (Bor (List ℕ)) → Failure → Type 0
+IsRefusedPuz saved failure = IfNamed saved (λ name. IsSavedAsPuz name failure)
+
+-- the word list and another file to start with are standard input
+abbrev pub IsReadTwice : SessionFiles → Failure → Type 0
+IsReadTwice files failure = (is_input files.dict && (is_input files.from_file || is_input files.resume_file) ≡ true) × (failure ≡ failures.InputTwice)
+
+-- files with these roles must differ, for this reason
+abbrev pub MustDiffer : Role → Role → Pair → Type 0
+MustDiffer one other pair = pair_of one other ≡ Some pair
+
+-- two files of the call have roles in which they must differ, and the failure names the second; or an allocation failed
+abbrev pub IsRefused : SessionFiles → Failure → Type 0
+IsRefused files failure =
+    (failure ≡ failures.Memory)
+    ⊎ ((one : Role) × (other : Role) × (pair : Pair) × MustDiffer one other pair × (has files one ≡ true) × IfSome (name_of files other) (λ name. IsOfPair pair name failure))
+
+-- two files are standard input, the session is written as `.puz`, or two files are one that must differ
+abbrev pub IsNotApart : SessionFiles → Failure → Type 0
+IsNotApart files failure = IsReadTwice files failure ⊎ (IsRefusedPuz files.save_file failure ⊎ IsRefused files failure)
+
+-- another program has a file to write as its journal
+abbrev pub IsRefusedJournal : Option (Bor (List ℕ)) → Failure → Type 0
+IsRefusedJournal written failure = IfNamed written (λ name. IsInUse name failure)
+
+abbrev pub AreInUse : SessionFiles → Failure → Type 0
+AreInUse files failure = IsRefusedJournal files.save_file failure ⊎ IsRefusedJournal files.to_file failure
+
+-- a file to write at the end cannot be written now
+abbrev pub IsRefusedWrite : Option (Bor (List ℕ)) → Failure → Type 0
+IsRefusedWrite written failure = IfNamed written (λ name. (fault : DiskFault) × IsFaultOf fault name failure)
+
+abbrev pub AreUnwritable : SessionFiles → Failure → Type 0
+AreUnwritable files failure = IsRefusedWrite files.save_file failure ⊎ IsRefusedWrite files.to_file failure

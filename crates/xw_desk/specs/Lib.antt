@@ -1,0 +1,10 @@
+pub mod Apart
+pub mod Checked
+pub mod ExitStatus
+pub mod Told
+pub mod Names
+pub mod Locations
+pub mod Sentences
+pub mod Desk
+pub mod Explained
+pub mod Files

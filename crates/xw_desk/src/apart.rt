@@ -1,0 +1,350 @@
+//! Keeps the files of a call apart: a file that is written must be no other file of the call, nor the journal of
+//! another program.
+ghost use Rattle.std.specs.Prelude.{◌≡◌, is_some, option_map, IfErr};
+ghost use Rattle.xw_desk.specs.Apart.{AreInUse, AreUnwritable, has, is_input, name_of, pair_of, reads_input, pair_with_journal, pair_with_puzzle, pair_with_read, pair_with_session, IsNotApart, IsOfPair, IsReadTwice, IsRefused, IsRefusedJournal, IsRefusedPuz, IsRefusedWrite};
+
+use crate::failure::{Failure, failure_of};
+use crate::names::kind_by_name;
+use xw_arguments::SessionFiles;
+use xw_disk::identity::INPUT_PATH;
+use xw_disk::system::source;
+use xw_disk::{CallFile, Disk};
+use xw_files::Kind;
+
+/// What a call does with a file.
+#[derive(Clone, Copy, Debug, PartialEq, Eq)]
+pub enum Role {
+    /// The file that standard output goes to.
+    Output,
+    /// The file that is kept beside the session.
+    Kept,
+    /// The word list.
+    List,
+    /// The puzzle to start with.
+    Puzzle,
+    /// The commands to start with.
+    Start,
+    /// The file of the commands that come on standard input.
+    Commands,
+    /// Whatever standard input is.
+    Input,
+    /// The puzzle to write.
+    Written,
+    /// The session to write.
+    Session,
+    /// The journal.
+    Journal,
+}
+
+/// All roles.
+const ROLES: [Role; 10] = [
+    Role::Output,
+    Role::Kept,
+    Role::List,
+    Role::Puzzle,
+    Role::Start,
+    Role::Commands,
+    Role::Input,
+    Role::Written,
+    Role::Session,
+    Role::Journal,
+];
+
+/// Two files of a call that must not be one.
+#[derive(Clone, Copy, Debug, PartialEq, Eq)]
+pub enum Pair {
+    /// The word list, and a file to write.
+    ListAndWritten,
+    /// The puzzle and the session to write.
+    PuzzleAndSession,
+    /// The puzzle to start with, and the session to write.
+    StartAndSession,
+    /// The commands to start with, and the puzzle to write.
+    StartAndPuzzle,
+    /// Standard input, and a file to write.
+    InputAndWritten,
+    /// Standard output, and another file.
+    OutputAndOther,
+    /// Another file, and the journal.
+    OtherAndJournal,
+}
+
+/// Returns why files with these roles must not be one, or `None` if they may be.
+fn pair_of(one: Role, other: Role) -> Option<Pair>
+    ensures { result ≡ pair_of one other }
+{
+    match other {
+        Role::Journal => pair_with_journal(one),
+        Role::Session => pair_with_session(one),
+        Role::Written => pair_with_puzzle(one),
+        Role::List => pair_with_read(one, true),
+        Role::Puzzle | Role::Start | Role::Commands => pair_with_read(one, false),
+        _ => None,
+    }
+}
+
+/// Returns why a file must not be the journal.
+fn pair_with_journal(one: Role) -> Option<Pair>
+    ensures { result ≡ pair_with_journal one }
+{
+    match one {
+        Role::Output | Role::Input | Role::List | Role::Written | Role::Session => {
+            Some(Pair::OtherAndJournal)
+        }
+        _ => None,
+    }
+}
+
+/// Returns why a file must not be the session to write.
+fn pair_with_session(one: Role) -> Option<Pair>
+    ensures { result ≡ pair_with_session one }
+{
+    match one {
+        Role::Output => Some(Pair::OutputAndOther),
+        Role::List => Some(Pair::ListAndWritten),
+        Role::Puzzle => Some(Pair::StartAndSession),
+        Role::Commands => Some(Pair::InputAndWritten),
+        Role::Written => Some(Pair::PuzzleAndSession),
+        _ => None,
+    }
+}
+
+/// Returns why a file must not be the puzzle to write.
+fn pair_with_puzzle(one: Role) -> Option<Pair>
+    ensures { result ≡ pair_with_puzzle one }
+{
+    match one {
+        Role::Output => Some(Pair::OutputAndOther),
+        Role::Kept => Some(Pair::PuzzleAndSession),
+        Role::List => Some(Pair::ListAndWritten),
+        Role::Start => Some(Pair::StartAndPuzzle),
+        Role::Commands => Some(Pair::InputAndWritten),
+        _ => None,
+    }
+}
+
+/// Returns why a file must not be one that is read.
+fn pair_with_read(one: Role, is_list: bool) -> Option<Pair>
+    ensures { result ≡ pair_with_read one is_list }
+{
+    match one {
+        Role::Output => Some(Pair::OutputAndOther),
+        Role::Kept if is_list => Some(Pair::ListAndWritten),
+        _ => None,
+    }
+}
+
+/// Returns the file of a call with a role, if there is one.
+fn file_of<'a>(files: SessionFiles<'a>, role: Role) -> Option<CallFile<'a>>
+    ensures { is_some result ≡ has files.entry role }
+{
+    match role {
+        Role::Output => Some(CallFile::Output),
+        Role::Kept => kept(files.save_file),
+        Role::List => read(files.dict),
+        Role::Puzzle => read(files.from_file),
+        Role::Start => read(files.resume_file),
+        Role::Commands if reads_input(files) => None,
+        Role::Commands => Some(CallFile::Input),
+        Role::Input => Some(CallFile::Named(INPUT_PATH)),
+        Role::Written => named(files.to_file),
+        Role::Session => named(files.save_file),
+        Role::Journal => named(files.journal_file),
+    }
+}
+
+/// Returns the file that one to write is kept as, if that is named.
+fn kept<'a>(name: Option<&'a str>) -> Option<CallFile<'a>>
+    ensures { is_some result ≡ is_some name.entry }
+{
+    match name {
+        Some(name) => Some(CallFile::Kept(name)),
+        None => None,
+    }
+}
+
+/// Returns a file to write, if it is named.
+fn named<'a>(name: Option<&'a str>) -> Option<CallFile<'a>>
+    ensures { is_some result ≡ is_some name.entry }
+{
+    match name {
+        Some(name) => Some(CallFile::Named(name)),
+        None => None,
+    }
+}
+
+/// Returns a file to read, if it is named.
+fn read<'a>(name: Option<&'a str>) -> Option<CallFile<'a>>
+    ensures { is_some result ≡ is_some name.entry }
+{
+    match name {
+        Some(name) => Some(source(name)),
+        None => None,
+    }
+}
+
+/// Returns the name of the file with a role in the call, if it has one. Standard input has the name `-`.
+fn name_of<'a>(named: SessionFiles<'a>, role: Role) -> Option<&'a str>
+    ensures { option_map (λ name. name.now) result ≡ name_of named.entry role }
+{
+    match role {
+        Role::List => named.dict,
+        Role::Puzzle => named.from_file,
+        Role::Start => named.resume_file,
+        Role::Commands => Some("-"),
+        Role::Written => named.to_file,
+        Role::Session => named.save_file,
+        Role::Journal => named.journal_file,
+        _ => None,
+    }
+}
+
+/// Refuses to read two files from standard input, to write the session as `.puz`, and to use one file for two roles in
+/// which its bytes would be lost.
+pub fn keep_apart<'a, D: Disk>(disk: &D, named: SessionFiles<'a>) -> Result<(), Failure<'a>>
+    ensures { IfErr result (λ failure. IsNotApart named.entry failure) }
+{
+    refuse_input_twice(named)?;
+    refuse_puz(named.save_file)?;
+    for one in ROLES {
+        refuse_with(disk, named, one)?;
+    }
+    Ok(())
+}
+
+/// Refuses another file with each role if it must not be this one.
+fn refuse_with<'a, D: Disk>(disk: &D, named: SessionFiles<'a>, one: Role) -> Result<(), Failure<'a>>
+    ensures { IfErr result (λ failure. IsRefused named.entry failure) }
+{
+    for other in ROLES {
+        refuse(disk, named, one, other)?;
+    }
+    Ok(())
+}
+
+/// Refuses the files with two roles if they must not be one and are one. The failure names the second.
+fn refuse<'a, D: Disk>(
+    disk: &D,
+    named: SessionFiles<'a>,
+    one: Role,
+    other: Role,
+) -> Result<(), Failure<'a>>
+    ensures { IfErr result (λ failure. IsRefused named.entry failure) }
+{
+    let (Some(pair), Some(name)) = (pair_of(one, other), name_of(named, other)) else {
+        return Ok(());
+    };
+    let (Some(first), Some(second)) = (file_of(named, one), file_of(named, other)) else {
+        return Ok(());
+    };
+    if disk.is_one_file(first, second)? {
+        return Err(failure_of_pair(pair, name));
+    }
+    Ok(())
+}
+
+/// Refuses to write the session over another file of the call that is not written itself.
+pub fn keep_session_apart<'a, D: Disk>(disk: &D, named: SessionFiles<'a>) -> Result<(), Failure<'a>>
+    ensures { IfErr result (λ failure. IsNotApart named.entry failure) }
+{
+    for role in ROLES {
+        if role != Role::Written {
+            refuse(disk, named, role, Role::Session)?;
+            refuse(disk, named, Role::Session, role)?;
+        }
+    }
+    Ok(())
+}
+
+/// Returns whether the name of a file stands for standard input.
+pub fn is_input(name: Option<&str>) -> bool
+    ensures { result ≡ is_input name.entry }
+{
+    match name {
+        Some(name) => name == "-",
+        None => false,
+    }
+}
+
+/// Refuses to read the word list and another file from standard input.
+fn refuse_input_twice<'a>(named: SessionFiles<'a>) -> Result<(), Failure<'a>>
+    ensures { IfErr result (λ failure. IsReadTwice named.entry failure) }
+{
+    if is_input(named.dict) && (is_input(named.from_file) || is_input(named.resume_file)) {
+        return Err(Failure::InputTwice);
+    }
+    Ok(())
+}
+
+/// Returns whether a call reads a file from standard input.
+fn reads_input(named: SessionFiles<'_>) -> bool
+    ensures { result ≡ reads_input named.entry }
+{
+    is_input(named.dict) || is_input(named.from_file) || is_input(named.resume_file)
+}
+
+/// Returns the failure for two files that are one. `file` is the name of the second.
+fn failure_of_pair<'a>(pair: Pair, file: &'a str) -> Failure<'a>
+    ensures { IsOfPair pair file.entry.now result }
+{
+    match pair {
+        Pair::ListAndWritten => Failure::OneFile { file },
+        Pair::PuzzleAndSession => Failure::TwoTexts { file },
+        Pair::StartAndSession => Failure::OverPuzzle { file },
+        Pair::StartAndPuzzle => Failure::OverStart { file },
+        Pair::InputAndWritten => Failure::OverInput { file },
+        Pair::OutputAndOther => Failure::SharedOutput { file },
+        Pair::OtherAndJournal => Failure::SharedJournal { file },
+    }
+}
+
+/// Refuses a name for the session that asks for `.puz`.
+fn refuse_puz<'a>(saved: Option<&'a str>) -> Result<(), Failure<'a>>
+    ensures { IfErr result (λ failure. IsRefusedPuz saved.entry failure) }
+{
+    match saved {
+        Some(file) if kind_by_name(file) == Kind::Puz => Err(Failure::SavedAsPuz { file }),
+        _ => Ok(()),
+    }
+}
+
+/// Refuses to write over the journal of another program.
+pub fn keep_free<'a, D: Disk>(disk: &D, named: SessionFiles<'a>) -> Result<(), Failure<'a>>
+    ensures { IfErr result (λ failure. AreInUse named.entry failure) }
+{
+    refuse_journal(disk, named.save_file)?;
+    refuse_journal(disk, named.to_file)
+}
+
+/// Refuses a file if another program has it as its journal.
+fn refuse_journal<'a, D: Disk>(disk: &D, written: Option<&'a str>) -> Result<(), Failure<'a>>
+    ensures { IfErr result (λ failure. IsRefusedJournal written.entry failure) }
+{
+    match written {
+        Some(file) if !disk.is_free(file) => Err(Failure::InUse { file }),
+        _ => Ok(()),
+    }
+}
+
+/// Refuses a file to write at the end that cannot be written now.
+pub fn keep_writable<'a, D: Disk>(disk: &mut D, named: SessionFiles<'a>) -> Result<(), Failure<'a>>
+    ensures why { IfErr result (λ failure. AreUnwritable named.entry failure) }
+    ensures log { D.log disk.new ≡ D.log disk.old }
+{
+    refuse_unwritable(disk, named.save_file)?;
+    refuse_unwritable(disk, named.to_file)
+}
+
+/// Refuses a file that cannot be written now.
+fn refuse_unwritable<'a, D: Disk>(disk: &mut D, written: Option<&'a str>) -> Result<(), Failure<'a>>
+    ensures why { IfErr result (λ failure. IsRefusedWrite written.entry failure) }
+    ensures log { D.log disk.new ≡ D.log disk.old }
+{
+    let Some(file) = written else {
+        return Ok(());
+    };
+    match disk.try_replace(file) {
+        Ok(()) => Ok(()),
+        Err(fault) => Err(failure_of(fault, file)),
+    }
+}

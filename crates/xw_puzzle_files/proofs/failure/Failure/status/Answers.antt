@@ -1,5 +1,0 @@
-use Rattle.std.proofs.Common.{rules}
-use Rattle.xw_puzzle_files.proofs.failure.Failure.status.Goals as goal
-
-pub returns-in-File : goal.returns-in-File
-returns-in-File c = search rules

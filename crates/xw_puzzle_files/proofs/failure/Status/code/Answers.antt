@@ -1,5 +1,0 @@
-use Rattle.std.proofs.Common.{rules}
-use Rattle.xw_puzzle_files.proofs.failure.Status.code.Goals as goal
-
-pub returns-in-Format : goal.returns-in-Format
-returns-in-Format c = search rules

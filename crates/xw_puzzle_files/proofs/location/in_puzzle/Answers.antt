@@ -1,5 +1,0 @@
-use Rattle.std.proofs.Common.{rules}
-use Rattle.xw_puzzle_files.proofs.location.in_puzzle.Goals as goal
-
-pub returns-in-NotFilled : goal.returns-in-NotFilled
-returns-in-NotFilled c = search rules
