@@ -1,6 +1,7 @@
 pub mod Answering
 pub mod Engine
 pub mod Naming
+pub mod LightStarts
 pub mod Searching
 pub mod Grading
 pub mod Reasoning

@@ -6,6 +6,7 @@ use Rattle.xw_words.specs.declared.fault.WordFault.TheVariants as words
 use Rattle.xw_letters.specs.Letter.{letter_of}
 use Rattle.xw_words.specs.Dictionary.{matching_answer}
 use Rattle.xw_grid.specs.declared.cell.Cell.{Cell}
+use Rattle.xw_grid.specs.declared.cell.Direction.{Direction}
 use Rattle.xw_grid.specs.declared.cell.LightName.{LightName}
 use Rattle.xw_grid.specs.declared.fault.GridFault.{GridFault}
 use Rattle.xw_grid.specs.declared.fault.GridFault.TheVariants as grids
@@ -112,10 +113,14 @@ abbrev pub erased : SessionState → Option Light → Result Reply CommandRefusa
 erased state None = Err (refusals.Engine edits.NoLight)
 erased state (Some light) = moved state (after state.engine (list_written (emptied (erased_cells state.engine light))))
 
--- the clue is stored at the light's start cell and direction
-abbrev pub with_clue_of : SessionState → Option Light → List ℕ → Result Reply CommandRefusal
-with_clue_of state None text = Err (refusals.Engine edits.NoLight)
-with_clue_of state (Some light) text = if has_nul text then Err refusals.NulByte else edited (record state { clues = with_clue state.clues light.start light.name.direction text })
+-- the first cell of the light that a command names
+abbrev pub start_named : Grid → LightArg → Option Cell
+start_named grid named = option_map (λ light. light.start) (light_named grid named)
+
+-- the clue is stored at the first cell of the light, in its direction
+abbrev pub with_clue_at : SessionState → Option Cell → Direction → List ℕ → Result Reply CommandRefusal
+with_clue_at state None direction text = Err (refusals.Engine edits.NoLight)
+with_clue_at state (Some start) direction text = if has_nul text then Err refusals.NulByte else edited (record state { clues = with_clue state.clues start direction text })
 
 -- the text replaces the one in the field
 abbrev pub written : SessionState → TextField → List ℕ → Result Reply CommandRefusal
@@ -248,7 +253,7 @@ changed state (changes.Place named word) = moved state (after state.engine (word
 changed state (changes.Erase named) = erased state (light_named state.engine.grid named)
 changed state (changes.Block spot) = moved state (after state.engine (block_toggled (cell_of spot)))
 changed state (changes.Bar spot side) = moved state (after state.engine (bar_toggled (cell_of spot) side))
-changed state (changes.Clue named text) = with_clue_of state (light_named state.engine.grid named) text
+changed state (changes.Clue named text) = with_clue_at state (start_named state.engine.grid named) named.direction text
 changed state (changes.Write field text) = written state field text
 changed state (changes.Circle spot) = circle_toggled state (cell_of spot)
 changed state (changes.Watch is_on) = edited (record state { is_watched = is_on })

@@ -9,6 +9,7 @@ mod erasing;
 mod grading;
 mod helping;
 mod matching;
+mod numbering;
 mod putting;
 mod queries;
 mod reasoning;

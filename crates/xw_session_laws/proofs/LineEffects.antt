@@ -5,6 +5,7 @@ use Rattle.xw_letters.specs.Letter.{IsLetter, letter_of}
 use Rattle.xw_words.specs.Dictionary.{with_least}
 use Rattle.xw_words.specs.declared.fault.WordFault.TheVariants as faults
 use Rattle.xw_grid.specs.declared.cell.Cell.{Cell}
+use Rattle.xw_grid.specs.declared.cell.Direction.{Direction}
 use Rattle.xw_grid.specs.declared.cell.Square.{Square}
 use Rattle.xw_grid.specs.declared.cell.Square.TheVariants as squares
 use Rattle.xw_grid.specs.declared.fault.GridFault.{GridFault}
@@ -52,7 +53,7 @@ use Rattle.xw_answers.specs.Escape.{text_spelled, has_nul}
 use Rattle.xw_session.specs.State.{SessionState, with_text_in, cell_of}
 use Rattle.xw_session.specs.Put.{target_of, has_target, text_at, with_text_at, with_piece}
 use Rattle.xw_answers.specs.Text.{word_line}
-use Rattle.xw_session.specs.Reply.{Reply, asked, changed, edited, shown, moved, watch_lines, with_letter, resized, with_clue_of, erased, written, circle_toggled, put, light_named, name_of_light, filling_line}
+use Rattle.xw_session.specs.Reply.{Reply, asked, changed, edited, shown, moved, watch_lines, with_letter, resized, with_clue_at, erased, written, circle_toggled, put, light_named, start_named, name_of_light, filling_line}
 use Rattle.xw_session_laws.proofs.SessionKept.{ok_state}
 use Rattle.xw_session_laws.proofs.GridsKept.{blank_good, letter_good, with_words_good, with_letter_good, with_word_good, emptied_good, with_orbit_good, with_bar_good, with_symmetry_good, square_good, filled_good}
 
@@ -197,11 +198,11 @@ module _ (state : SessionState) (is : IsGrid state.engine.grid) (reply : Reply) 
       good_at (record { lines = []; state = record state { engine = record { grid = grid; words = state.engine.words }; clues = no_clues; circles = [] } }) e (good grid refl)
   good_size (Err fault) good e = refused_not Good (refusals.Engine (edits.Grid fault)) e
 
-  good_clue : (light : Option Light) (text : List ℕ) → with_clue_of state light text ≡ Ok reply → Good
-  good_clue None text e = refused_not Good (refusals.Engine edits.NoLight) e
-  good_clue (Some light) text e =
-      by_test Good (has_nul text) (Err refusals.NulByte) (edited (record state { clues = with_clue state.clues light.start light.name.direction text })) (refused_not Good refusals.NulByte)
-      (λ _. good_edited (record state { clues = with_clue state.clues light.start light.name.direction text }) is) e
+  good_clue : (start : Option Cell) (direction : Direction) (text : List ℕ) → with_clue_at state start direction text ≡ Ok reply → Good
+  good_clue None direction text e = refused_not Good (refusals.Engine edits.NoLight) e
+  good_clue (Some start) direction text e =
+      by_test Good (has_nul text) (Err refusals.NulByte) (edited (record state { clues = with_clue state.clues start direction text })) (refused_not Good refusals.NulByte)
+      (λ _. good_edited (record state { clues = with_clue state.clues start direction text }) is) e
 
   good_text : (field : TextField) (text : List ℕ) → written state field text ≡ Ok reply → Good
   good_text field text e =
@@ -250,7 +251,7 @@ module _ (state : SessionState) (is : IsGrid state.engine.grid) (reply : Reply) 
   grid_changed (changes.Erase named) e = good_erased (light_named state.engine.grid named) e
   grid_changed (changes.Block at) e = good_moved (after state.engine (block_toggled (cell_of at))) (λ next. with_orbit_good state.engine next is (cell_of at)) e
   grid_changed (changes.Bar at side) e = good_moved (after state.engine (bar_toggled (cell_of at) side)) (λ next. with_bar_good state.engine next is (cell_of at) side) e
-  grid_changed (changes.Clue named text) e = good_clue (light_named state.engine.grid named) text e
+  grid_changed (changes.Clue named text) e = good_clue (start_named state.engine.grid named) named.direction text e
   grid_changed (changes.Write field text) e = good_text field text e
   grid_changed (changes.Circle at) e = good_circle (cell_of at) e
   grid_changed (changes.Watch is_on) e = good_edited (record state { is_watched = is_on }) is e

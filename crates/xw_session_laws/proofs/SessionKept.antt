@@ -1,6 +1,6 @@
 -- The properties of a session hold after every line.
 use Rattle.std.proofs.Common.{◌≡◌, ℕ, ◌<◌, Bool, true, false, not, ◌&&◌, ◌||◌, List, [], ◌∷◌, ◌++◌, map, get_or, Some, None, refl, sym, ◌∙◌, ap, subst, arith}
-use Rattle.std.specs.Prelude.{Option, Result, Ok, Err, nat_eq, nat_le, nat_lt, position as bad_at, if◌then◌else◌, slice_get, slice_index_or}
+use Rattle.std.specs.Prelude.{Option, option_map, Result, Ok, Err, nat_eq, nat_le, nat_lt, position as bad_at, if◌then◌else◌, slice_get, slice_index_or}
 use Rattle.std.specs.Option.{option_and_then}
 use Rattle.std.proofs.lemmas.List.Folds.{list_any-append}
 use Rattle.std.proofs.lemmas.Option.{slice_get_within, get_or_from_slice_get}
@@ -59,7 +59,7 @@ use Rattle.xw_answers.specs.Escape.{text_spelled, has_nul}
 use Rattle.xw_session.specs.State.{SessionState, with_text_in, cell_of}
 use Rattle.xw_session.specs.Put.{target_of, has_target, text_of_field, text_at, with_text_at, with_piece}
 use Rattle.xw_answers.specs.Text.{word_line}
-use Rattle.xw_session.specs.Reply.{asked, changed, Reply, edited, shown, moved, watch_lines, with_letter, resized, with_clue_of, erased, written, circle_toggled, put, light_named, name_of_light, filling_line}
+use Rattle.xw_session.specs.Reply.{asked, changed, Reply, edited, shown, moved, watch_lines, with_letter, resized, with_clue_at, erased, written, circle_toggled, put, light_named, name_of_light, filling_line}
 use Rattle.xw_session_laws.specs.Replay.{BarsAreOnEdges, AreFrom, AreTextsFrom, clues_of, BeganWith, SessionsBegin}
 use Rattle.xw_session_laws.proofs.InOrder.{plain_at}
 use Rattle.xw_session_laws.proofs.KeptInOrder.{circle_kept, clue_kept, cells_there, texts_there}
@@ -319,11 +319,11 @@ module _ (words : Dictionary) (state : SessionState) (is : BeganWith words state
         left_at (record { lines = []; state = record state { engine = record { grid = grid; words = state.engine.words }; clues = no_clues; circles = [] } }) (λ good. with_size grid (only grid refl) good) e
     by_size (Err fault) only e = not_refused (refusals.Engine (edits.Grid fault)) e
 
-    by_light : (light_found : Option Light) (text : List ℕ) → ((light : Light) → light_found ≡ Some light → is_inside state.engine.grid light.start ≡ true) → with_clue_of state light_found text ≡ Ok reply → Kept
-    by_light None text starts e = not_refused (refusals.Engine edits.NoLight) e
-    by_light (Some light) text starts e =
-        by_test (has_nul text) (Err refusals.NulByte) (edited (record state { clues = with_clue state.clues light.start light.name.direction text })) (λ _ e. not_refused refusals.NulByte e)
-        (λ plain e. when_edited (record state { clues = with_clue state.clues light.start light.name.direction text }) (with_clues (with_clue state.clues light.start light.name.direction text) (clue_kept state.engine.grid wide state.clues light.start light.name.direction text (starts light refl) plain is.clues)) e) e
+    by_light : (light_found : Option Light) (direction : Direction) (text : List ℕ) → ((light : Light) → light_found ≡ Some light → is_inside state.engine.grid light.start ≡ true) → with_clue_at state (option_map (λ (light : Light). light.start) light_found) direction text ≡ Ok reply → Kept
+    by_light None direction text starts e = not_refused (refusals.Engine edits.NoLight) e
+    by_light (Some light) direction text starts e =
+        by_test (has_nul text) (Err refusals.NulByte) (edited (record state { clues = with_clue state.clues light.start direction text })) (λ _ e. not_refused refusals.NulByte e)
+        (λ plain e. when_edited (record state { clues = with_clue state.clues light.start direction text }) (with_clues (with_clue state.clues light.start direction text) (clue_kept state.engine.grid wide state.clues light.start direction text (starts light refl) plain is.clues)) e) e
 
     by_text : (field : TextField) (text : List ℕ) → written state field text ≡ Ok reply → Kept
     by_text field text e =
@@ -401,7 +401,7 @@ module _ (words : Dictionary) (state : SessionState) (is : BeganWith words state
     change_kept (changes.Block at) e = by_edit (block_toggled (cell_of at)) e
     change_kept (changes.Bar at side) e = by_edit (bar_toggled (cell_of at) side) e
     change_kept (changes.Clue named text) e =
-        by_light (light_named state.engine.grid named) text (λ light is_found. light_starts state.engine.grid (index_named (lights_of state.engine.grid) (name_of_light named)) light is_found) e
+        by_light (light_named state.engine.grid named) named.direction text (λ light is_found. light_starts state.engine.grid (index_named (lights_of state.engine.grid) (name_of_light named)) light is_found) e
     change_kept (changes.Write field text) e = by_text field text e
     change_kept (changes.Circle at) e = by_circle (cell_of at) e
     change_kept (changes.Watch is_on) e = when_edited (record state { is_watched = is_on }) (with_watch is_on) e

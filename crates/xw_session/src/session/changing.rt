@@ -4,7 +4,7 @@ ghost use Rattle.xw_grid.specs.Grid.{Grid as AnyGrid, is_inside, is_open as is_o
 ghost use Rattle.xw_grid.specs.Light.{lights_of};
 ghost use Rattle.xw_grid.specs.Clue.{is_circled, with_circle};
 ghost use Rattle.xw_answers.specs.Escape.{has_nul as has_nul_byte};
-ghost use Rattle.xw_session.specs.Reply.{light_named as light_named_so, circle_toggled};
+ghost use Rattle.xw_session.specs.Reply.{light_named as light_named_so, start_named, circle_toggled};
 ghost use Rattle.xw_session.specs.State.{SessionState, cell_of, drawn, with_text_in};
 ghost use Rattle.xw_session.specs.Answer.{Edits};
 
@@ -51,7 +51,7 @@ pub(crate) fn circle_cell(grid: &Grid, spot: CellArg) -> Result<Cell, Refusal>
 }
 
 /// Returns the light that a command names in a grid with these lights.
-pub(crate) fn light_in(grid: &Grid, lights: &Lights, named: LightArg) -> Option<Light>
+fn light_in(grid: &Grid, lights: &Lights, named: LightArg) -> Option<Light>
     requires { lights.now ≡ lights_of grid.now }
     ensures { result ≡ light_named_so grid.now named }
 {
@@ -60,6 +60,14 @@ pub(crate) fn light_in(grid: &Grid, lights: &Lights, named: LightArg) -> Option<
         Some(name) => light_named(lights, name),
         None => None,
     }
+}
+
+/// Returns the first cell of the light that a command names in a grid with these lights.
+pub(crate) fn start_in(grid: &Grid, lights: &Lights, named: LightArg) -> Option<Cell>
+    requires { lights.now ≡ lights_of grid.now }
+    ensures { result ≡ start_named grid.now named }
+{
+    Some(light_in(grid, lights, named)?.start)
 }
 
 impl<E: Feasible> Session<E> {
@@ -85,25 +93,32 @@ impl<E: Feasible> Session<E> {
         light_in(self.engine.grid(), self.engine.lights(), named)
     }
 
+    /// Returns the first cell of the light that a command names.
+    fn start(&self, named: LightArg) -> Option<Cell>
+        ensures { result ≡ start_named self.now.engine.grid named }
+    {
+        start_in(self.engine.grid(), self.engine.lights(), named)
+    }
+
     pub(crate) fn set_clue(&mut self, named: LightArg, text: &[u8]) -> Ended
         ensures { Edits self.old (changes.Clue named text.now) result self.new }
     {
-        self.keep_clue(self.light(named), text)
+        self.keep_clue(named, self.start(named), text)
     }
 
-    /// Replaces the clue of a light of any grid, or refuses this if there is no light.
-    pub(crate) fn keep_clue(&mut self, light: Option<Light>, text: &[u8]) -> Ended
-        ensures done { (grid : AnyGrid) (named : LightArg) → light_named_so grid named ≡ light → Edits (drawn self.old grid) (changes.Clue named text.now) result (drawn self.new grid) }
+    /// Replaces the clue of a light of any grid that begins at a cell, or refuses this if there is no light.
+    pub(crate) fn keep_clue(&mut self, named: LightArg, start: Option<Cell>, text: &[u8]) -> Ended
+        ensures done { (grid : AnyGrid) → start_named grid named ≡ start → Edits (drawn self.old grid) (changes.Clue named text.now) result (drawn self.new grid) }
         ensures engine { self.new.engine ≡ self.old.engine }
         ensures begun { self.new.begun ≡ self.old.begun }
     {
-        let Some(light) = light else {
+        let Some(start) = start else {
             return Err(CommandRefusal::Engine(Refusal::NoLight));
         };
         if has_nul(text) {
             return Err(CommandRefusal::NulByte);
         }
-        self.clues.set(light.start, light.name.direction, text)?;
+        self.clues.set(start, named.direction, text)?;
         Ok(())
     }
 

@@ -13,7 +13,7 @@ ghost use Rattle.xw_commands.specs.declared.change.Change.{Change as AnyChange};
 ghost use Rattle.xw_commands.specs.declared.change.Change.TheVariants as changes;
 ghost use Rattle.xw_commands.specs.declared.command.Command.TheVariants as commands;
 ghost use Rattle.xw_session.specs.Answer.{Asks, Edits, IsExecuted};
-ghost use Rattle.xw_session.specs.Reply.{light_named as light_named_so};
+ghost use Rattle.xw_session.specs.Reply.{start_named as start_named_so};
 ghost use Rattle.xw_session.specs.Resuming.{is_memory as is_want_of_memory, refused_line};
 ghost use Rattle.xw_session.specs.State.{SessionState, drawn};
 ghost use Rattle.xw_session.specs.Redrawn.{IsDrawn, IsMade, IsNoted, IsRedrawn, is_shown};
@@ -21,8 +21,9 @@ ghost use Rattle.xw_session.specs.Redrawn.{IsDrawn, IsMade, IsNoted, IsRedrawn, 
 use crate::resuming::{command_in, is_memory, report};
 use crate::session::Session;
 use crate::session::asking::{bar, block, clear, place as place_edit, set};
-use crate::session::changing::{circle_cell, light_in};
+use crate::session::changing::{circle_cell, start_in};
 use crate::session::ending::Ended;
+use crate::session::numbering::start_named;
 use crate::session::putting::put_target;
 use std::alloc::Global;
 use std::marker::Model;
@@ -33,7 +34,7 @@ use xw_feas::edit::{Edit, Refusal};
 use xw_feas::feasible::Feasible;
 use xw_feas::place::place;
 use xw_grid::puzzle::{Puzzle, Texts};
-use xw_grid::{Cell, Circles, Clues, Grid, Light, LightName, Lights};
+use xw_grid::{Cell, Circles, Clues, Grid, LightName, Lights};
 use xw_letters::Letter;
 use xw_text::lines::first_line;
 
@@ -94,12 +95,14 @@ fn edit_of<'a>(grid: &Grid, change: &'a Change<'_>) -> Option<Result<Edit<'a>, R
     }
 }
 
-/// A copy of the grid that a replay edits, and its lights once a line has asked for them.
+/// A copy of the grid that a replay edits, and its lights once lines have asked for them. `is_reshaped` tells that no
+/// line has asked for a light since the lights last changed.
 #[derive(Drop)]
 struct Draft {
     alloc: Global,
     grid: Grid,
     lights: Option<Lights>,
+    is_reshaped: bool,
 }
 
 impl Model for Draft {
@@ -122,6 +125,7 @@ impl Draft {
             alloc,
             grid,
             lights: None,
+            is_reshaped: true,
         }
     }
 
@@ -141,14 +145,19 @@ impl Draft {
         self.lights.is_some()
     }
 
-    /// Returns the light that a command names. Returns `None` if an allocation fails.
-    fn light(&mut self, named: LightArg) -> Option<Option<Light>>
-        ensures some { IfSome result (λ light. light_named_so self.old named ≡ light) }
+    /// Returns the first cell of the light that a command names. Returns `None` if an allocation fails. The first
+    /// question after a change of the lights finds the one light alone, and the next one all lights.
+    fn start(&mut self, named: LightArg) -> Option<Option<Cell>>
+        ensures some { IfSome result (λ start. start_named_so self.old named ≡ start) }
         ensures same { self.new ≡ self.old }
     {
+        if self.is_reshaped {
+            self.is_reshaped = false;
+            return Some(start_named(&self.grid, named));
+        }
         self.find_lights();
         match &self.lights {
-            Some(lights) => Some(light_in(&self.grid, lights, named)),
+            Some(lights) => Some(start_in(&self.grid, lights, named)),
             None => None,
         }
     }
@@ -176,6 +185,7 @@ impl Draft {
             Edit::Place(name, word) => self.place(name, word),
             _ => {
                 self.lights = None;
+                self.is_reshaped = true;
                 reshape(&mut self.grid, edit)
             }
         }
@@ -329,8 +339,8 @@ impl<E: Feasible> Session<E> {
         ensures engine { self.new.engine ≡ self.old.engine }
         ensures begun { self.new.begun ≡ self.old.begun }
     {
-        match draft.light(named) {
-            Some(light) => Some(self.keep_clue(light, text)),
+        match draft.start(named) {
+            Some(start) => Some(self.keep_clue(named, start, text)),
             None => None,
         }
     }
