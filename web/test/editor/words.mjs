@@ -215,12 +215,13 @@ export const CASES = {
 
   async 'a key while choices are counted'() {
     await begin(1);
-    // notes when an edit goes to the worker, and the answers that come back
+    // notes when an edit goes to the worker, and the answers that come back; queries go right before it, the first of which keeps the worker busy
     await browser.value(`(() => {
       const post = Worker.prototype.postMessage;
       Worker.prototype.postMessage = function (message, transfer) {
         window.engineWorker ??= this;
         if (message.call === 'edit' && window.told) {
+          for (const count of [1000, ...Array(40).fill(40)]) post.call(this, { id: 'choices', call: 'ask', sent: { line: \`choices 5 across \${count}\` } });
           window.told.push('key');
           window.keyId = message.id;
         }
@@ -232,8 +233,6 @@ export const CASES = {
     await browser.value(`(() => {
       window.told = [];
       window.engineWorker.addEventListener('message', ({ data }) => window.told.push(data.id));
-      // the first query keeps the worker busy until the key is there
-      for (const count of [400, ...Array(40).fill(40)]) window.engineWorker.postMessage({ id: 'choices', call: 'ask', sent: { line: \`choices 5 across \${count}\` } });
       document.getElementById('grid').dispatchEvent(new KeyboardEvent('keydown', { key: 'p', bubbles: true, cancelable: true }));
     })()`);
     await browser.until("window.told.filter((id) => id === 'choices').length === 41");
