@@ -1,4 +1,5 @@
 // The page: it joins the views with the session.
+import { AllWords } from './all-words.js';
 import { Claim } from './claim.js';
 import { ClueBank } from './clue-bank.js';
 import { CluesView } from './clues.js';
@@ -27,6 +28,7 @@ import { $, isText } from './page.js';
 import { PrintDialog } from './printing.js';
 import { Reasons } from './reasons.js';
 import { Shelf } from './shelf.js';
+import { speak } from './spoken.js';
 import { StandingView } from './standing.js';
 import { start, workers } from './start.js';
 import { Tabs } from './tabs.js';
@@ -74,6 +76,8 @@ const grid = new GridView(editor, $('grid'), {
   edit,
   mayEdit,
   why: () => reasons.ask().catch(() => {}),
+  speak,
+  colour: (index, colour, stroke) => edits.colour(index, colour, stroke),
   askEntry,
   filter: () => tabs.toField('words', 'filter'),
   escape: () => {
@@ -87,6 +91,10 @@ new StandingView(editor, $('standing'), faults, { add: (word) => edits.add(word)
 new CrossingsView(editor, $('crossings'), goTo);
 new WarningsView(editor, faults, { button: $('rules'), count: $('rules-count'), tab: $('tab-puzzle') }, () => tabs.show('puzzle'));
 const reasons = new Reasons(editor, () => !filler.isRunning);
+const isWide = matchMedia('(min-width: 1600px)');
+const ofWords = {
+  strike: (word) => edits.strike(word), regrade: (word, score) => lists.regrade(word, score), toGrid, isFilling: () => filler.isRunning,
+};
 const words = new WordsView(
   editor,
   {
@@ -94,18 +102,25 @@ const words = new WordsView(
     legend: $('legend'), letters: $('letters'), coordinates: $('cell-coordinates'),
   },
   {
-    place: (word, needs) => edits.place(word, needs), strike: (word) => edits.strike(word), toGrid, isFilling: () => filler.isRunning,
-    enter: (letter) => grid.enter(letter),
+    ...ofWords, light: () => editor.light, isShown: () => true, place: (word, needs) => edits.place(word, needs), enter: (letter) => grid.enter(letter),
   },
 );
-$('candidates').addEventListener('scroll', () => words.scrolled());
+// in a wide window the other light of the cell has its words beside them
+const crossingWords = new WordsView(
+  editor,
+  { name: $('crossing-name'), summary: $('crossing-summary'), list: $('crossing-candidates'), legend: $('crossing-legend') },
+  { ...ofWords, light: () => editor.crossing, isShown: () => isWide.matches, place: (word, needs) => edits.place(word, needs, editor.crossing), enter: () => {} },
+);
+isWide.addEventListener('change', () => crossingWords.soon());
 const bank = new ClueBank(editor);
+const allWords = new AllWords(editor);
 const clues = new CluesView(
   editor,
   { list: $('clue-list'), summary: $('clue-summary'), lengths: $('clue-lengths') },
   {
     text: editText, texts: (texts) => edits.addLengths(texts), toGrid, use: (light, clue) => edits.useClue(light, clue), keep: (light) => edits.keepClue(light),
-    former: (word) => bank.of(word), leave,
+    former: (word) => bank.of(word), leave, note: (light, text) => edits.note(light, text), link: (light, text) => edits.link(light, text),
+    words: () => allWords.get(),
   },
 );
 const details = new DetailsView(

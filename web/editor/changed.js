@@ -1,10 +1,14 @@
 // What a step of the history changes outside of the grid, so that it can be said and shown.
+import { isCellField } from './rebus.js';
 import { bodyOf, wordsOf } from './record.js';
 
 /** @typedef {import('./state.js').Step} Step */
 
-// The lines of a step, with those of the words that clues were written for.
-const linesOf = ({ record, written }) => [...wordsOf(record), ...bodyOf(record), ...written.map((pair) => `written ${pair.join(' ')}`)];
+// The lines of a step, with those of the words that clues were written for, and of what is kept beside the record.
+const linesOf = ({ record, written, originals }) => [
+  ...wordsOf(record), ...bodyOf(record), ...written.map((pair) => `written ${pair.join(' ')}`),
+  ...originals.filter(([field]) => !isCellField(field)).map((pair) => `kept ${pair.join(' ')}`),
+];
 
 // The lines that one of two steps has alone.
 function linesBetween(one, other) {
@@ -14,8 +18,9 @@ function linesBetween(one, other) {
 
 // The lines of a kind, the tab that shows it, what a line is about, and what several are.
 const KINDS = [
-  { pattern: /^(?:text|more|written) clue (\d+ \d+) (\w+)/, tab: 'clues', nameOf: (titled, ...place) => `the clue of ${titled(...place)}`, several: 'clues' },
-  { pattern: /^(?:text|more) (\w+)/, tab: 'puzzle', nameOf: (_, field) => `the ${field}`, several: 'texts' },
+  { pattern: /^kept note (\d+ \d+) (\w+)/, tab: 'clues', nameOf: (titled, ...place) => `the note on ${titled(...place)}`, several: 'notes' },
+  { pattern: /^(?:text|more|written|kept(?= (?:link|clue))) (?:clue|link) (\d+ \d+) (\w+)/, tab: 'clues', nameOf: (titled, ...place) => `the clue of ${titled(...place)}`, several: 'clues' },
+  { pattern: /^(?:text|more|kept(?! (?:colour|note|link|clue) )) (\w+)/, tab: 'puzzle', nameOf: (_, field) => `the ${field}`, several: 'texts' },
   { pattern: /^(?:add|strike) (\w+)/, tab: 'puzzle', nameOf: (_, word) => `${word} in the words of this puzzle`, several: 'words of this puzzle' },
   { pattern: /^sym /, tab: '', nameOf: () => 'the symmetry', several: '' },
 ];

@@ -1,7 +1,8 @@
 // The bank of clues: those of all puzzles that the browser keeps, by the words that they were written for.
 import { whenIdle } from './idle.js';
+import { isReference } from './links.js';
 import { dropClues, keepClues, keptClues, makeBank, storedPuzzles } from './keep.js';
-import { nearestText, parseRecord, placeOf, unescapeText } from './record.js';
+import { engineText, parseRecord, placeOf, unescapeText } from './record.js';
 
 export class ClueBank {
   /** @type {import('./editor.js').Editor} */
@@ -46,7 +47,7 @@ function cluesIn({ puzzle, record, written = [], originals = [], at = Date.now()
   return [...state.texts].filter(([field, spelled]) => spelled && field.startsWith('clue ')).flatMap(([field, spelled]) => {
     const word = words.get(field) ?? wordAt(state, field);
     const [text, original] = [unescapeText(spelled), typed.get(field)];
-    return word ? [{ word, clue: original !== undefined && nearestText(original).near === text ? original : text, puzzle, at }] : [];
+    return word && !isReference(text) ? [{ word, clue: original !== undefined && engineText(original).near === text ? original : text, puzzle, at }] : [];
   });
 }
 

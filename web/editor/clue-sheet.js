@@ -1,13 +1,14 @@
 // Clues as a sheet: a table in CSV or in HTML, with the answers and the lengths of their words.
+import { partsOfText, withoutItalics } from './marks.js';
 
-// The rows of the sheet: number, direction, clue, enumeration, answer.
-function sheetRows(board, textOf, enumerationOf, answerOf) {
+// The rows of the sheet: number, direction, clue, enumeration, answer. `cluedBy` tells what a clue is for, and `isLinked` whether it leads to another one.
+function sheetRows(board, textOf, enumerationOf, { answerOf, cluedBy, isLinked }) {
   const order = ['across', 'down'].flatMap((direction) => board.lights.filter((light) => light.direction === direction));
   return order.map((light) => {
     const clue = textOf(`clue ${light.name}`);
-    const answer = answerOf(light);
-    const { text, enumeration } = enumerationOf(clue, answer.length);
-    return [light.number, light.direction === 'across' ? 'Across' : 'Down', text, enumeration, answer.replaceAll('.', '?')];
+    const { numbers, answer } = cluedBy(light);
+    const { text, enumeration } = isLinked(light) ? { text: clue, enumeration: '' } : enumerationOf(clue, answer.length);
+    return [numbers, light.direction === 'across' ? 'Across' : 'Down', text, enumeration, answerOf(light).replaceAll('.', '?')];
   });
 }
 
@@ -16,12 +17,13 @@ const HEADS = ['Number', 'Direction', 'Clue', 'Length', 'Answer'];
 // Spreadsheets take a text for UTF-8 by its byte order mark. A field that begins like a formula gets an apostrophe, so that none is run.
 export function csvOf(...of) {
   const quoted = (field) => `"${String(field).replace(/^[=+@-]/, "'$&").replaceAll('"', '""')}"`;
-  return `\ufeff${[HEADS, ...sheetRows(...of)].map((row) => row.map(quoted).join(',')).join('\r\n')}\r\n`;
+  return `\ufeff${[HEADS, ...sheetRows(...of)].map((row) => row.map((field) => quoted(withoutItalics(String(field)))).join(',')).join('\r\n')}\r\n`;
 }
 
 export function htmlOf(board, textOf, ...more) {
   const safe = (text) => String(text).replaceAll('&', '&amp;').replaceAll('<', '&lt;').replaceAll('>', '&gt;').replaceAll('"', '&quot;');
-  const row = (cells, name) => `<tr>${cells.map((cell) => `<${name}>${safe(cell)}</${name}>`).join('')}</tr>`;
+  const marked = (text) => partsOfText(String(text)).map((part) => (part.isItalic ? `<i>${safe(part.text)}</i>` : safe(part.text))).join('');
+  const row = (cells, name) => `<tr>${cells.map((cell) => `<${name}>${marked(cell)}</${name}>`).join('')}</tr>`;
   const title = safe(textOf('title') || 'Crossword');
   const cell = 'td,th{padding:4px 12px;border-bottom:1px solid #999;text-align:left;vertical-align:top}';
   const style = `body{font:16px Georgia,serif;margin:2em}table{border-collapse:collapse}${cell}`;

@@ -1,6 +1,8 @@
-// The tab of clues: one list of all lights, with a field for each.
+// The tab of clues: one list of all lights, with a field for each, and what belongs to the clue of the light under the cursor.
+import { ClueMore } from './clue-more.js';
 import { hasEnumeration, withEnumeration } from './enumeration.js';
-import { put } from './page.js';
+import { hasItalics, toggledItalics } from './marks.js';
+import { nodesOfText, put } from './page.js';
 import { termed } from './terms.js';
 import { titleOf } from './words.js';
 import { staleClues, staleWord } from './written.js';
@@ -20,21 +22,23 @@ export class CluesView {
   // old clues for the word of the cursor's light, and what they are shown for
   #offers = Object.assign(document.createElement('div'), { className: 'offers', hidden: true });
   #offered = '';
+  #more;
   // whether the tab is in sight
   isShown = false;
 
   // `lengths` is the button that gives all clues an enumeration. `actions`: `text` sets the text of a field, `texts` those of several in one step, `use`
   // the clue of a light, `keep` keeps a clue for the word that is there, `former` promises the clues that a
-  // word had before, and `leave` leaves a field by Esc.
+  // word had before, `leave` leaves a field by Esc; `note` and `link` keep a private note and a link, and `words` promises all words of the lists.
   constructor(editor, { list: root, summary, lengths }, actions) {
     this.#editor = editor;
     this.#root = root;
     this.#summary = summary;
     this.#lengths = lengths;
     this.actions = actions;
+    this.#more = new ClueMore(editor, { ...actions, italics: (light) => this.#toggleItalics(this.#fields.get(light.name).field) });
     lengths.addEventListener('click', () => this.#addLengths());
     root.addEventListener('click', (event) => this.#click(event.target.closest('button')));
-    root.addEventListener('input', (event) => this.#showLength(event.target));
+    root.addEventListener('input', (event) => this.#typed(event.target));
     editor.on(['board', 'written'], () => this.draw());
     editor.on(['letters'], () => this.#wordsSoon());
     editor.on(['cursor'], () => this.#mark());
@@ -45,9 +49,10 @@ export class CluesView {
 
   draw() {
     const { board } = this.#editor;
-    const names = board.lights.map((light) => light.name).join();
+    const { heads, headOf } = this.#editor.links;
+    const names = [board.lights.map((light) => light.name), [...heads].flat(2).map(({ name }) => name)].join();
     const left = names === this.names ? null : this.#fieldInUse;
-    if (names !== this.names) this.#make(names);
+    if (names !== this.names) this.#make(names, headOf);
     for (const light of board.lights) if (!this.#underWay.has(light.name)) this.#showText(light);
     if (left) this.#goOn(left);
     this.#lengths.disabled = !this.#withoutLengths.length;
@@ -68,7 +73,7 @@ export class CluesView {
     const field = light && this.#fields.get(light.name).field;
     if (!field || left.value === left.dataset.kept) return;
     field.value = left.value;
-    this.#showLength(field);
+    this.#typed(field);
   }
 
   // how many edits of a clue are not answered yet, by the name of its light: until they are, its field shows what was typed
@@ -79,10 +84,40 @@ export class CluesView {
     const text = this.#editor.textOf(`clue ${light.name}`);
     if (document.activeElement !== field || field.dataset.kept !== text) field.value = text;
     field.dataset.kept = text;
-    this.#showLength(field);
+    this.#typed(field);
+    this.#showNote(light);
   }
 
-  #make(names) {
+  // The private note, below its clue.
+  #showNote(light) {
+    put(this.#fields.get(light.name).kept, 'textContent', this.#editor.noteOf(light));
+  }
+
+  // What follows from the text of a field: its height, the button of its length, and how its italics look.
+  #typed(field) {
+    const { italics } = this.#fields.get(field.dataset.light) ?? {};
+    if (!italics) return;
+    this.#showLength(field);
+    italics.replaceChildren(...(hasItalics(field.value) ? nodesOfText(field.value) : []));
+    this.#grow(field);
+  }
+
+  // A field is as high as its text, where the browser does not see to that.
+  #grow(field) {
+    if (CSS.supports('field-sizing', 'content') || !field.clientHeight) return;
+    field.style.height = 'auto';
+    field.style.height = `${field.scrollHeight + field.offsetHeight - field.clientHeight}px`;
+  }
+
+  #toggleItalics(field) {
+    const { text, start, end } = toggledItalics(field.value, field.selectionStart, field.selectionEnd);
+    field.value = text;
+    field.focus();
+    field.setSelectionRange(start, end);
+    this.#typed(field);
+  }
+
+  #make(names, headOf) {
     this.names = names;
     this.#fields.clear();
     this.#offered = '';
@@ -90,36 +125,27 @@ export class CluesView {
     const part = (direction, title) => {
       const heading = document.createElement('h3');
       heading.textContent = title;
-      const rows = this.#editor.board.lights.filter((light) => light.direction === direction).map((light) => this.#row(light));
+      const rows = this.#editor.board.lights.filter((light) => light.direction === direction).map((light) => this.#row(light, headOf.get(light)));
       return [heading, ...rows];
     };
     this.#root.replaceChildren(...part('across', 'Across'), ...part('down', 'Down'));
   }
 
-  #row(light) {
+  // `head` is the light whose clue goes on in this one, if there is one: the clue leads to it.
+  #row(light, head) {
     const row = document.createElement('label');
-    row.className = 'clue';
-    const number = document.createElement('b');
-    number.textContent = light.number;
-    const word = document.createElement('span');
-    word.className = 'word';
-    const field = document.createElement('input');
-    field.dataset.light = light.name;
-    field.setAttribute('aria-label', `clue of ${titleOf(light)}`);
-    field.autocomplete = 'off';
-    field.spellcheck = true;
-    const length = document.createElement('button');
-    length.type = 'button';
-    length.className = 'length';
-    const { length: letters } = this.#editor.answerOf(light);
-    length.textContent = `(${letters})`;
-    length.title = 'Put the length at the end of the clue';
-    length.setAttribute('aria-label', `put (${letters}) at the end of the clue of ${titleOf(light)}`);
-    length.tabIndex = -1;
-    const note = Object.assign(document.createElement('span'), { className: 'written', id: `written-${light.number}-${light.direction}` });
-    field.setAttribute('aria-describedby', note.id);
-    row.append(number, word, field, length, note);
-    this.#fields.set(light.name, { row, word, field, length, note, stale: '' });
+    row.className = head ? 'clue linked' : 'clue';
+    const { numbers, answer } = this.#editor.cluedBy(light);
+    const span = (className, text = '') => Object.assign(document.createElement('span'), { className, textContent: text });
+    const number = Object.assign(document.createElement('b'), { textContent: numbers });
+    const [word, italics, kept, note] = [span('word'), span('italics'), span('kept-note'), span('written')];
+    note.id = `written-${light.number}-${light.direction}`;
+    const field = makeField(light, note.id);
+    field.readOnly = Boolean(head);
+    const length = makeLength(light, answer.length);
+    length.hidden = Boolean(head);
+    row.append(number, word, field, length, italics, kept, note);
+    this.#fields.set(light.name, { row, word, field, length, italics, kept, note, stale: '' });
     return row;
   }
 
@@ -132,7 +158,8 @@ export class CluesView {
   #click(button) {
     if (!button) return;
     const { keep, drop, use } = button.dataset;
-    if (button.className === 'length') return this.#addLength(button.previousElementSibling);
+    if (button.className === 'length') return this.#addLength(button.parentElement.querySelector('textarea'));
+    if (this.#more.root.contains(button)) return;
     const light = this.#editor.board.byName.get(keep ?? drop ?? use);
     if (!light) return;
     // the button goes
@@ -143,8 +170,8 @@ export class CluesView {
 
   // Puts the length of a light at the end of its clue, and selects it, so that another one can be typed over it, such as 3,5.
   #addLength(field) {
-    field.value = withEnumeration(field.value, this.#editor.answerOf(this.#editor.board.byName.get(field.dataset.light)).length);
-    this.#showLength(field);
+    field.value = withEnumeration(field.value, this.#editor.cluedBy(this.#editor.board.byName.get(field.dataset.light)).answer.length);
+    this.#typed(field);
     this.#change(field);
     field.focus();
     field.setSelectionRange(field.value.lastIndexOf('(') + 1, field.value.length - 1);
@@ -153,14 +180,15 @@ export class CluesView {
   // The lights whose clues have a text and no enumeration.
   get #withoutLengths() {
     return this.#editor.board.lights.filter(({ name }) => {
-      const { value } = this.#fields.get(name).field;
-      return value.trim() && !hasEnumeration(value);
+      const { value, readOnly } = this.#fields.get(name).field;
+      return value.trim() && !readOnly && !hasEnumeration(value);
     });
   }
 
   #addLengths() {
     const { board } = this.#editor;
-    return this.actions.texts(this.#withoutLengths.map((light) => [board.clueField(light), withEnumeration(this.#fields.get(light.name).field.value, this.#editor.answerOf(light).length)]));
+    const withLength = (light) => withEnumeration(this.#fields.get(light.name).field.value, this.#editor.cluedBy(light).answer.length);
+    return this.actions.texts(this.#withoutLengths.map((light) => [board.clueField(light), withLength(light)]));
   }
 
   // Letters come one after another: the words are shown once for those of a frame, and only in sight.
@@ -175,6 +203,7 @@ export class CluesView {
   // Shows what changed while the tab was out of sight.
   shown() {
     this.isShown = true;
+    for (const { field } of this.#fields.values()) this.#grow(field);
     this.#words();
     this.#mark();
   }
@@ -227,6 +256,7 @@ export class CluesView {
     if (here !== this.#here) this.#here?.row.classList.remove('here');
     this.#here = here;
     this.#offer();
+    this.#more.show(here && this.isShown ? light : null, here?.row);
     if (!here) return;
     here.row.classList.add('here');
     if (!this.isShown) return;
@@ -239,12 +269,20 @@ export class CluesView {
   }
 
   #key(event) {
+    if (event.target.dataset.light && (event.ctrlKey || event.metaKey) && event.key.toLowerCase() === 'i') {
+      event.preventDefault();
+      return this.#toggleItalics(event.target);
+    }
+    return this.#step(event);
+  }
+
+  #step(event) {
     const step = { Enter: event.shiftKey ? -1 : 1, ArrowDown: 1, ArrowUp: -1 }[event.key];
     if (!event.target.dataset.light) return;
     if (event.key === 'Escape') this.actions.leave(event, this.#change(event.target));
     if (!step || event.isComposing) return;
     event.preventDefault();
-    const fields = [...this.#root.querySelectorAll('input')];
+    const fields = [...this.#root.querySelectorAll('textarea')];
     const next = fields[(fields.indexOf(event.target) + step + fields.length) % fields.length];
     this.#change(event.target);
     next.focus();
@@ -267,7 +305,7 @@ export class CluesView {
   #change(field) {
     const light = this.#editor.board.byName.get(field.dataset.light);
     if (!light || field.value === field.dataset.kept) return null;
-    field.value = field.value.trim();
+    field.value = field.value.replace(/\s*\n\s*/g, ' ').trim();
     return this.#send(field, light);
   }
 
@@ -285,6 +323,28 @@ export class CluesView {
     this.#lengths.disabled = !this.#withoutLengths.length;
     return refused;
   }
+}
+
+function makeField(light, described) {
+  const field = document.createElement('textarea');
+  field.rows = 1;
+  field.dataset.light = light.name;
+  field.setAttribute('aria-label', `clue of ${titleOf(light)}`);
+  field.setAttribute('aria-describedby', described);
+  field.autocomplete = 'off';
+  field.spellcheck = true;
+  return field;
+}
+
+function makeLength(light, letters) {
+  const length = document.createElement('button');
+  length.type = 'button';
+  length.className = 'length';
+  length.textContent = `(${letters})`;
+  length.title = 'Put the length at the end of the clue';
+  length.setAttribute('aria-label', `put (${letters}) at the end of the clue of ${titleOf(light)}`);
+  length.tabIndex = -1;
+  return length;
 }
 
 function dataButton(text, data) {

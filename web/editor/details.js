@@ -1,5 +1,6 @@
 // The tab of the puzzle: its texts, counts, repeats and words.
 import { dups, stats } from './answers.js';
+import { lettersByColour, nameOfColour } from './colours.js';
 import { faultsOf } from './faults.js';
 import { parseRecord } from './record.js';
 import { refuse, say } from './messages.js';
@@ -81,12 +82,20 @@ export class DetailsView {
       ['Size', `${board.width} × ${board.height}`], ['Words', named.get('lights')], ['Mean length', named.get('mean')],
       ['Blocks', `${named.get('blocks')} (${Math.round((100 * named.get('blocks')) / named.get('cells'))} %)`],
       ...(named.get('bars') === '0' ? [] : [['Bars', named.get('bars')]]), ['Unchecked cells', named.get('unchecked')],
-      ['Letters entered', `${named.get('entered')} of ${board.open}`],
+      ['Letters entered', `${named.get('entered')} of ${board.open}`], ...this.#markedRows(),
     ];
     this.#elements.counts.replaceChildren(...rows.flatMap(([name, value]) => [element('dt', name), element('dd', value)]));
     this.#elements.lengths.replaceChildren(...bars(lengths));
     const alphabet = Array.from('ABCDEFGHIJKLMNOPQRSTUVWXYZ', (letter) => [letter, letters.get(letter) ?? 0]);
     this.#elements.frequency.replaceChildren(...bars(alphabet));
+  }
+
+  // The letters of the cells of each colour, and of those with a circle, in reading order.
+  #markedRows() {
+    const editor = this.#editor;
+    const circled = editor.board.cells.filter((cell) => cell.circle && !cell.block).map((cell) => editor.entryOf(cell) || '·').join('');
+    const coloured = [...lettersByColour(editor)].map(([colour, letters]) => [`${nameOfColour(colour)} cells`.replace(/^./, (first) => first.toUpperCase()), letters]);
+    return [...coloured, ...(circled ? [['Circled', circled]] : [])];
   }
 
   #showChecks(repeated, found) {
@@ -117,7 +126,7 @@ export class DetailsView {
     }
     const dead = board.lights.filter((light) => light.count === 0 && !board.isEntered(light));
     if (dead.length) items.unshift(check(dead.length === 1 ? `${titleOf(dead[0])} has no word left` : `${dead.length} lights have no word left`, dead[0].name));
-    for (const warning of warningsOf(board, (light) => this.#editor.answerOf(light))) {
+    for (const warning of warningsOf(board, (light) => this.#editor.answerOf(light), (light) => this.#editor.cluedBy(light).answer)) {
       const item = element('li', '', 'warning');
       const place = warning.cell === undefined ? { light: warning.light ?? '' } : { cell: warning.cell };
       item.append(button(`⚠ ${warning.text}`, { ...place, ...(warning.isClue && { tab: 'clue' }) }));

@@ -1,8 +1,10 @@
 // The session: edits go to the engine in order, and each is kept in a history of records.
 import { Engine } from './engine.js';
 import { gradeOf, usualWeak } from './grades.js';
+import { colourField } from './colours.js';
+import { linksOf, noteField, numbersOf } from './links.js';
 import { entryOf, standing, withoutEntered } from './rebus.js';
-import { bodyOf, letterIn, nearestText, parseRecord, placeOf, transition, unescapeText } from './record.js';
+import { bodyOf, engineText, letterIn, parseRecord, placeOf, transition, unescapeText } from './record.js';
 import { refusalText, refuse } from './messages.js';
 import { EditorState, NO_REASON, newPuzzleName, only } from './state.js';
 import { whenIdle } from './idle.js';
@@ -134,7 +136,33 @@ export class Editor extends EditorState {
     const text = unescapeText(board.texts.get(field) ?? '');
     const light = field.startsWith('clue ') ? board.byName.get(field.slice('clue '.length)) : null;
     const original = this.originals.get(light ? board.clueField(light) : field);
-    return original !== undefined && nearestText(original).near === text ? original : text;
+    return original !== undefined && engineText(original).near === text ? original : text;
+  }
+
+  // The lights that have one clue, by the first of them, and the first one for each of the others.
+  get links() {
+    return linksOf(this.board, this.originals);
+  }
+
+  // A light with those that its clue goes on in.
+  cluedWith(light) {
+    return [light, ...(this.links.heads.get(light) ?? [])];
+  }
+
+  // What the clue of a light is for: its numbers, and the letters of all its lights.
+  cluedBy(light) {
+    const [first, ...others] = this.cluedWith(light);
+    return { numbers: numbersOf(first, others), answer: [first, ...others].map((one) => this.answerOf(one)).join('') };
+  }
+
+  // The private note on the clue of a light.
+  noteOf(light) {
+    return this.originals.get(noteField(this.board, light)) ?? '';
+  }
+
+  // The colour of a cell; '' if it has none.
+  colourOf({ coordinates, block }) {
+    return block ? '' : this.originals.get(colourField(coordinates)) ?? '';
   }
 
   // The letters of a cell; '' if it is empty.
@@ -142,9 +170,14 @@ export class Editor extends EditorState {
     return entryOf(cell, this.originals);
   }
 
+  // What is in each cell of a light.
+  answerParts(light) {
+    return light.cells.map((cell) => this.entryOf(this.board.cells[cell]));
+  }
+
   // The letters of a light, with a dot for an empty cell.
   answerOf(light) {
-    return light.cells.map((cell) => this.entryOf(this.board.cells[cell]) || '.').join('');
+    return this.answerParts(light).map((entry) => entry || '.').join('');
   }
 
   // Does one thing after another, each to its end. `lines` are those of an edit.

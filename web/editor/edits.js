@@ -1,10 +1,13 @@
 // What the user changes, and what is said of it.
 import { changeBeside } from './changed.js';
+import { colourField } from './colours.js';
 import { enumerated } from './enumeration.js';
 import { endingMessage, refusalText, refuse, say, sayAsIs } from './messages.js';
 import { $ } from './page.js';
+import { isReference, linkField, linkedTo, namedLights, noteField, referenceTo, spelledLink } from './links.js';
+import { hasItalics } from './marks.js';
 import { cellField } from './rebus.js';
-import { escapeText, nearestText, strangeCharacter, textLines } from './record.js';
+import { engineText, escapeText, strangeCharacter, textLines } from './record.js';
 import { titleOf } from './words.js';
 
 export class Edits {
@@ -33,6 +36,7 @@ export class Edits {
     const refused = await this.#editor.edit(lines, options);
     if (!refused) {
       this.#tellHidden(clued);
+      if (clued.size) await this.#renumber();
       if (options?.isWhole !== false || $('status').dataset.tone === 'bad') endMessage();
       // of several letters the last one tells
       if (!this.#editor.hasEdits) this.actions.soon();
@@ -63,6 +67,16 @@ export class Edits {
     refuse(`${hidden}: undo brings ${others.length ? 'them' : 'it'} back`);
   }
 
+  // The clues of linked lights name the number of the first one, which blocks and bars may change.
+  async #renumber() {
+    const editor = this.#editor;
+    const { board } = editor;
+    const isOther = ([light, head]) => isReference(editor.textOf(`clue ${light.name}`)) && editor.textOf(`clue ${light.name}`) !== referenceTo(light, head);
+    const others = [...editor.links.headOf].filter(isOther);
+    const lines = others.flatMap(([light, head]) => textLines(board.clueField(light), referenceTo(light, head)));
+    if (lines.length) await editor.edit(lines, { only: editor.record });
+  }
+
   // Enters letters into a cell: several, of which the engine gets the first, one, or none.
   async enter(index, typed) {
     const editor = this.#editor;
@@ -83,19 +97,20 @@ export class Edits {
     const typed = element.value;
     element.dataset.kept = typed;
     const refused = await this.#texts([[field, typed]]);
-    const { near, count } = nearestText(typed);
+    const { near, count } = engineText(typed);
     if (!refused && count) sayAsIs(`“${strangeCharacter(typed)}” stays here and in .ipuz; a .puz gets: ${near}`);
     return refused;
   }
 
-  // Sets the texts of fields in one step. The engine gets near characters for those that it cannot keep.
-  #texts(texts) {
-    const originals = new Map(this.#editor.dueOriginals);
+  // Sets the texts of fields in one step, and with them what is kept beside those, by field; '' takes it away. The engine gets near characters for those
+  // that it cannot keep, and no italics.
+  #texts(texts, beside = []) {
+    const originals = this.#beside(beside);
     const rewritten = texts.filter(([field, typed]) => this.#isRewritten(field, typed)).map(([field]) => field);
     const light = texts.length === 1 ? this.#lightOf(texts[0][0]) : null;
     const lines = texts.flatMap(([field, typed]) => {
-      const { near, count } = nearestText(typed);
-      if (count) originals.set(field, typed);
+      const { near, count } = engineText(typed);
+      if (count || hasItalics(typed)) originals.set(field, typed);
       else originals.delete(field);
       return textLines(field, escapeText(near));
     });
@@ -125,6 +140,47 @@ export class Edits {
     return this.#texts([[this.#editor.board.clueField(light), clue]]);
   }
 
+  // Keeps a private note on the clue of a light; or none.
+  note(light, text) {
+    const { board } = this.#editor;
+    return this.edit([], { originals: this.#beside([[noteField(board, light), text]]), at: { cursor: light.cells[0], direction: light.direction } });
+  }
+
+  // Has the clue of a light go on in those that a text names, whose clues lead to it; or in none. Returns whether it does.
+  async link(light, text) {
+    const editor = this.#editor;
+    const { board, originals, links } = editor;
+    const { lights, fault } = namedLights(board, light, text);
+    const before = linkedTo(board, light, originals);
+    const taken = [light, ...lights].find((one) => (one !== light && links.heads.has(one)) || (links.headOf.get(one) ?? light) !== light);
+    if (fault) return this.#refuseLink(`no other light is called ${fault}: name lights such as 17, 4 down`);
+    if (taken) return this.#refuseLink(`${titleOf(taken)} is linked to other lights already`);
+    const gone = before.filter((one) => !lights.includes(one) && isReference(editor.textOf(`clue ${one.name}`)));
+    const texts = [...gone.map((one) => [board.clueField(one), '']), ...lights.map((one) => [board.clueField(one), referenceTo(one, light)])];
+    return !(await this.#texts(texts, [[linkField(board, light), spelledLink(board, lights)]]));
+  }
+
+  #refuseLink(text) {
+    refuse(text);
+    return false;
+  }
+
+  // Gives a cell a colour, or takes it away.
+  colour(index, colour, stroke = null) {
+    const { coordinates } = this.#editor.board.cells[index];
+    return this.edit([], { originals: this.#beside([[colourField(coordinates), colour]]), stroke });
+  }
+
+  // What is kept beside the record, with other texts by field; '' takes one away.
+  #beside(texts) {
+    const originals = new Map(this.#editor.dueOriginals);
+    for (const [field, text] of texts) {
+      if (text) originals.set(field, text);
+      else originals.delete(field);
+    }
+    return originals;
+  }
+
   // Leaves a field of texts by Esc. `edited` promises what its edit is refused for, or is null if there is none. Another Esc takes the edit back.
   leave(event, edited) {
     this.actions.toGrid();
@@ -140,11 +196,11 @@ export class Edits {
     if (texts.length && !(await this.#texts(texts))) say(`${texts.length} ${texts.length === 1 ? 'clue has' : 'clues have'} a length now`, 'good');
   }
 
-  // Places a word in the light of the cursor. `needs` names the crossing lights whose letters in pencil are in its way, if there are some: those
+  // Places a word in a light of the cursor. `needs` names the crossing lights whose letters in pencil are in its way, if there are some: those
   // letters are cleared, or with no name those of all crossing lights.
-  async place(word, needs = null) {
+  async place(word, needs = null, light = this.#editor.light) {
     const editor = this.#editor;
-    const { light, board } = editor;
+    const { board } = editor;
     editor.change({ edited: { cell: editor.cursor, direction: light.direction } });
     const cells = light.cells.filter((index, at) => board.cells[index].letter !== word[at]).map((index) => board.cells[index].coordinates);
     const pencil = new Set([...editor.pencil].filter((cell) => !cells.includes(cell)));

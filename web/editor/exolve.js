@@ -1,19 +1,22 @@
 // Crosswords as text of Exolve: a section `exolve-…` a line or more, from `exolve-begin` to `exolve-end`.
-import { FileFault, Given, plainOf } from './given.js';
+import { FileFault, Given, markedOf, plainOf } from './given.js';
+import { PLAIN, spelledLights } from './links.js';
 
 const BEGIN = /^\s*exolve-begin\b/m;
 const SECTION = /^exolve-([a-z-]+)(?::\s*(.*))?$/;
 
 export const isExolve = (text) => BEGIN.test(text);
 
-// The file of a board. `textOf` gives the text of a field, and `entryOf` the letters of a cell.
-export function exolveOf(board, textOf, entryOf = ({ letter }) => letter) {
+// The file of a board. `textOf` gives the text of a field, `entryOf` the letters of a cell, and `links` those of clues.
+export function exolveOf(board, textOf, entryOf = ({ letter }) => letter, { links } = PLAIN) {
   const rows = Array.from({ length: board.height }, (_, row) => board.cells.slice(row * board.width, (row + 1) * board.width).map((cell) => spelled(cell, entryOf(cell))).join(' '));
   const isRebus = board.cells.some((cell) => entryOf(cell).length > 1);
   // a line that begins with the word of a section would be one
   const lines = (text) => text.split(/\r?\n/).map((line) => `    ${line.replace(/^\s*exolve-/, '')}`);
   const line = (name, text) => (text ? [`  exolve-${name}: ${text.replace(/\s+/g, ' ')}`] : []);
-  const clues = (direction) => board.lights.filter((light) => light.direction === direction).map((light) => `    ${light.number} ${textOf(`clue ${light.name}`).replace(/\s+/g, ' ')}`.trimEnd());
+  const numbers = (light) => [light.number, spelledLights(light, links.heads.get(light) ?? []).replace(/ (.)\w+/g, '$1')].filter(Boolean).join(', ');
+  const clue = (light) => `    ${numbers(light)} ${textOf(`clue ${light.name}`).replace(/\s+/g, ' ')}`.trimEnd();
+  const clues = (direction) => board.lights.filter((light) => light.direction === direction).map(clue);
   const whole = [
     'exolve-begin', ...line('title', textOf('title')), ...line('setter', textOf('author')), ...line('copyright', textOf('copyright')), `  exolve-width: ${board.width}`,
     `  exolve-height: ${board.height}`, ...(isRebus ? ['  exolve-option: rebus-cells'] : []), ...(textOf('notes') ? ['  exolve-preamble:', ...lines(textOf('notes'))] : []), '  exolve-grid:', ...rows.map((row) => `    ${row}`),
@@ -101,8 +104,9 @@ function cluesIn(lines) {
 function takeClue(given, clue, direction) {
   const [, number, others, told] = /^(\d+)[ad]?((?:\s*[,&/]\s*\d+[ad]?)*)[.:]?\s*(.*)$/i.exec(clue) ?? [];
   if (!number) return given.drops('a clue without a number', 'clues without numbers');
-  if (others) given.drops('the link of a clue to other lights', 'links of clues to other lights');
+  const named = (name) => `${/\d+/.exec(name)[0]} ${/d$/i.test(name) ? 'down' : /a$/i.test(name) ? 'across' : direction}`;
+  const links = others.split(/[,&/]/).map((name) => name.trim()).filter(Boolean).map(named);
   const [, text, note] = /^(.*?\(\s*\d[\d\s,.;'’–—-]*\*?\))\s*(.*)$/.exec(told) ?? [null, told, ''];
   if (note) given.drops('the note on a clue', 'notes on clues');
-  return given.clue({ number, direction, text: plainOf(text.replace(/~\{(.*?)\}~(?:\{.*?\})?/g, '$1')) });
+  return given.clue({ number, direction, links, text: markedOf(text.replace(/~\{(.*?)\}~(?:\{.*?\})?/g, '$1')) });
 }

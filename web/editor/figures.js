@@ -5,6 +5,9 @@ import { wordsOf } from './record.js';
 import { termed } from './terms.js';
 import { titleOf } from './words.js';
 
+// how many of the weak words are marked as the worst
+const MOST_WORST = 10;
+
 export class Figures {
   /** @type {import('./editor.js').Editor} */
   #editor;
@@ -81,8 +84,10 @@ export class Figures {
     this.#measured = all;
     this.#figures = figuresOf(scores, weak);
     this.#scores = new Map(lights.map((light, at) => /** @type {[string, number]} */ ([light.name, scores[at]])).filter(([, score]) => score !== null));
-    const cellsOf = (direction) => new Set(lights.filter((light) => light.direction === direction && this.#scores.get(light.name) < weak).flatMap(({ cells }) => cells));
-    this.#editor.change({ weak: { across: cellsOf('across'), down: cellsOf('down') } });
+    const weakest = lights.filter(({ name }) => this.#scores.get(name) < weak).sort((a, b) => this.#scores.get(a.name) - this.#scores.get(b.name));
+    const cellsOf = (some) => new Set(some.flatMap(({ cells }) => cells));
+    const weakIn = (direction) => cellsOf(weakest.filter((light) => light.direction === direction));
+    this.#editor.change({ weak: { across: weakIn('across'), down: weakIn('down') }, worst: cellsOf(weakest.slice(0, MOST_WORST)) });
   }
 
   // What is said of the words in the grid; or ''.

@@ -1,18 +1,19 @@
 // Files: what is opened, dropped and saved.
 import { toBytes, toText } from '../xw.js';
 import { csvOf, htmlOf } from './clue-sheet.js';
-import { countText, droppedOfPuz, joinedText } from './dropped.js';
+import { droppedOfPuz, joinedText } from './dropped.js';
 import { enumerated } from './enumeration.js';
 import { exolveOf, readExolve } from './exolve.js';
 import { ipuzOf, readIpuz } from './ipuz.js';
 import { jpzOf, readJpz } from './jpz.js';
+import { lossesOf } from './losses.js';
 import { SESSION_HEAD, hasCommands, isPuz, kindOf } from './kinds.js';
 import { refusalText, refuseAsIs as refuse, sayAsIs as say } from './messages.js';
 import { rebusOf, withRebus } from './puz-sections.js';
 import { asVersion13, originalsOf } from './puz-versions.js';
 import { readDeck, readQxw } from './qxw.js';
-import { isCellField, isRebus, keptRebus } from './rebus.js';
-import { bodyOf, strangeCharacter } from './record.js';
+import { isRebus, keptRebus } from './rebus.js';
+import { bodyOf } from './record.js';
 import { termed } from './terms.js';
 import { asVersion1, letterRows, recordOfRows } from './text-grids.js';
 import { listText } from './word-list.js';
@@ -191,10 +192,9 @@ export class Files {
 
   async save(form) {
     try {
-      if (form === 'puz') return this.#givePuzzle(await this.#puz(), this.#name('puz'), this.#nearNote());
+      if (form === 'puz') return this.#givePuzzle(await this.#puz(), this.#name('puz'), this.#lossNote(form));
       const bytes = await this.#editor.inOrder(() => this.#editor.engine.call('file', { form }));
-      const [lost] = countText(this.#rebus.size, 'the first letter of the rebus', 'the first letters of rebus cells');
-      this.#givePuzzle(bytes, this.#name('txt'), `${lost ? `, with ${lost.replace(/^\d+ /, '')} alone` : ''}${this.#nearNote()}`);
+      this.#givePuzzle(bytes, this.#name('txt'), this.#lossNote(form));
     } catch (fault) {
       if (!fault.status) throw fault;
       this.#explain(fault.status);
@@ -204,7 +204,7 @@ export class Files {
   // Saves a .puz, or if the puzzle cannot be one yet, the session, and says which and why.
   async saveAny() {
     try {
-      this.#givePuzzle(await this.#puz(), this.#name('puz'), this.#nearNote());
+      this.#givePuzzle(await this.#puz(), this.#name('puz'), this.#lossNote('puz'));
     } catch (fault) {
       if (!fault.status) throw fault;
       this.saveSession(`: the session, since ${this.#whyNoPuz(fault.status)}`);
@@ -223,10 +223,11 @@ export class Files {
     return withRebus(bytes, this.#rebus);
   }
 
-  // What a .puz has near characters for.
-  #nearNote() {
-    const strange = [...this.#editor.originals].filter(([field]) => !isCellField(field)).map(([, text]) => strangeCharacter(text));
-    return strange.length ? `, with near characters for ${[...new Set(strange)].map((one) => `“${one}”`).join(', ')}` : '';
+  // What a file of a format does not keep.
+  #lossNote(form) {
+    const { lost, strange } = lossesOf(this.#editor, form);
+    const near = strange.length ? `, with near characters for ${strange.map((one) => `“${one}”`).join(', ')}` : '';
+    return `${lost.length ? `, without ${joinedText(lost)}` : ''}${near}`;
   }
 
   #whyNoPuz(status) {
@@ -279,13 +280,17 @@ export class Files {
 
   // Saves a file that can be unfinished and have bars: `ipuz`, `jpz` or `exolve`.
   saveAs(form) {
-    this.#givePuzzle(new TextEncoder().encode(WRITERS[form](this.#editor.board, this.#textOf, this.#entryOf)), this.#name(form));
+    const editor = this.#editor;
+    const more = { colourOf: (cell) => editor.colourOf(cell), links: editor.links };
+    this.#givePuzzle(new TextEncoder().encode(WRITERS[form](editor.board, this.#textOf, this.#entryOf, more)), this.#name(form), this.#lossNote(form));
   }
 
   // Saves the clues as a table: `csv` or `html`.
   saveClues(form) {
-    const of = [this.#editor.board, this.#textOf, enumerated, (light) => this.#editor.answerOf(light)];
-    this.#give(new TextEncoder().encode(form === 'csv' ? csvOf(...of) : htmlOf(...of)), this.#name(form));
+    const editor = this.#editor;
+    const told = { answerOf: (light) => editor.answerOf(light), cluedBy: (light) => editor.cluedBy(light), isLinked: (light) => editor.links.headOf.has(light) };
+    const of = [editor.board, this.#textOf, enumerated, told];
+    this.#give(new TextEncoder().encode(form === 'csv' ? csvOf(...of) : htmlOf(...of)), this.#name(form), this.#lossNote(form));
   }
 
   #givePuzzle(bytes, name, why = '') {

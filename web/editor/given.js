@@ -1,11 +1,13 @@
 // A puzzle as a file tells it: its cells, texts and clues, and what of it the page does not keep. Each reader of a format makes one.
+import { colourField } from './colours.js';
 import { countText } from './dropped.js';
+import { hasItalics, withoutItalics } from './marks.js';
 import { cellField } from './rebus.js';
-import { escapeText, nearestText, textLines } from './record.js';
+import { engineText, escapeText, textLines } from './record.js';
 
 /** @typedef {import('./answers.js').Direction} Direction */
-// A clue is at a cell, or at the light that has its number.
-/** @typedef {{ at: string | null, number: string, direction: Direction, text: string }} GivenClue */
+// A clue is at a cell, or at the light that has its number. `links` names the lights that it goes on in, as `N DIR`.
+/** @typedef {{ at: string | null, number: string, direction: Direction, text: string, links: string[] }} GivenClue */
 // How the engine tells the lights of a grid: their names, directions and first cells.
 /** @typedef {{ name: string, direction: Direction, row: number, column: number }} FirstCell */
 
@@ -33,6 +35,9 @@ export class Given {
   // the entries of several letters, as originals are kept
   /** @type {[string, string][]} */
   #rebus = [];
+  // the colours of cells, as originals are kept
+  /** @type {[string, string][]} */
+  #colours = [];
   // what else is not kept, in a few words each, and how often
   #dropped = new Map();
 
@@ -59,6 +64,10 @@ export class Given {
     this.#circles.add(`${row} ${column}`);
   }
 
+  colour(row, column, colour) {
+    if (colour !== 'ffffff') this.#colours.push([colourField(`${row} ${column}`), colour]);
+  }
+
   // Sides of a cell: of `right`, `below`, `left` and `above`.
   bar(row, column, ...sides) {
     for (const side of sides) {
@@ -79,9 +88,9 @@ export class Given {
     if (text) this.texts.set(field, text);
   }
 
-  /** @param {{ at?: string | null, number?: string | number, direction: Direction, text: string }} clue */
-  clue({ at = null, number = '', direction, text }) {
-    if (text) this.clues.push({ at, number: String(number), direction, text });
+  /** @param {{ at?: string | null, number?: string | number, direction: Direction, text: string, links?: string[] }} clue */
+  clue({ at = null, number = '', direction, text, links = [] }) {
+    if (text) this.clues.push({ at, number: String(number), direction, text, links });
   }
 
   // Counts what is not kept, under the words for one and those for several.
@@ -109,14 +118,19 @@ export class Given {
   recordWith(lights) {
     const byName = new Map(lights.map(({ name, row, column, direction }) => [name, `${row} ${column} ${direction}`]));
     const all = new Set(byName.values());
-    const placed = this.clues.map(({ at, number, direction, text }) => ({ field: at ? `${at} ${direction}` : byName.get(`${number} ${direction}`), text }));
+    const placed = this.clues.map(({ at, number, direction, text, links }) => ({ field: at ? `${at} ${direction}` : byName.get(`${number} ${direction}`), text, links }));
     const known = placed.filter(({ field }) => all.has(field));
-    const originals = [...this.#rebus];
+    const originals = [...this.#rebus, ...this.#colours];
     const lines = [...this.texts, ...known.map(({ field, text }) => [`clue ${field}`, text])].flatMap(([field, text]) => {
-      const { near, count } = nearestText(text);
-      if (count) originals.push([field, text]);
+      const { near, count } = engineText(text);
+      if (count || hasItalics(text)) originals.push([field, text]);
       return textLines(field, escapeText(near));
     });
+    for (const { field, links } of known) {
+      const others = links.map((name) => byName.get(name) ?? byName.get(turned(name)));
+      if (others.includes(undefined)) this.drops('the link of a clue to other lights', 'links of clues to other lights');
+      else if (others.length) originals.push([`link ${field}`, others.join(', ')]);
+    }
     return { record: [this.grid, ...lines.map((line) => `${line}\n`)].join(''), originals, lost: placed.length - known.length };
   }
 
@@ -139,5 +153,20 @@ export class Given {
   }
 }
 
+// The other light of a number: a file may leave its direction out.
+const turned = (name) => (name.endsWith('across') ? name.replace('across', 'down') : name.replace('down', 'across'));
+
 // A text without its marks, which are those of HTML.
 export const plainOf = (text) => (/[<&]/.test(text) ? new DOMParser().parseFromString(String(text), 'text/html').body.textContent : String(text)).trim();
+
+// The text of a node without its marks but for italics.
+/** @param {Node} node */
+export function markedIn(node) {
+  const spell = (/** @type {Node} */ part) => {
+    const inner = part.nodeType === Node.TEXT_NODE ? part.textContent : [...part.childNodes].map(spell).join('');
+    return /^(i|em)$/i.test(part.nodeName) && inner ? `<i>${withoutItalics(inner)}</i>` : inner;
+  };
+  return spell(node).trim();
+}
+
+export const markedOf = (text) => (/[<&]/.test(text) ? markedIn(new DOMParser().parseFromString(String(text), 'text/html').body) : String(text).trim());

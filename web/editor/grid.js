@@ -1,8 +1,13 @@
 // The grid: its cells, the keys and the mouse.
+import { PALETTE, nameOfColour } from './colours.js';
 import { refusalText, refuse, say } from './messages.js';
+import { nearDeadEnd } from './near.js';
 import { placeOf } from './record.js';
+import { spokenOf } from './spoken.js';
 import { NO_REASON, only } from './state.js';
+import { tintClass } from './tints.js';
 import { TypingField } from './typing.js';
+import { titleOf } from './words.js';
 
 // How long a letter waits for the engine's answer, in milliseconds: one frame then shows it with all that it changes. If the answer takes
 // longer, the letter is shown alone.
@@ -31,14 +36,17 @@ export class GridView {
   #typing = new TypingField((key) => this.#actionOf({ key, shiftKey: false })?.());
   // whether lights without a word wait for blocks, since there are none yet or few
   #isOpenGrid = false;
+  // the cells near a dead end; null if all are
+  #near = null;
   // cells whose letters are entered but not shown yet, by index
   #undrawn = new Set();
   #drawing = null;
   // a corner of the rectangle that is being chosen, by index
   #anchor = null;
   #far = null;
-  // `block`, `right`, `below`, `circle` or `pencil` if a click does more than move
+  // `block`, `right`, `below`, `circle`, `colour` or `pencil` if a click does more than move, and the colour that it gives
   tool = null;
+  colour = PALETTE.yellow;
 
   constructor(editor, root, actions) {
     this.#editor = editor;
@@ -56,7 +64,7 @@ export class GridView {
       this.paste(event.clipboardData.getData('text'));
     });
     root.append(...this.#bands, this.#typing.element);
-    editor.on(['board', 'reason', 'unmatched', 'letters', 'faulty', 'weak', 'cursor', 'chosen', 'originals'], (transaction) => this.#take(transaction));
+    editor.on(['board', 'reason', 'unmatched', 'letters', 'faulty', 'weak', 'ghosts', 'cursor', 'chosen', 'originals'], (transaction) => this.#take(transaction));
     document.addEventListener('paste', (event) => {
       if (document.activeElement === document.body) this.paste(event.clipboardData.getData('text'));
     });
@@ -86,6 +94,7 @@ export class GridView {
     this.#undrawn.clear();
     this.#wasBlank = this.isBlank;
     this.#isOpenGrid = board.isOpenGrid || (this.#editor.waits && board.isSparse);
+    this.#near = nearDeadEnd(this.#editor);
     if (!chosen.size) this.#anchor = this.#far = null;
     if (this.#cells.length !== board.cells.length || this.width !== board.width) this.#make(board);
     for (let index = 0; index < this.#cells.length; index++) this.paint(index);
@@ -131,24 +140,29 @@ export class GridView {
 
   // Shows a cell as the board has it.
   paint(index) {
-    const { board, pencil, reason, unmatched, faulty, weak } = this.#editor;
+    const { board, pencil, reason, unmatched, faulty, weak, worst, ghosts } = this.#editor;
     const cell = board.cells[index];
+    const ghost = ghosts.get(index);
     const classes = ['cell'];
     if (cell.block) classes.push('block');
     if (cell.right) classes.push('bar-right');
     if (cell.below) classes.push('bar-below');
     if (cell.circle && !cell.block) classes.push('circled');
+    const colour = this.#editor.colourOf(cell);
+    if (colour) classes.push('tinted', tintClass(colour));
     if (cell.letter && pencil.has(cell.coordinates)) classes.push('pencil');
     if (reason.cells.has(index)) classes.push('reason');
     if (unmatched.has(index)) classes.push('unmatched');
     if (faulty.has(index) && cell.letter) classes.push('faulty');
     if (cell.letter) for (const direction of ['across', 'down']) if (weak[direction].has(index)) classes.push(`weak-${direction}`);
+    if (cell.letter && worst.has(index)) classes.push('worst');
     const isOpen = !cell.block && !cell.letter;
-    if (isOpen && !cell.left && !this.isBlank) classes.push(this.#isOpenGrid ? 'waiting' : 'dead');
+    if (isOpen && !cell.left && !this.isBlank) classes.push(this.#isOpenGrid ? 'waiting' : this.#near?.has(index) ?? true ? 'dead' : 'spent');
     if (isOpen && cell.left.length === 1) classes.push('only');
     this.#marksOf(index, classes);
     if (isOpen && cell.left.length > 1) classes.push(`shade-${shadeOf(cell.left.length)}`);
-    const letter = this.#editor.entryOf(cell) || (isOpen && cell.left.length === 1 ? cell.left : '');
+    if (ghost) classes.push('ghost');
+    const letter = ghost ?? (this.#editor.entryOf(cell) || (isOpen && cell.left.length === 1 ? cell.left : ''));
     if (letter.length > 1) classes.push('rebus', `rebus-${Math.min(letter.length, MOST_SIZED)}`);
     this.#put(index, { classes: classes.join(' '), letter, number: cell.number, label: this.#nameOf(index) });
   }
@@ -180,6 +194,9 @@ export class GridView {
     else if (cell.left.length === 1) words.push(`empty, only ${cell.left} is left`);
     else words.push(`empty, ${cell.left.length} letters are left`);
     if (cell.circle && !cell.block) words.push('circled');
+    if (this.#editor.colourOf(cell)) words.push(nameOfColour(this.#editor.colourOf(cell)));
+    const placed = (light) => light.cells.indexOf(index) + 1;
+    words.push(...board.through(index).map((light) => `${titleOf(light)}, letter ${placed(light)} of ${light.cells.length}`));
     return words.join(', ');
   }
 
@@ -243,7 +260,7 @@ export class GridView {
     // cells without a letter left look other once there is an entry
     const isTurned = Boolean(letters) && this.isBlank !== this.#wasBlank;
     // each cell is painted once
-    const painted = new Set([...(letters ? this.#takeUndrawn() : []), ...this.#changedBy(transaction)]);
+    const painted = new Set([...(letters ? [...this.#takeUndrawn(), ...this.#takeNear()] : []), ...this.#changedBy(transaction)]);
     if (isTurned || ['board', 'reason', 'unmatched', 'originals'].some((name) => name in changes)) this.draw();
     else {
       for (const index of painted) if (this.#cells[index]) this.paint(index);
@@ -254,10 +271,22 @@ export class GridView {
 
   // The cells that look other after letters, or after words got marks or lost them.
   /** @param {import('./state.js').Transaction} transaction */
-  #changedBy({ changes: { letters, faulty, weak }, before }) {
-    const pairs = [...(faulty ? [[faulty, before.faulty]] : []), ...(weak ? [[weak.across, before.weak.across], [weak.down, before.weak.down]] : [])];
+  #changedBy({ changes: { letters, faulty, weak, worst, ghosts }, before }) {
+    const pairs = [
+      ...(faulty ? [[faulty, before.faulty]] : []), ...(weak ? [[weak.across, before.weak.across], [weak.down, before.weak.down]] : []),
+      ...(worst ? [[worst, before.worst]] : []),
+    ];
     const marked = pairs.flatMap(([now, old]) => [...now, ...old].filter((index) => now.has(index) !== old.has(index)));
-    return new Set([...(letters?.cells ?? []), ...marked]);
+    const ghostly = ghosts ? [...ghosts.keys(), ...before.ghosts.keys()] : [];
+    return new Set([...(letters?.cells ?? []), ...marked, ...ghostly]);
+  }
+
+  // Takes what is near a dead end now, and returns the cells for which that is other than before.
+  #takeNear() {
+    const before = this.#near;
+    this.#near = nearDeadEnd(this.#editor);
+    const isOther = (index) => (before?.has(index) ?? true) !== (this.#near?.has(index) ?? true);
+    return before || this.#near ? [...this.#editor.board.cells.keys()].filter(isOther) : [];
   }
 
   // Shows a letter that was entered, with the move of the cursor, when the engine answers; or soon, if it has other work.
@@ -353,6 +382,7 @@ export class GridView {
       '|': () => this.toggleBar(this.#editor.cursor, 'right'),
       _: () => this.toggleBar(this.#editor.cursor, 'below'),
       '*': () => this.toggleCircle(this.#editor.cursor),
+      '#': () => this.toggleColour(this.#editor.cursor),
       '=': () => this.togglePencil([this.#editor.cursor]),
       '+': () => this.togglePencil(this.#editor.light?.cells ?? []),
       '?': () => this.actions.why(),
@@ -365,12 +395,9 @@ export class GridView {
     const editor = this.#editor;
     this.#unchoose();
     const cell = editor.board.cells[editor.cursor];
-    if (editor.direction !== direction && cell[direction] && !cell.block) {
-      editor.moveTo(editor.cursor, direction);
-      return;
-    }
+    if (editor.direction !== direction && cell[direction] && !cell.block) return this.turn();
     const next = this.#beside(editor.cursor, direction, step);
-    if (next >= 0) editor.moveTo(next, direction);
+    return next >= 0 ? editor.moveTo(next, direction) : undefined;
   }
 
   // The neighbour of a cell, or -1.
@@ -460,10 +487,13 @@ export class GridView {
     if (cells) this.#editor.moveTo(cells.at(at));
   }
 
+  // Turns to the other light of the cell, which is spoken: the cell that has the focus stays.
   turn() {
     const editor = this.#editor;
     const other = editor.direction === 'across' ? 'down' : 'across';
-    if (editor.board.cells[editor.cursor][other]) editor.moveTo(editor.cursor, other);
+    if (!editor.board.cells[editor.cursor][other]) return;
+    editor.moveTo(editor.cursor, other);
+    this.actions.speak(spokenOf(editor.light, editor.answerParts(editor.light)));
   }
 
   #nextLight(step) {
@@ -524,6 +554,13 @@ export class GridView {
 
   toggleCircle(index, stroke = null) {
     return this.#send([`circle ${this.#editor.board.cells[index].coordinates}`], { stroke });
+  }
+
+  // Gives a cell the colour of the tool, or takes it away.
+  toggleColour(index, stroke = null) {
+    const cell = this.#editor.board.cells[index];
+    if (cell.block) return refuse(refusalText('OnBlock'));
+    return this.actions.colour(index, this.#editor.colourOf(cell) === this.colour ? '' : this.colour, stroke);
   }
 
   // Letters in pencil are changed by another fill; the others are locked.
@@ -623,6 +660,7 @@ export class GridView {
   #hasTool(index, tool) {
     const { board, pencil } = this.#editor;
     const cell = board.cells[index];
+    if (tool === 'colour') return this.#editor.colourOf(cell) === this.colour;
     return tool === 'pencil' ? !pencil.has(cell.coordinates) : cell[tool];
   }
 
@@ -684,6 +722,7 @@ export class GridView {
       right: () => this.toggleBar(index, 'right', stroke),
       below: () => this.toggleBar(index, 'below', stroke),
       circle: () => this.toggleCircle(index, stroke),
+      colour: () => this.toggleColour(index, stroke),
       pencil: () => this.togglePencil([index], stroke),
     };
     return tools[stroke.tool]?.();

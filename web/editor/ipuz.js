@@ -1,30 +1,40 @@
 // Crosswords as .ipuz, version 2 (http://ipuz.org): grids with blocks, bars and circles, letters, texts and clues.
+import { PALETTE, colourIn } from './colours.js';
 import { hasEnumeration } from './enumeration.js';
-import { FIELDS, FileFault, Given, plainOf } from './given.js';
+import { FIELDS, FileFault, Given, markedOf, plainOf } from './given.js';
+import { PLAIN } from './links.js';
 
 const VERSION = 'http://ipuz.org/v2';
 const KIND = 'http://ipuz.org/crossword#1';
 
 export const isIpuz = (head) => /^\s*(ipuz\s*\()?\s*\{/.test(head) && head.includes('ipuz.org/');
 
-// The file of a board. `textOf` gives the text of a field, and `entryOf` the letters of a cell.
-export function ipuzOf(board, textOf, entryOf = ({ letter }) => letter) {
+// The file of a board. `textOf` gives the text of a field, `entryOf` the letters of a cell, and `more` its colour and the links of clues.
+export function ipuzOf(board, textOf, entryOf = ({ letter }) => letter, { colourOf, links } = PLAIN) {
   const rows = (cellOf) => Array.from({ length: board.height }, (_, row) => Array.from({ length: board.width }, (__, column) => cellOf(board.cells[row * board.width + column])));
-  const clues = (direction) => board.lights.filter((light) => light.direction === direction).map((light) => [Number(light.number), textOf(`clue ${light.name}`)]);
+  const clues = (direction) => board.lights.filter((light) => light.direction === direction).map((light) => clueOf(light, textOf(`clue ${light.name}`), links));
   const texts = Object.fromEntries(FIELDS.map((field) => [field, textOf(field)]).filter(([, text]) => text));
   const whole = {
-    version: VERSION, kind: [KIND], ...texts, dimensions: { width: board.width, height: board.height }, puzzle: rows(shownIn),
+    version: VERSION, kind: [KIND], ...texts, dimensions: { width: board.width, height: board.height }, puzzle: rows((cell) => shownIn(cell, colourOf(cell))),
     solution: rows((cell) => (cell.block ? '#' : entryOf(cell) || null)), clues: { Across: clues('across'), Down: clues('down') },
   };
   return `${JSON.stringify(whole, null, 1)}\n`;
 }
 
-function shownIn(cell) {
+function shownIn(cell, colour) {
   if (cell.block) return '#';
   const shown = cell.number ? Number(cell.number) : 0;
   const barred = `${cell.right ? 'R' : ''}${cell.below ? 'B' : ''}`;
-  if (!cell.circle && !barred) return shown;
-  return { cell: shown, style: { ...(cell.circle && { shapebg: 'circle' }), ...(barred && { barred }) } };
+  if (!cell.circle && !barred && !colour) return shown;
+  return { cell: shown, style: { ...(cell.circle && { shapebg: 'circle' }), ...(barred && { barred }), ...(colour && { color: colour.toUpperCase() }) } };
+}
+
+// A clue, with the lights that it goes on in, or the one that it leads to.
+function clueOf(light, clue, { heads, headOf }) {
+  const number = Number(light.number);
+  const named = ({ number: other, direction }) => ({ number: Number(other), direction: direction === 'across' ? 'Across' : 'Down' });
+  if (heads.has(light)) return { number, clue, continued: heads.get(light).map(named) };
+  return headOf.has(light) ? { number, clue, see: [named(headOf.get(light))] } : [number, clue];
 }
 
 // The puzzle of a file. Throws a FileFault.
@@ -62,7 +72,7 @@ function parsed(text) {
 }
 
 // What a style may have of colours.
-const COLOURS = ['color', 'colortext', 'colorborder', 'colorbar', 'highlight', 'imagebg'];
+const COLOURS = ['colortext', 'colorborder', 'colorbar', 'imagebg'];
 const SIDES = { r: 'right', b: 'below', l: 'left', t: 'above' };
 
 // Takes the cells, and returns the coordinates of those that show numbers.
@@ -90,14 +100,17 @@ function takeGrid(given, { puzzle, solution, block = '#', empty = 0, styles = {}
 function takeStyle(given, row, column, style) {
   if (style.shapebg === 'circle') given.circle(row, column);
   else if (style.shapebg) given.drops('a shape that is no circle', 'shapes that are no circles');
-  if (COLOURS.some((name) => style[name])) given.drops('the colour of a cell', 'colours of cells');
+  const colour = colourIn(style.color) || (style.highlight ? PALETTE.yellow : '');
+  if (colour) given.colour(row, column, colour);
+  if (COLOURS.some((name) => style[name]) || (style.color && !colour)) given.drops('the colour of a cell', 'colours of cells');
   given.bar(row, column, ...String(style.barred ?? '').toLowerCase().split('').flatMap((side) => SIDES[side] ?? []));
 }
 
 function takeClue(given, clue, direction, numbered) {
-  const { number = '', clue: text = '', enumeration = '', cells = [] } = Array.isArray(clue) ? { number: clue[0], clue: clue[1] } : typeof clue === 'string' ? { clue } : clue;
-  const plain = plainOf(text);
+  const { number = '', clue: text = '', enumeration = '', cells = [], continued = [] } = Array.isArray(clue) ? { number: clue[0], clue: clue[1] } : typeof clue === 'string' ? { clue } : clue;
+  const plain = markedOf(text);
   const [column, row] = cells[0] ?? [];
   const at = numbered.get(String(number)) ?? (row ? `${row} ${column}` : null);
-  given.clue({ at, number, direction, text: !plain || !enumeration || hasEnumeration(plain) ? plain : `${plain} (${enumeration})` });
+  const links = [continued].flat().map((one) => `${one.number} ${String(one.direction ?? direction).split(':')[0].toLowerCase()}`);
+  given.clue({ at, number, direction, links, text: !plain || !enumeration || hasEnumeration(plain) ? plain : `${plain} (${enumeration})` });
 }

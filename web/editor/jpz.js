@@ -1,6 +1,9 @@
 // Crosswords in the XML of Crossword Compiler, which .jpz files have too: a `rectangular-puzzle` with a grid, words and clues.
+import { colourIn } from './colours.js';
 import { hasEnumeration } from './enumeration.js';
-import { FileFault, Given } from './given.js';
+import { FileFault, Given, markedIn } from './given.js';
+import { PLAIN } from './links.js';
+import { partsOfText } from './marks.js';
 
 /** @typedef {import('./answers.js').Direction} Direction */
 
@@ -13,12 +16,13 @@ const spelled = (text) => String(text).replace(/[&<>"]/g, (one) => ({ '&': '&amp
 // the attributes that have values
 const attributes = (values) => Object.entries(values).filter(([, value]) => value !== '' && value !== false).map(([name, value]) => ` ${name}="${spelled(value)}"`).join('');
 
-// The file of a board. `textOf` gives the text of a field, and `entryOf` the letters of a cell.
-export function jpzOf(board, textOf, entryOf = ({ letter }) => letter) {
+// The file of a board. `textOf` gives the text of a field, `entryOf` the letters of a cell, and `colourOf` its colour.
+export function jpzOf(board, textOf, entryOf = ({ letter }) => letter, { colourOf } = PLAIN) {
+  const marked = (text) => partsOfText(text).map((part) => (part.isItalic ? `<i>${spelled(part.text)}</i>` : spelled(part.text))).join('');
   const place = (index) => ({ x: board.columnOf(index), y: board.rowOf(index) });
   const cells = board.cells.map((cell, index) => `<cell${attributes({
     ...place(index), type: cell.block && 'block', solution: entryOf(cell), number: cell.number, 'background-shape': cell.circle && !cell.block && 'circle', 'right-bar': cell.right && 'true',
-    'bottom-bar': cell.below && 'true',
+    'bottom-bar': cell.below && 'true', 'background-color': colourOf(cell) && `#${colourOf(cell).toUpperCase()}`,
   })}/>`);
   const words = board.lights.map(({ cells: [first, ...others], direction }, at) => {
     const [from, to] = [place(first), place(others.at(-1) ?? first)];
@@ -26,7 +30,7 @@ export function jpzOf(board, textOf, entryOf = ({ letter }) => letter) {
   });
   const clues = (direction, title) => [
     `<clues ordering="normal"><title><b>${title}</b></title>`,
-    ...board.lights.flatMap((light, at) => (light.direction === direction ? [`<clue${attributes({ word: at + 1, number: light.number })}>${spelled(textOf(`clue ${light.name}`))}</clue>`] : [])),
+    ...board.lights.flatMap((light, at) => (light.direction === direction ? [`<clue${attributes({ word: at + 1, number: light.number })}>${marked(textOf(`clue ${light.name}`))}</clue>`] : [])),
     '</clues>',
   ];
   const texts = { title: textOf('title'), creator: textOf('author'), copyright: textOf('copyright'), description: textOf('notes') };
@@ -80,7 +84,10 @@ function takeCells(given, cells) {
     if (number) numbered.set(number, `${row} ${column}`);
     if (shape === 'circle') given.circle(row, column);
     else if (shape) given.drops('a shape that is no circle', 'shapes that are no circles');
-    if (!/^(#?f{3}(f{3})?|white|)$/i.test(cell.getAttribute('background-color') ?? '')) given.drops('the colour of a cell', 'colours of cells');
+    const spelledColour = cell.getAttribute('background-color') ?? '';
+    const colour = colourIn(spelledColour);
+    if (colour) given.colour(row, column, colour);
+    else if (!/^(white|)$/i.test(spelledColour)) given.drops('the colour of a cell', 'colours of cells');
     if (cell.getAttribute('solve-state')) given.drops('the letters of a solver');
     given.bar(row, column, ...BARS.filter(([name]) => isTrue(cell, name)).map(([, side]) => side));
     if (solution.trim()) given.entry(row, column, solution.trim());
@@ -115,7 +122,7 @@ function takeClues(given, list, words, numbered) {
     const [number, format] = ['number', 'format'].map((name) => clue.getAttribute(name) ?? '');
     const word = words.get(clue.getAttribute('word'));
     const direction = word?.direction ?? /** @type {Direction} */ (called.toLowerCase());
-    const plain = textIn(clue);
+    const plain = markedIn(clue);
     const text = !plain || !/^\d[\d,.'’ -]*$/.test(format) || hasEnumeration(plain) ? plain : `${plain} (${format})`;
     given.clue({ at: word?.at ?? numbered.get(number) ?? null, number, direction, text });
   }

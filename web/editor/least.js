@@ -22,7 +22,14 @@ export class LeastView {
     this.#editor = editor;
     this.#elements = elements;
     this.actions = actions;
-    const { slider, weak } = elements;
+    const { row, slider, weak } = elements;
+    // on a phone the row is folded away, behind what it says
+    const isNarrow = matchMedia('(max-width: 640px)');
+    const fold = () => {
+      row.open = !isNarrow.matches;
+    };
+    isNarrow.addEventListener('change', fold);
+    fold();
     slider.addEventListener('pointerdown', () => {
       this.#isPointed = true;
     });
@@ -45,6 +52,7 @@ export class LeastView {
     slider.value = String(grade);
     this.#elements.weak.max = String(best);
     this.#elements.weak.value = String(weak);
+    this.#elements.told.textContent = `${grade ? `Least score ${scoreOf(grade, best)}` : 'All scores'}, marks below ${weak}`;
     this.#showLeft(grade);
   }
 

@@ -4,7 +4,7 @@ import { LeastView, leftOf } from './least.js';
 import { ListsView } from './lists-view.js';
 import { endWarning, refusalText, refuseAsIs, say, sayAsIs, warn } from './messages.js';
 import { $ } from './page.js';
-import { foldedText, leftOutText, readList, wordCount } from './word-list.js';
+import { foldedText, leftOutText, readList, wordCount, withScores } from './word-list.js';
 
 const MOST_FORMER = 10;
 
@@ -18,6 +18,9 @@ export class ListsInUse {
   // the last change, after which the next one begins, and how often the lists are being kept now
   #changing = Promise.resolve(true);
   #storing = 0;
+  // words that were graded again, with their scores, which the engine does not have yet
+  /** @type {Map<string, number>} */
+  #regraded = new Map();
   #least;
   #view;
 
@@ -28,7 +31,7 @@ export class ListsInUse {
     this.actions = actions;
     this.#least = new LeastView(
       editor,
-      { row: $('least-row'), slider: $('least'), shown: $('least-shown'), left: $('least-left'), weak: $('weak') },
+      { row: $('least-row'), told: $('least-told'), slider: $('least'), shown: $('least-shown'), left: $('least-left'), weak: $('weak') },
       { mayChange: actions.mayEdit, use: (least) => this.#useLeast(least), kept: () => this.#keepLeast(), weak: (score) => this.#markBelow(score), toGrid: actions.toGrid },
     );
     this.#view = new ListsView(
@@ -58,12 +61,13 @@ export class ListsInUse {
     return true;
   }
 
-  // Uses the word lists that a function makes of those in use, if the engine takes them. `name` and `bytes` are those of a list that is opened.
-  // Returns whether they are in use.
-  change(changed, name = '', bytes = new Uint8Array()) {
+  // Uses the word lists that a function makes of those in use, if the engine takes them. `name` and `bytes` are those of a list that is opened, and `said`
+  // is what is said then. Returns whether they are in use.
+  change(changed, name = '', bytes = new Uint8Array(), said = '') {
     return this.#inOrder(async () => {
       const before = this.#lists;
-      if (!(await this.#use(changed(before), name, bytes))) return false;
+      const other = changed(before);
+      if (other === before || !(await this.#use(other, name, bytes, said))) return false;
       this.#former.push(before);
       if (this.#former.length > MOST_FORMER) this.#former.shift();
       return true;
@@ -86,8 +90,21 @@ export class ListsInUse {
     return this.change((now) => now.withPersonal([now.personal.trimEnd(), line].filter(Boolean).join('\n')));
   }
 
+  // Gives a word another score in the personal list. Those that come while the engine takes one over are taken together.
+  regrade(word, score) {
+    if (!this.actions.mayEdit()) return Promise.resolve(false);
+    this.#regraded.set(word, score);
+    const said = `${word} has the score ${score} in My words`;
+    sayAsIs(said, 'good');
+    return this.change((now) => {
+      const scores = this.#regraded;
+      this.#regraded = new Map();
+      return scores.size ? now.withPersonal(withScores(now.personal, scores)) : now;
+    }, 'My words', new Uint8Array(), said);
+  }
+
   // Has the engine use other lists, and says what they have, or why it refuses them. Returns whether they are in use.
-  async #use(other, name = '', bytes = new Uint8Array()) {
+  async #use(other, name = '', bytes = new Uint8Array(), said = '') {
     if (!this.actions.mayEdit()) return false;
     this.actions.stop();
     const fault = await this.#editor.useList(other.chosen);
@@ -99,7 +116,7 @@ export class ListsInUse {
     }
     this.#lists = other;
     const { name: used, words, scored } = this.#editor.list;
-    sayAsIs(`${used || 'no list'}: ${[`${wordCount(words)}${scored ? ', the best scores first' : ''}`, ...this.#notes()].join('; ')}`, 'good');
+    sayAsIs(said || `${used || 'no list'}: ${[`${wordCount(words)}${scored ? ', the best scores first' : ''}`, ...this.#notes()].join('; ')}`, 'good');
     return true;
   }
 

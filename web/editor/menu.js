@@ -76,15 +76,24 @@ export function takeMenu() {
     if (!pressed(event, '.menu')) show(false);
   });
   menu.addEventListener('keydown', (event) => {
-    const items = all('button', menu);
-    const step = { ArrowDown: 1, ArrowUp: -1 }[event.key];
-    if (step) items[(items.indexOf(/** @type {HTMLElement} */ (document.activeElement)) + step + items.length) % items.length].focus();
+    const item = itemFor(event, all('button', menu));
+    item?.focus();
     if (event.key === 'Escape' || event.key === 'Tab') {
       show(false);
       $('file').focus();
     }
-    if (step || event.key === 'Escape') event.preventDefault();
+    if (item || event.key === 'Escape') event.preventDefault();
   });
+}
+
+// The item of a menu that a key goes to: the one beside, the first or the last one, or the next one that begins with a letter; or undefined.
+function itemFor({ key, ctrlKey, metaKey, altKey }, items) {
+  const here = items.indexOf(/** @type {HTMLElement} */ (document.activeElement));
+  const places = { ArrowDown: here + 1, ArrowUp: here - 1 + items.length, Home: 0, End: items.length - 1 };
+  if (key in places) return items[places[key] % items.length];
+  if (key.length !== 1 || key === ' ' || ctrlKey || metaKey || altKey) return undefined;
+  const after = [...items.slice(here + 1), ...items.slice(0, here + 1)];
+  return after.find(({ textContent }) => textContent.trim().toLowerCase().startsWith(key.toLowerCase()));
 }
 
 // Keys go to the grid after a dialog that was opened from the menu, whose item is hidden again.

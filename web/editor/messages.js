@@ -1,4 +1,4 @@
-// What the page says: a message at a time over the grid, a list of them, and warnings.
+// What the page says: a message at a time at its foot, a list of them, and warnings.
 import { keyed } from './key-names.js';
 import { termed } from './terms.js';
 

@@ -1,4 +1,5 @@
 // The elements of the page.
+import { partsOfText } from './marks.js';
 
 // An element, of whatever kind it is.
 /** @type {(id: string) => any} */
@@ -22,3 +23,12 @@ export function put(element, name, value) {
 
 // Whether an element is a field of text, other than the one of the grid.
 export const isText = (element) => /** @type {Element} */ (element).matches('input:not([type=range], #typing), textarea');
+
+// A text as nodes, its italics as elements.
+export const nodesOfText = (text) => partsOfText(text).map((part) => {
+  const node = document.createTextNode(part.text);
+  if (!part.isItalic) return node;
+  const italic = document.createElement('i');
+  italic.append(node);
+  return italic;
+});

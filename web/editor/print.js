@@ -1,5 +1,7 @@
 // What is printed: the blank grid with its clues, and the solution.
+import { brightened } from './colours.js';
 import { enumerated, hasEnumeration } from './enumeration.js';
+import { nodesOfText } from './page.js';
 
 // The room on the papers within the margins, in millimetres.
 const ROOM = { A4: { width: 182, height: 269 }, letter: { width: 188, height: 251 } };
@@ -54,41 +56,54 @@ export class Printer {
     return pages ? pages.map((isSolution) => this.#page(isSolution)) : this.#submission();
   }
 
-  // What an editor is sent: the filled grid and the numbered one with the name and address, and the answers with their clues.
+  // What an editor is sent: the filled grid and the numbered one, and the answers with their clues, each page with the name and address.
   #submission() {
     const grids = make('section', 'page submission');
     const answers = make('section', 'page submission');
-    grids.append(this.#head('', true), this.#grid(true), this.#grid(false));
-    answers.append(this.#head(': clues and answers', false), this.#answers());
+    grids.append(this.#head(''), this.#grid(true), this.#grid(false));
+    answers.append(this.#answers(this.#head(': clues and answers')));
     return [grids, answers];
   }
 
-  #head(what, hasAddress) {
+  #head(what) {
     const head = make('header', '');
     head.append(make('h1', '', `${this.#text('title') || 'Crossword'}${what}`));
     const { width, height } = this.#editor.board;
     const author = this.#text('author');
     // an address mostly begins with the name
     const sender = this.address.split('\n')[0].trim() === author ? [this.address] : [author, this.address];
-    head.append(make('p', 'address', hasAddress ? [...sender, `${width} × ${height}`].filter(Boolean).join('\n') : author));
+    head.append(make('p', 'address', [...sender, `${width} × ${height}`].filter(Boolean).join('\n')));
     return head;
   }
 
-  #answers() {
+  // The head of the table is that of each page which it goes on to.
+  #answers(head) {
     const { board } = this.#editor;
     const table = make('table', 'answers');
+    const top = make('th', 'top');
+    top.colSpan = 3;
+    top.append(head);
+    table.createTHead().insertRow().append(top);
+    const body = table.createTBody();
     for (const [direction, title] of [['across', 'Across'], ['down', 'Down']]) {
       const heading = make('th', '', title);
       heading.colSpan = 3;
-      table.insertRow().append(heading);
+      body.insertRow().append(heading);
       for (const light of board.lights.filter((one) => one.direction === direction)) {
-        const { text, enumeration } = enumerated(this.#text(`clue ${light.name}`), this.#editor.answerOf(light).length);
-        const row = table.insertRow();
-        const cells = [`${light.number}${direction === 'across' ? 'A' : 'D'}`, [text, this.hasLengths ? enumeration : ''].join(' ').trim(), this.#editor.answerOf(light).replaceAll('.', '_')];
-        row.append(...cells.map((cell) => make('td', '', cell)));
+        const { numbers, answer } = this.#editor.cluedBy(light);
+        const { text, enumeration } = enumerated(this.#text(`clue ${light.name}`), answer.length);
+        const row = body.insertRow();
+        const clue = make('td', '');
+        clue.append(...nodesOfText(text), this.hasLengths && !this.#isLinked(light) ? ` ${enumeration}` : '');
+        row.append(make('td', '', `${numbers}${direction === 'across' ? 'A' : 'D'}`), clue, make('td', '', this.#editor.answerOf(light).replaceAll('.', '_')));
       }
     }
     return table;
+  }
+
+  // Whether the clue of a light leads to that of another one, which it goes on from.
+  #isLinked(light) {
+    return this.#editor.links.headOf.has(light);
   }
 
   #text(field) {
@@ -119,7 +134,7 @@ export class Printer {
     board.cells.forEach((cell, index) => {
       const [x, y] = [(board.columnOf(index) - 1) * size, (board.rowOf(index) - 1) * size];
       const middle = `cx="${x + size / 2}" cy="${y + size / 2}" r="${size / 2 - 1}"`;
-      parts.push(`<rect x="${x}" y="${y}" width="${size}" height="${size}" fill="${cell.block ? '#000' : '#fff'}" stroke="#000" stroke-width="0.8"/>`);
+      parts.push(`<rect x="${x}" y="${y}" width="${size}" height="${size}" fill="#${cell.block ? '000' : brightened(this.#editor.colourOf(cell) || 'ffffff')}" stroke="#000" stroke-width="0.8"/>`);
       if (cell.circle && !cell.block) parts.push(`<circle ${middle} fill="none" stroke="#666" stroke-width="0.7"/>`);
       if (cell.number) parts.push(`<text x="${x + 2}" y="${y + 9}" font-size="8">${cell.number}</text>`);
       const entry = isSolution ? this.#editor.entryOf(cell) : '';
@@ -150,8 +165,9 @@ export class Printer {
       for (const light of board.lights.filter((one) => one.direction === direction)) {
         const clue = make('p', '');
         const text = this.#text(`clue ${light.name}`);
-        clue.append(make('b', '', light.number), ` ${text} `);
-        if (this.hasLengths && !hasEnumeration(text)) clue.append(make('span', 'length', `(${this.#editor.answerOf(light).length})`));
+        const { numbers, answer } = this.#editor.cluedBy(light);
+        clue.append(make('b', '', numbers), ' ', ...nodesOfText(text), ' ');
+        if (this.hasLengths && !hasEnumeration(text) && !this.#isLinked(light)) clue.append(make('span', 'length', `(${answer.length})`));
         clues.append(clue);
       }
     }

@@ -1,5 +1,6 @@
 // Records of a session: what they say, and the commands that lead from one to another.
 import { toText } from '../xw.js';
+import { withoutItalics } from './marks.js';
 
 const ESCAPES = { '\n': '\\n', '\r': '\\r', '\t': '\\t', ' ': '\\s', '\\': '\\\\' };
 const SPELLED = { n: '\n', r: '\r', t: '\t', s: ' ', '\\': '\\' };
@@ -27,6 +28,9 @@ export function nearestText(text) {
   }).join('');
   return { near, count };
 }
+
+// The text that the engine gets for one that was typed: with near characters and without italics; and how many characters are others.
+export const engineText = (text) => nearestText(withoutItalics(text));
 
 // The first character of a text that is not in the character set of .puz files, Windows-1252; or null.
 export function strangeCharacter(text) {

@@ -120,17 +120,18 @@ function wordWarnings(board, answerOf) {
   return warnings;
 }
 
-// Clues whose enumeration counts other letters than their light has. One that leads to other lights may count theirs too.
-function clueWarnings(board, answerOf) {
+// Clues whose enumeration counts other letters than their lights have. One that leads to other lights may count theirs too.
+function clueWarnings(board, cluedOf) {
   return board.lights.flatMap((light) => {
     const clue = unescapeText(board.texts.get(`clue ${light.name}`) ?? '');
     const length = enumeratedLength(clue);
-    const { length: own } = answerOf(light);
+    const { length: own } = cluedOf(light);
     if (length === null || length === own || /\b(across|down|ac|dn)\b/i.test(clue)) return [];
     return [{ text: `the clue of ${titled(light)} says ${clue.slice(clue.lastIndexOf('('))} and it has ${own} letters`, light: light.name, isClue: true }];
   });
 }
 
 // What the usual rules say against a grid: { text, light or cell to go to, isClue if it is about the clue }. `answerOf` gives the
-// letters of a light, of which a cell may have several.
-export const warningsOf = (board, answerOf = (light) => board.spell(light)) => [...gridWarnings(board), ...wordWarnings(board, answerOf), ...clueWarnings(board, answerOf)];
+// letters of a light, of which a cell may have several, and `cluedOf` those of all lights of its clue.
+export const warningsOf = (board, answerOf = (light) => board.spell(light), cluedOf = answerOf) =>
+  [...gridWarnings(board), ...wordWarnings(board, answerOf), ...clueWarnings(board, cluedOf)];

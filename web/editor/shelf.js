@@ -17,10 +17,11 @@ const LETTERS_LOST = 3;
 const STEPS_BETWEEN = 25;
 
 // Whether a record is that of a pattern or of a blank grid to which nothing was done.
-export function isUntouched(record) {
+/** @param {{ record: string, originals?: [string, string][] }} session */
+export function isUntouched({ record, originals = [] }) {
   const { added, struck, width, height, blocks, bars, circles, letters, texts } = parseRecord(record);
   const texted = [...texts.values()].filter(Boolean);
-  if (added.length + struck.length + circles.size + letters.size + texted.length) return false;
+  if (added.length + struck.length + circles.size + letters.size + texted.length + originals.length) return false;
   const grids = PATTERNS.map((pattern) => parseRecord(recordOf(rowsOf(pattern), pattern.sym)));
   const isSameGrid = (grid) => grid.width === width && grid.height === height && isSameSet(grid.blocks, blocks) && isSameSet(grid.bars, bars);
   return blocks.size + bars.size === 0 || grids.some(isSameGrid);
@@ -43,7 +44,7 @@ export class Shelf extends EventTarget {
   #isStoring = false;
   #isStoreDue = false;
   #draftFault = null;
-  // whether the puzzle is not kept, and whether the store failed the last time; the record that a file has
+  // whether the puzzle is not kept, and whether the store failed the last time; what a file has
   #isUnkept = false;
   #isStoreFailing = false;
   #inFile = null;
@@ -97,7 +98,7 @@ export class Shelf extends EventTarget {
   async #adopt() {
     const former = formerSessions().map((session) => ({ at: session.left ?? Date.now(), ...session, puzzle: session.puzzle ?? newPuzzleName() }));
     if (former.length) {
-      await storePuzzles(former.filter(({ record }) => !isUntouched(record)));
+      await storePuzzles(former.filter((session) => !isUntouched(session)));
       if (!puzzleOfTab()) keepDraft(former[0]);
       dropFormer();
     }
@@ -105,7 +106,7 @@ export class Shelf extends EventTarget {
     for (const puzzle of drafted()) {
       if (puzzle === here || held.has(puzzle)) continue;
       const draft = await this.latest(puzzle);
-      if (!isUntouched(draft.record)) await storePuzzles([draft]);
+      if (!isUntouched(draft)) await storePuzzles([draft]);
       dropDraft(puzzle);
     }
   }
@@ -197,8 +198,9 @@ export class Shelf extends EventTarget {
   }
 
   // Whether something was done to a puzzle. Once it was, its record is not looked at again.
-  #isBegun({ puzzle, record }) {
-    if (!this.#begun.has(puzzle) && !isUntouched(record)) this.#begun.add(puzzle);
+  #isBegun(session) {
+    const { puzzle } = session;
+    if (!this.#begun.has(puzzle) && !isUntouched(session)) this.#begun.add(puzzle);
     return this.#begun.has(puzzle);
   }
 
@@ -234,13 +236,19 @@ export class Shelf extends EventTarget {
 
   // A file has the puzzle as it is.
   saved() {
-    this.#inFile = this.#editor.record;
+    this.#inFile = this.#here;
+  }
+
+  // The record that is here, and what is kept beside it.
+  get #here() {
+    const { record, originals } = this.#editor;
+    return JSON.stringify([record, [...originals]]);
   }
 
   // Whether something is lost if the page goes.
   get #isAtRisk() {
     if (this.#isStoreFailing && this.#aside.length) return true;
-    return this.#isUnkept && this.#claim.isHeld && this.#editor.record !== this.#inFile && this.#isBegun(this.#editor.state);
+    return this.#isUnkept && this.#claim.isHeld && this.#here !== this.#inFile && this.#isBegun(this.#editor.state);
   }
 
   // Keeps a session that another puzzle replaces, and asks for the claim to that one.
@@ -254,7 +262,7 @@ export class Shelf extends EventTarget {
   }
 
   putAside(session) {
-    if (isUntouched(session.record)) return dropDraft(session.puzzle);
+    if (isUntouched(session)) return dropDraft(session.puzzle);
     this.#aside = [{ ...session, at: Date.now() }, ...this.#aside.filter(({ puzzle }) => puzzle !== session.puzzle)];
     this.#store();
   }

@@ -41,6 +41,9 @@ class Parts {
   // several letters, of which the engine has the first
   /** @type {ReadonlyMap<string, string>} */
   originals = new Map();
+  // letters of the candidate that is pointed at, by cell, where the grid has others or none
+  /** @type {ReadonlyMap<number, string>} */
+  ghosts = new Map();
   // the words that clues were written for
   /** @type {import('./written.js').Written} */
   written = new Map();
@@ -62,6 +65,9 @@ class Parts {
   // cells of words below the score that is chosen, and the directions of these words
   /** @type {Record<Direction, ReadonlySet<number>>} */
   weak = { across: new Set(), down: new Set() };
+  // cells of the worst of these words
+  /** @type {ReadonlySet<number>} */
+  worst = new Set();
   /** @type {WordList} */
   list = { name: '', words: 0, scored: false, best: 0, byGrade: new Uint32Array(), leftOut: {}, folded: 0, least: 0, grade: 0, weak: 0, sources: [], personal: '' };
   // names the puzzle: edits keep the name, another file or pattern has another one
@@ -150,6 +156,10 @@ export class EditorState {
     return this.#parts.originals;
   }
 
+  get ghosts() {
+    return this.#parts.ghosts;
+  }
+
   get written() {
     return this.#parts.written;
   }
@@ -180,6 +190,10 @@ export class EditorState {
 
   get weak() {
     return this.#parts.weak;
+  }
+
+  get worst() {
+    return this.#parts.worst;
   }
 
   get list() {

@@ -146,6 +146,21 @@ export function joinPersonal(text, other) {
   return { joined: [text.trimEnd(), ...lines].filter(Boolean).join('\n'), taken: lines.length, there, faults };
 }
 
+// The personal list with other scores for words: in the last line that a word has there, or in one of its own. A hidden word is no longer hidden.
+/** @param {Map<string, number>} scores */
+export function withScores(text, scores) {
+  const lines = linesOf(text);
+  const isOf = (word) => (line) => personalLine(line).letters === word;
+  for (const [word, score] of scores) {
+    const at = lines.findLastIndex(isOf(word));
+    const note = /#.*$/.exec(lines[at] ?? '')?.[0];
+    const line = [`${word};${score}`, note].filter(Boolean).join(' ');
+    if (at < 0) lines.push(line);
+    else lines[at] = line;
+  }
+  return lines.join('\n').trim();
+}
+
 // Reads lists as one. A word has its best score, or null if no list gives it one; the personal list decides over the others.
 export function joinLists(sources, personal) {
   const parts = sources.map((bytes) => readList(bytes));

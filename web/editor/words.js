@@ -1,8 +1,10 @@
-// The tab of words: the candidates of the light under the cursor, and the letters of its cell.
+// The tab of words: the candidates of the light under the cursor, or of the one that crosses it, and the letters of its cell.
 import { choices, match, tally, unpacked } from './answers.js';
 import { filtered } from './filter.js';
+import { UNSCORED, scoreOf } from './grades.js';
 import { onceIdle, whenIdle } from './idle.js';
 import { refuse, refusalText } from './messages.js';
+import { Roving } from './roving.js';
 import { termed } from './terms.js';
 
 // The most candidates that are listed, those of them that are listed at once, and the most words that are counted in one call.
@@ -10,6 +12,10 @@ const MOST_LISTED = 200;
 const FIRST_LISTED = 60;
 const MOST_COUNTED = 16;
 const MOST_PROBED = 8;
+// how many words are counted at most where dead ends make room for others
+const MOST_SUNK = 400;
+// into how many steps the best score of a list is parted, by which a word is graded again
+const STEPS = 10;
 // how long the cursor rests before words are asked for, and how long they may take before the old ones are dimmed, in milliseconds
 const REST = 40;
 const LATE = 250;
@@ -48,27 +54,73 @@ export class WordsView {
   #at = -1;
   #isDead = false;
   #isStanding = false;
+  // the word under the pointer, and what the grid shows in ghost letters; or ''
+  #hovered = '';
+  #ghost = '';
+  // rises with each change of the grid, and what the counts are for: a move within a light leaves them
+  #version = 0;
+  #counted = '';
+  // whether words that sank are listed where they were, since the pointer is on the list
+  #isLate = false;
+  #roving;
 
+  // `elements` may lack the filter with its order, and the letters: a list alone. `actions`: `light` tells whose words are listed, and `isShown` whether
+  // they are; `place` and `strike` take a word, `regrade` gives it another score, and `enter` takes a letter.
   constructor(editor, elements, actions) {
     this.#editor = editor;
     this.#elements = elements;
     this.actions = actions;
-    editor.on(['board', 'letters', 'cursor'], () => this.#soon());
-    elements.filter.addEventListener('input', () => this.#list());
-    elements.filter.addEventListener('keydown', (event) => this.#key(event));
-    elements.order.addEventListener('change', () => this.#list());
+    editor.on(['board', 'letters'], () => {
+      this.#version++;
+    });
+    editor.on(['board', 'letters', 'cursor'], () => this.soon());
     elements.list.addEventListener('click', (event) => this.#click(event));
-    elements.letters.addEventListener('click', (event) => {
+    elements.list.addEventListener('scroll', () => !this.#isDead && this.#countSoon());
+    elements.list.addEventListener('pointermove', (event) => this.#hover(event));
+    elements.list.addEventListener('pointerleave', () => this.#leave());
+    if (elements.filter) this.#takeFilter();
+    if (elements.letters) this.#takeLetters();
+  }
+
+  #takeFilter() {
+    const { filter, order } = this.#elements;
+    filter.addEventListener('input', () => this.#list());
+    filter.addEventListener('keydown', (event) => this.#key(event));
+    filter.addEventListener('focus', () => this.#showGhost());
+    filter.addEventListener('blur', () => this.#showGhost(this.#hovered));
+    order.addEventListener('change', () => this.#list());
+  }
+
+  #takeLetters() {
+    const { letters } = this.#elements;
+    this.#roving = new Roving(letters);
+    letters.addEventListener('click', (event) => {
       const letter = event.target.closest('button')?.dataset.letter;
-      if (letter && this.#lettered === editor.cursor) actions.enter(letter);
+      if (letter && this.#lettered === this.#editor.cursor) this.actions.enter(letter);
     });
   }
 
   clearFilter() {
-    this.#elements.filter.value = '';
+    if (this.#elements.filter) this.#elements.filter.value = '';
   }
 
-  #soon() {
+  get #filtered() {
+    return this.#elements.filter?.value ?? '';
+  }
+
+  get #order() {
+    return this.#elements.order?.value ?? 'list';
+  }
+
+  get #light() {
+    return this.actions.light();
+  }
+
+  // Asks anew for what is listed.
+  soon() {
+    this.#hovered = '';
+    this.#showGhost('');
+    if (!this.actions.isShown()) return;
     this.#turn++;
     clearTimeout(this.#timer);
     this.#timer = setTimeout(() => whenIdle(() => this.#ask(this.#turn)), REST);
@@ -80,23 +132,20 @@ export class WordsView {
 
   // The name of the light, and its letters. The candidates of another light stay until those of this one come, but cannot be chosen.
   #head() {
-    const { light, board } = this.#editor;
+    const { board, cursor } = this.#editor;
+    const light = this.#light;
     const { name, spelled } = this.#elements;
-    if (!light) {
-      setText(name, board.cells[this.#editor.cursor]?.block ? 'A block' : 'No light');
-      fit(spelled, this.#boxes, 0, makeBox);
-      return;
-    }
-    setText(name, titleOf(light));
-    fit(spelled, this.#boxes, light.cells.length, makeBox);
-    light.cells.forEach((index, at) => this.#box(this.#boxes[at], index));
+    setText(name, light ? titleOf(light) : board.cells[cursor]?.block ? 'A block' : 'No light');
+    if (!spelled) return;
+    fit(spelled, this.#boxes, light?.cells.length ?? 0, makeBox);
+    light?.cells.forEach((index, at) => this.#box(this.#boxes[at], index));
   }
 
   #showBusy() {
     const { list, letters } = this.#elements;
-    const isOther = this.#editor.cursor !== this.#lettered;
+    const isOther = Boolean(letters) && this.#editor.cursor !== this.#lettered;
     list.setAttribute('aria-busy', String(!this.#isCurrent || this.#answered !== this.#turn));
-    letters.setAttribute('aria-busy', String(isOther));
+    letters?.setAttribute('aria-busy', String(isOther));
     clearTimeout(this.#lateTimer);
     if (isOther || !this.#isCurrent) this.#lateTimer = setTimeout(() => this.#dim(), LATE);
     else this.#dim();
@@ -104,12 +153,12 @@ export class WordsView {
 
   #dim() {
     this.#elements.list.classList.toggle('late', !this.#isCurrent);
-    this.#elements.letters.classList.toggle('late', this.#editor.cursor !== this.#lettered);
+    this.#elements.letters?.classList.toggle('late', this.#editor.cursor !== this.#lettered);
   }
 
   // Whether what is listed is that of the light under the cursor.
   get #isCurrent() {
-    return (this.#editor.light?.name ?? '') === this.#listed;
+    return (this.#light?.name ?? '') === this.#listed;
   }
 
   #box(box, index) {
@@ -123,7 +172,7 @@ export class WordsView {
 
   async #ask(turn) {
     const editor = this.#editor;
-    const { light } = editor;
+    const light = this.#light;
     try {
       if (!light) {
         this.#left = new Map();
@@ -141,7 +190,7 @@ export class WordsView {
       const isDead = light.count === 0;
       const told = isDead ? await this.#matches(light) : unpacked(words);
       if (turn !== this.#turn) return;
-      this.#left = new Map();
+      this.#keepCounts(light);
       this.#isDead = isDead;
       this.#isCounting = !isDead && told.length > 0;
       this.#take(turn, told, scores);
@@ -157,6 +206,7 @@ export class WordsView {
     const { fit, others, scores } = await this.#editor.engine.call('alternatives', { light: light.name, pencil: [...this.#editor.pencil] });
     if (turn !== this.#turn) return;
     this.#left = new Map();
+    this.#counted = '';
     this.#isDead = false;
     this.#isCounting = fit.length + others.length > 0;
     this.#needs = new Map(others.map(({ word, needs }) => [word, needs]));
@@ -165,16 +215,24 @@ export class WordsView {
     await this.#probe(turn, light);
   }
 
+  // Keeps what words leave, as long as they are of the same light in the same grid.
+  #keepCounts(light) {
+    const counted = `${light.name} ${this.#version}`;
+    if (counted !== this.#counted) this.#left = new Map();
+    this.#counted = counted;
+  }
+
   // In a dead end: the words that agree with the letters of the light alone.
   async #matches(light) {
     return (await this.#editor.ask(match(this.#editor.board.spell(light)))) ?? [];
   }
 
   #take(turn, words, scores) {
-    const pointed = this.#isCurrent ? this.shown[this.#at] : undefined;
+    const pointed = this.#isCurrent ? this.#pointed : '';
     this.#answered = turn;
+    this.#isLate = false;
     if (!this.#isStanding) this.#needs = new Map();
-    this.#listed = this.#editor.light?.name ?? '';
+    this.#listed = this.#light?.name ?? '';
     this.#words = words;
     this.#scores = new Map(scores ? words.map((word, at) => [word, scores[at]]) : []);
     this.#at = -1;
@@ -183,10 +241,17 @@ export class WordsView {
     if (pointed) this.#pointAt(pointed);
   }
 
+  // Dead ends come last, but for the word that keys point at, which stays where it is.
   #ordered() {
-    const words = filtered(this.#words, this.#elements.filter.value);
-    if (this.#elements.order.value === 'abc') return [...words].sort();
-    if (this.#elements.order.value !== 'left') return words;
+    const words = this.#inOrder();
+    const dead = new Set([...this.#left].filter(([word, left]) => left === 0 && word !== this.#pointed).map(([word]) => word));
+    return dead.size ? [...words.filter((word) => !dead.has(word)), ...words.filter((word) => dead.has(word))] : words;
+  }
+
+  #inOrder() {
+    const words = filtered(this.#words, this.#filtered);
+    if (this.#order === 'abc') return [...words].sort();
+    if (this.#order !== 'left') return words;
     const rank = (word) => {
       const left = this.#left.get(word);
       return left === 'done' ? Number.MAX_VALUE : left ?? -1;
@@ -198,7 +263,7 @@ export class WordsView {
 
   #list() {
     const words = this.#ordered();
-    const { list, legend, filter } = this.#elements;
+    const { list, legend } = this.#elements;
     this.shown = words.slice(0, MOST_LISTED);
     if (this.#at >= this.shown.length) this.#at = -1;
     this.#fillRows(FIRST_LISTED);
@@ -207,22 +272,24 @@ export class WordsView {
     list.hidden = !words.length && this.#isCurrent;
     list.classList.toggle('dead-end', this.#isDead);
     list.classList.toggle('alternatives', this.#isStanding && this.#needs.size > 0);
+    list.classList.toggle('scored', this.#scores.size > 0);
     this.#showBusy();
     setText(legend, this.#legend());
     this.#summary(words.length);
     this.#point();
-    if (filter.value && !this.#isDead) this.#countSoon();
+    if (this.#filtered && !this.#isDead) this.#countSoon();
   }
 
   // Fills the rows of the first words.
   #fillRows(most) {
     const words = this.shown.slice(0, most);
-    fit(this.#elements.list, this.#rows, words.length, makeRow);
+    const { list } = this.#elements;
+    fit(list, this.#rows, words.length, (at) => makeRow(`${list.id}-${at}`));
     words.forEach((word, at) => this.#fillRow(this.#rows[at], word));
   }
 
   #legend() {
-    if (!this.#words.length) return this.#isStanding && this.#editor.light ? 'no other word of your lists fits here' : '';
+    if (!this.#words.length) return this.#isStanding && this.#light ? 'no other word of your lists fits here' : '';
     if (!this.shown.length) return 'no word passes the filter; Esc in it clears it';
     if (this.#isCounting) return 'counting what each word leaves …';
     if (this.#isStanding) return this.#standingLegend();
@@ -246,10 +313,10 @@ export class WordsView {
   #summary(count) {
     const all = this.#words.length;
     let text = all === 1 ? '1 word' : `${all.toLocaleString('en')} words`;
-    if (!this.#editor.light) text = '';
-    else if (this.#isStanding && !this.#elements.filter.value) text = alternativesText(all - this.#needs.size, this.#needs.size);
+    if (!this.#light) text = '';
+    else if (this.#isStanding && !this.#filtered) text = alternativesText(all - this.#needs.size, this.#needs.size);
     else if (this.#isDead) text = 'no word is left';
-    else if (this.#elements.filter.value) text = `${count} of ${all} words`;
+    else if (this.#filtered) text = `${count} of ${all} words`;
     setText(this.#elements.summary, text);
   }
 
@@ -275,23 +342,23 @@ export class WordsView {
 
   // What each of the first words leaves, and then those in sight.
   async #count(turn, light) {
-    const told = await this.#editor.ask(choices(light.name, MOST_COUNTED));
-    if (turn !== this.#turn) return;
-    this.#takeLeft((told ?? []).map(({ word, left }) => [word, left]));
+    if (!this.#left.size) {
+      const told = await this.#editor.ask(choices(light.name, MOST_COUNTED));
+      if (turn !== this.#turn) return;
+      this.#takeLeft((told ?? []).map(({ word, left }) => [word, left]));
+    }
     await this.#probe(turn, light);
   }
 
-  #counted() {
+  #endCounting() {
     this.#isCounting = false;
     setText(this.#elements.legend, this.#legend());
   }
 
   #takeLeft(pairs) {
     for (const [word, left] of pairs) this.#left.set(word, left);
-    if (this.#elements.order.value === 'left') {
-      this.#list();
-      return;
-    }
+    this.#isLate ||= this.#order === 'left' || pairs.some(([, left]) => left === 0);
+    if (this.#isLate && !this.#isHeld) this.#listAgain();
     const { childElementCount } = this.#elements.list;
     this.shown.slice(0, childElementCount).forEach((word, at) => this.#left.has(word) && this.#fillLeft(this.#rows[at], word));
   }
@@ -301,14 +368,16 @@ export class WordsView {
     const { engine } = this.#editor;
     let [answers, shownAt] = [{}, performance.now()];
     const isKnown = (word) => this.#left.has(word) || word in answers;
+    const unknown = () => (this.#left.size < MOST_SUNK ? this.#inSight().filter((word) => !isKnown(word)).slice(0, MOST_PROBED) : []);
     while (turn === this.#turn) {
-      const words = this.#inSight().filter((word) => !isKnown(word)).slice(0, MOST_PROBED);
-      const isEnd = !words.length || this.actions.isFilling();
-      if (isEnd || performance.now() - shownAt > SHOWN_EACH) {
+      let words = unknown();
+      if (!words.length || performance.now() - shownAt > SHOWN_EACH) {
         this.#takeLeft(Object.entries(answers));
         [answers, shownAt] = [{}, performance.now()];
+        // dead ends that have sunk make room for others
+        words = unknown();
       }
-      if (isEnd) return this.#counted();
+      if (!words.length || this.actions.isFilling()) return this.#endCounting();
       const { left, taken } = await engine.call('probe', { light: light.name, words, cleared: this.#cleared(light, words) });
       if (turn !== this.#turn) return undefined;
       Object.assign(answers, left);
@@ -337,12 +406,8 @@ export class WordsView {
     clearTimeout(this.#countTimer);
     const turn = this.#turn;
     this.#countTimer = setTimeout(() => {
-      if (this.#editor.light) this.#probe(turn, this.#editor.light).catch(() => {});
+      if (this.#light) this.#probe(turn, this.#light).catch(() => {});
     }, REST);
-  }
-
-  scrolled() {
-    if (!this.#isDead) this.#countSoon();
   }
 
   // The feasible letters of the cell, with what they leave across and down.
@@ -350,16 +415,16 @@ export class WordsView {
     const { board, cursor } = this.#editor;
     const cell = board.cells[cursor];
     const { letters, coordinates } = this.#elements;
+    if (!letters) return this.#showBusy();
     if (cell.block) {
       this.#lettered = cursor;
       setText(coordinates, '');
       this.#showBusy();
       letters.classList.remove('none');
-      fit(letters, this.#buttons, 0, makeButton);
-      return;
+      return fit(letters, this.#buttons, 0, makeButton);
     }
     const told = (await this.#editor.ask(tally(cell.coordinates))) ?? [];
-    if (turn !== this.#turn) return;
+    if (turn !== this.#turn) return undefined;
     this.#lettered = cursor;
     letters.parentElement.classList.toggle('entered', Boolean(cell.letter));
     setText(coordinates, `Row ${board.rowOf(cursor)}, column ${board.columnOf(cursor)}`);
@@ -368,6 +433,63 @@ export class WordsView {
     const most = Math.max(1, ...told.map(({ across, down }) => Math.max(Number(across) || 0, Number(down) || 0)));
     fit(letters, this.#buttons, told.length, makeButton);
     told.forEach((counts, at) => fillButton(this.#buttons[at], counts, most));
+    return this.#roving.show();
+  }
+
+  // The word that is pointed at.
+
+  // The one that keys point at; or ''.
+  get #pointed() {
+    return this.shown[this.#at] ?? '';
+  }
+
+  get #isHeld() {
+    return this.#hovered !== '' && this.#elements.list.matches(':hover');
+  }
+
+  // Lists the words in their order again. Keys point at the same word.
+  #listAgain() {
+    const pointed = this.#pointed;
+    this.#isLate = false;
+    this.#list();
+    if (pointed) this.#pointAt(pointed);
+  }
+
+  // A list that moves under a pointer at rest is not pointed at.
+  #hover({ target, pointerType }) {
+    const word = pointerType === 'touch' ? '' : target.closest('li')?.dataset.word ?? '';
+    if (word === this.#hovered) return;
+    this.#hovered = word;
+    this.#showGhost();
+  }
+
+  #leave() {
+    this.#hovered = '';
+    this.#showGhost();
+    if (this.#isLate) this.#listAgain();
+  }
+
+  // Shows the word under the pointer in ghost letters, or the one that keys of the filter point at.
+  #showGhost(word = this.#hovered || (document.activeElement === this.#elements.filter ? this.#pointed : '')) {
+    const { board } = this.#editor;
+    const light = this.#isCurrent ? this.#light : null;
+    const shown = word && light?.cells.length === word.length ? `${light.name} ${word}` : '';
+    if (shown === this.#ghost) return;
+    this.#ghost = shown;
+    const cells = shown ? light.cells.map((cell, at) => /** @type {[number, string]} */ ([cell, word[at]])) : [];
+    this.#editor.change({ ghosts: new Map(cells.filter(([cell, letter]) => board.cells[cell].letter !== letter)) });
+  }
+
+  // Gives a word a score that is a step better, or worse, in the words of the user.
+  #regrade(word, direction) {
+    const { best } = this.#editor.list;
+    if (!this.#scores.size) return refuse('your lists have no scores, so there is nothing to grade');
+    const score = this.#scores.get(word) ?? scoreOf(UNSCORED, best);
+    const other = Math.max(0, Math.min(best, score + direction * Math.max(1, Math.round(best / STEPS))));
+    if (other === score) return refuse(`${word} has ${score} already, the ${direction > 0 ? 'best' : 'least'} score`);
+    this.#scores.set(word, other);
+    this.#fillRows(this.#elements.list.childElementCount);
+    return this.actions.regrade(word, other);
   }
 
   // The keys of the filter.
@@ -386,8 +508,10 @@ export class WordsView {
       else refuse('no candidate passes the filter');
     } else if (event.key === 'Delete' && event.shiftKey) {
       event.preventDefault();
-      const word = this.shown[this.#at];
-      if (word) this.actions.strike(word);
+      if (this.#pointed) this.actions.strike(this.#pointed);
+    } else if (/^[+-]$/.test(event.key) && this.#pointed && !this.#filtered.startsWith('/')) {
+      event.preventDefault();
+      this.#regrade(this.#pointed, event.key === '+' ? 1 : -1);
     } else if (event.key === 'Escape') {
       event.preventDefault();
       if (this.#elements.filter.value) {
@@ -395,6 +519,7 @@ export class WordsView {
         this.#list();
       } else {
         this.actions.toGrid();
+        this.#showGhost();
       }
     }
   }
@@ -410,7 +535,8 @@ export class WordsView {
     for (const row of list.querySelectorAll('[aria-selected=true]')) row.removeAttribute('aria-selected');
     if (this.#at >= list.childElementCount) this.#fillRows(MOST_LISTED);
     const row = list.children[this.#at];
-    if (!row) return filter.removeAttribute('aria-activedescendant');
+    this.#showGhost();
+    if (!row) return filter?.removeAttribute('aria-activedescendant');
     row.setAttribute('aria-selected', 'true');
     row.scrollIntoView({ block: 'nearest' });
     filter.setAttribute('aria-activedescendant', row.id);
@@ -419,14 +545,16 @@ export class WordsView {
   #click(event) {
     const word = event.target.closest('li')?.dataset.word;
     if (!word || !this.#isCurrent) return;
+    const step = event.target.closest('.grade')?.dataset.step;
     if (event.target.closest('.strike')) this.actions.strike(word);
+    else if (step) this.#regrade(word, Number(step));
     else this.#place(word);
   }
 
   async #place(word) {
     const refused = await this.actions.place(word, this.#needs.get(word) ?? null);
     if (refused) return refuse(refusalText(refused));
-    this.#elements.filter.value = '';
+    this.clearFilter();
     this.actions.toGrid();
   }
 }
@@ -470,16 +598,19 @@ const LEFT_TITLE = 'the least number of words that a light has then';
 
 const makeBox = () => document.createElement('span');
 
-function makeRow(at) {
+function makeRow(id) {
   /** @type {HTMLLIElement & { parts?: Record<string, HTMLElement> }} */
   const row = document.createElement('li');
   row.setAttribute('role', 'option');
-  row.id = `word-${at}`;
+  row.id = id;
   row.parts = {
-    name: document.createElement('span'), score: small('score', 'score'), left: small('left', LEFT_TITLE),
-    strike: small('strike', 'hide this word in this puzzle (Shift Delete)'),
+    name: document.createElement('span'), score: small('score', 'score'), worse: small('grade', 'a worse score, in My words ( - )'),
+    better: small('grade', 'a better score, in My words ( + )'), left: small('left', LEFT_TITLE), strike: small('strike', 'hide this word in this puzzle (Shift Delete)'),
   };
-  setText(row.parts.strike, '×');
+  for (const [name, sign, step] of [['worse', '−', '-1'], ['better', '+', '1'], ['strike', '×', '']]) {
+    setText(row.parts[name], sign);
+    if (step) row.parts[name].dataset.step = step;
+  }
   row.append(...Object.values(row.parts));
   return row;
 }

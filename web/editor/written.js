@@ -1,5 +1,8 @@
 // The words that clues were written for. A clue belongs to the word that stood in its light when it was written, or that came there first. It is stale
-// once another word stands there.
+// once another word stands there. One that leads to another clue, such as “See 1”, belongs to no word.
+
+import { isReference } from './links.js';
+import { unescapeText } from './record.js';
 
 /** @typedef {import('./board.js').Board} Board */
 /** @typedef {import('./board.js').Light} Light */
@@ -16,7 +19,7 @@ export function adopted(board, written) {
   const now = new Map(written);
   for (const light of board.lights) {
     const field = board.clueField(light);
-    if (!board.hasClue(light)) now.delete(field);
+    if (!board.hasClue(light) || isReference(unescapeText(board.texts.get(`clue ${light.name}`)))) now.delete(field);
     else if (!now.has(field) && board.isEntered(light)) now.set(field, board.spell(light));
   }
   return isSameMap(now, written) ? written : now;

@@ -30,6 +30,17 @@ export async function begin(pattern) {
   await page.statusIs(/new puzzle|no words for/);
 }
 
+// Leads an American grid into a dead end by three letters, and asks for the reason; returns what is said.
+export async function intoDeadEnd() {
+  await begin(1);
+  await browser.type('sp');
+  await browser.click('#cell-2-1');
+  await browser.type('x');
+  await page.statusIs(/dead end/);
+  await browser.press('?');
+  return page.statusIs(/\d+ (Across|Down)[^]* no word, by/);
+}
+
 export async function openFile(path) {
   await hush();
   await browser.choose('#picker', path);
@@ -51,8 +62,8 @@ export async function openRecord(record) {
 // Gives each light a clue, and returns their number.
 export async function writeClues() {
   await browser.press('F3');
-  const count = await page.count('#clue-list input');
-  await browser.value("document.querySelector('#clue-list input').focus()");
+  const count = await page.count('#clue-list textarea');
+  await browser.value("document.querySelector('#clue-list textarea').focus()");
   for (let at = 0; at < count; at++) {
     await browser.type(`clue ${at + 1}`);
     await browser.press('Enter');

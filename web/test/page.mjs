@@ -57,7 +57,7 @@ export const page = {
   facts: () => browser.value("document.getElementById('facts').textContent"),
   // the letters of the rows, with # for a block and . for no entry, all as they are at one moment
   rows: () => browser.value(`[...document.querySelectorAll('#grid .row')].map((row) => [...row.querySelectorAll('.cell')].map((cell) => cell.classList.contains('block') ? '#' :
-    cell.classList.contains('only') ? '.' : cell.querySelector('.letter').textContent || '.').join(''))`),
+    cell.matches('.only, .ghost') ? '.' : cell.querySelector('.letter').textContent || '.').join(''))`),
   row: async (row) => (await page.rows())[row - 1],
   has: (cell, name) => browser.value(`document.getElementById('cell-${cell}').classList.contains('${name}')`),
   count: (selector) => browser.value(`document.querySelectorAll(${JSON.stringify(selector)}).length`),

@@ -4,11 +4,11 @@ import { join } from 'node:path';
 import { Xw } from '../../dist/xw.js';
 import { begin, menu, openFile, openRecord, print, saved } from '../doing.mjs';
 import { isDrafted } from '../holding.mjs';
-import { PAGE, browser, expect, module, page, picture, ready, reload, room, runAlone } from '../page.mjs';
+import { LIST, PAGE, browser, expect, module, page, picture, ready, reload, room, runAlone } from '../page.mjs';
 
 // A row of four cells with a word.
 const rowOf = (word) => `size 4 1\n${[...word].map((letter, at) => `set 1 ${at + 1} ${letter}\n`).join('')}`;
-const clueIs = (text) => browser.until(`document.querySelector('#clue-list input').value === '${text}'`);
+const clueIs = (text) => browser.until(`document.querySelector('#clue-list textarea').value === '${text}'`);
 const staleIs = (text) => browser.until(`document.querySelector('.clue .written').textContent === '${text}' && Boolean(document.querySelector('.clue.stale')) === ${Boolean(text)}`);
 const WRITTEN = 'Written for BAAS: Keep Drop';
 
@@ -74,13 +74,13 @@ export const CASES = {
   async 'a block that hides a clue'() {
     await openRecord('size 5 1\nblock 1 3\ntext clue 1 1 across First\ntext clue 1 4 across Second\n');
     await browser.press('F3');
-    await browser.until("[...document.querySelectorAll('#clue-list input')].map(({ value }) => value).join() === 'First,Second'");
+    await browser.until("[...document.querySelectorAll('#clue-list textarea')].map(({ value }) => value).join() === 'First,Second'");
     await browser.click('#cell-1-3');
     await browser.press('.');
     await page.statusIs(/^the clue of 2 Across is hidden, since its (light|entry) is gone: undo brings it back$/i, 'bad');
-    await browser.until("document.querySelectorAll('#clue-list input').length === 1");
+    await browser.until("document.querySelectorAll('#clue-list textarea').length === 1");
     await browser.press('Control+z');
-    await browser.until("[...document.querySelectorAll('#clue-list input')].map(({ value }) => value).join() === 'First,Second'");
+    await browser.until("[...document.querySelectorAll('#clue-list textarea')].map(({ value }) => value).join() === 'First,Second'");
   },
 
   async 'Esc in a clue'() {
@@ -115,6 +115,150 @@ export const CASES = {
     await browser.until("document.getElementById('title').value === ''");
   },
 
+  async 'one clue for several lights'() {
+    await openRecord('size 5 3\nblock 2 1\nblock 2 2\nblock 2 3\nblock 2 4\nblock 2 5\nset 1 1 G\nset 1 2 R\nset 1 3 E\nset 1 4 A\nset 1 5 T\nset 3 1 B\nset 3 2 A\nset 3 3 R\nset 3 4 N\nset 3 5 S\n');
+    await browser.press('F3');
+    await browser.insert('Shakers leave large farm buildings');
+    await browser.press('Enter');
+    await browser.until("document.activeElement.dataset.light === '2 across'");
+    await browser.press('ArrowUp');
+    await browser.value("document.querySelector('.clue-more .links').focus()");
+    await browser.insert('9');
+    await browser.press('Enter');
+    await page.statusIs(/no other (light|entry) is called 9/, 'bad');
+    await browser.value("document.querySelector('.clue-more .links').value = ''");
+    await browser.insert('2');
+    await browser.press('Enter');
+    await browser.until("[...document.querySelectorAll('.clue b')].map(({ textContent }) => textContent).join() === '1/2,2'");
+    await browser.until("[...document.querySelectorAll('#clue-list textarea')].map(({ value }) => value).join('|') === 'Shakers leave large farm buildings|See 1' && document.querySelectorAll('#clue-list textarea')[1].readOnly");
+    await browser.until("document.getElementById('clue-summary').textContent.endsWith('has a clue')");
+    await picture('linked-lights');
+    // the length is that of both, and a clue that leads to another one gets none
+    await browser.click('#clue-lengths');
+    await page.statusIs(/^1 clue has a length now$/);
+    await browser.until("[...document.querySelectorAll('#clue-list textarea')].map(({ value }) => value).join('|') === 'Shakers leave large farm buildings (10)|See 1'");
+    await browser.press('F4');
+    await browser.until("!/says/.test(document.getElementById('checks').textContent)");
+    await browser.press('Control+p');
+    await browser.until("[...document.querySelectorAll('#preview .clues p')].map(({ textContent }) => textContent.trim()).join('|') === '1/2 Shakers leave large farm buildings (10)|2 See 1'");
+    await browser.press('Escape');
+    const puz = await saved('crossword.puz', () => browser.press('Control+s'));
+    await page.statusIs(/^saved: crossword.puz, without the link of a clue$/);
+    expect(Xw.open(module, { puzzle: puz }).line('texts').lines.includes('clue 2 across See 1'), 'the .puz has another clue');
+    const ipuz = JSON.parse((await saved('crossword.ipuz', () => menu('save-ipuz'))).toString());
+    expect(ipuz.clues.Across[0].continued[0].number === 2 && ipuz.clues.Across[1].see[0].number === 1, JSON.stringify(ipuz.clues));
+    await saved('crossword.xw', () => menu('save-session'));
+    for (const name of ['crossword.ipuz', 'crossword.xw']) {
+      await begin(6);
+      await openFile(join(room, name));
+      await page.statusIs(/is open; undo/);
+      await browser.press('F3');
+      await browser.until("[...document.querySelectorAll('.clue b')].map(({ textContent }) => textContent).join() === '1/2,2'");
+    }
+    // another number of the first light comes into the clue of the other one, in the step of the block
+    await browser.click('#cell-1-1');
+    await browser.press('=');
+    await browser.press('.');
+    await browser.until("document.querySelector('#cell-1-1.block')");
+    await browser.press('Control+z');
+    await browser.until("[...document.querySelectorAll('#clue-list textarea')].map(({ value }) => value).join('|') === 'Shakers leave large farm buildings (10)|See 1'");
+    // without the link the other light is without a clue
+    await browser.click('#clue-list textarea');
+    await browser.value("document.querySelector('.clue-more .links').focus(), document.querySelector('.clue-more .links').value = ''");
+    await browser.press('Enter');
+    await browser.until("[...document.querySelectorAll('#clue-list textarea')].map(({ value }) => value).join('|') === 'Shakers leave large farm buildings (10)|' && !document.querySelector('.clue.linked')");
+    await browser.click('#cell-1-1');
+    await browser.press('Control+z');
+    await browser.until("[...document.querySelectorAll('#clue-list textarea')].map(({ value }) => value).join('|') === 'Shakers leave large farm buildings (10)|See 1'");
+  },
+
+  async 'numbers of linked lights after a block'() {
+    await openRecord('size 4 4\ntext clue 2 1 across One\ntext clue 3 1 across Two\n');
+    await browser.press('F3');
+    await browser.until("document.querySelectorAll('#clue-list textarea').length === 8");
+    await browser.click('[data-light="5 across"]');
+    await browser.value("document.querySelector('.clue-more .links').focus()");
+    await browser.insert('6');
+    await browser.press('Enter');
+    await browser.until("document.querySelector('[data-light=\"6 across\"]').value === 'See 5'");
+    await browser.click('#cell-1-1');
+    await browser.press('.');
+    await browser.until("document.querySelector('.clue.linked textarea').value === 'See 4'");
+    await browser.click('#cell-1-2');
+    await browser.press('Control+z');
+    await browser.until("document.querySelector('.clue.linked textarea').value === 'See 5' && !document.querySelector('#cell-1-1.block')");
+  },
+
+  async 'notes, italics and helpers of a setter'() {
+    await openRecord(rowOf('TONE'));
+    await browser.press('F3');
+    await browser.insert('Sound of Hamlet');
+    await browser.value("document.activeElement.setSelectionRange(9, 15)");
+    await browser.press('Control+i');
+    await clueIs('Sound of <i>Hamlet</i>');
+    await browser.until("document.querySelector('.clue .italics i').textContent === 'Hamlet'");
+    await browser.press('Enter');
+    await isDrafted(/Sound of <i>Hamlet/);
+    // a note is for the setter alone
+    await browser.value("document.querySelector('.clue-more .note').focus()");
+    await browser.insert('two meanings');
+    await browser.press('Enter');
+    await isDrafted(/note 1 1 across/);
+    // helpers look through the lists
+    const anagrams = LIST.toUpperCase().split('\n').filter((word) => word !== 'TONE' && [...word].sort().join('') === 'ENOT');
+    await browser.value("[...document.querySelectorAll('.clue-more .helpers button')][1].click()");
+    await browser.until(`${JSON.stringify(anagrams)}.every((word) => [...document.querySelectorAll('.found button')].some(({ textContent }) => textContent === word))`);
+    await picture('anagrams');
+    await browser.click('.found button');
+    const [first] = await browser.value("[...document.querySelectorAll('.found button')].map(({ textContent }) => textContent)");
+    await browser.until(`document.querySelector('.clue-more .note').value === 'two meanings (${first})*'`);
+    await browser.value("[...document.querySelectorAll('.clue-more .helpers button')][2].click()");
+    await browser.until("document.querySelectorAll('.found button').length > 3 && [...document.querySelectorAll('.found button')].every(({ textContent }) => textContent.replace(/[a-z ]/g, '') === 'TONE')");
+    await isDrafted(/two meanings \(/);
+    await reload();
+    await browser.press('F3');
+    await clueIs('Sound of <i>Hamlet</i>');
+    await browser.until(`document.querySelector('.clue-more .note').value === 'two meanings (${first})*'`);
+    // the engine, and so a .puz, has the text alone
+    const bytes = await saved('crossword.puz', () => browser.press('Control+s'));
+    await page.statusIs(/^saved: crossword.puz, without the italics of a clue and a private note$/);
+    expect(Xw.open(module, { puzzle: bytes }).line('texts').lines.join() === 'clue 1 across Sound of Hamlet', 'the .puz has another clue');
+    const ipuz = JSON.parse((await saved('crossword.ipuz', () => menu('save-ipuz'))).toString());
+    expect(ipuz.clues.Across[0][1] === 'Sound of <i>Hamlet</i>' && !JSON.stringify(ipuz).includes('meanings'), JSON.stringify(ipuz.clues));
+    await browser.press('Control+p');
+    await browser.until("document.querySelector('#preview .clues i').textContent === 'Hamlet' && !/meanings/.test(document.getElementById('preview').textContent)");
+    await browser.press('Escape');
+    // undo takes back the last change of the note, and says so
+    await browser.click('#cell-1-1');
+    await browser.press('F3');
+    await browser.value("document.querySelector('.clue-more .note').focus(), document.querySelector('.clue-more .note').select()");
+    await browser.insert('other');
+    await browser.press('Enter');
+    await isDrafted(/"other"/);
+    await browser.click('#cell-1-1');
+    await browser.press('Control+z');
+    await page.statusIs(/^undone: the note on 1 Across$/i);
+    await browser.until(`document.querySelector('.clue-more .note').value === 'two meanings (${first})*'`);
+  },
+
+  async 'a field that grows with its clue'() {
+    await openRecord(rowOf('TONE'));
+    await browser.press('F3');
+    await browser.insert('Short');
+    const heightIs = (test) => browser.until(`(({ offsetHeight, scrollHeight, clientHeight, offsetWidth }) => ${test})(document.querySelector('#clue-list textarea'))`);
+    const low = await browser.value("document.querySelector('#clue-list textarea').offsetHeight");
+    await browser.insert(', and then ever so much longer, so that it does not fit into a line of the field, however wide that may be in this window or in another one');
+    await heightIs(`offsetHeight > ${low} + 10 && scrollHeight <= clientHeight + 1`);
+    await picture('long-clue');
+    await browser.press('Enter');
+    expect(!(await browser.value("document.querySelector('#clue-list textarea').value.includes('\\n')")), 'the clue has several lines');
+    for (const [width, height] of [[1400, 900], [1000, 800], [390, 844]]) {
+      await browser.view(width, height);
+      await heightIs("offsetWidth > 0.55 * document.getElementById('clue-list').clientWidth");
+    }
+    await browser.view(1400, 900);
+  },
+
   async 'old clues for a word'() {
     await openRecord(rowOf('ODDS'));
     await browser.press('F3');
@@ -127,9 +271,12 @@ export const CASES = {
     await enterWord('odds');
     await browser.until("document.querySelector('.offers')?.textContent === 'Clues for ODDS before: Chances' && !document.querySelector('.offers').hidden");
     await picture('old-clues');
+    await browser.until("!/Chances/.test(window.drafts())");
     await browser.click('.offers button');
     await clueIs('Chances');
     await browser.until("document.querySelector('.offers').hidden");
+    // it has its word once it is kept
+    await isDrafted(/"ODDS"/);
     await staleIs('');
     await enterWord('oats');
     await staleIs('Written for ODDS: Keep Drop');
@@ -142,7 +289,7 @@ export const CASES = {
     await page.statusIs(/^filled/);
     await browser.press('F3');
     // a field may show what was there before, until the engine has answered
-    const valuesAre = (...wanted) => browser.until(`${JSON.stringify(wanted)}.every((text, at) => document.querySelectorAll('#clue-list input')[at].value === text)`);
+    const valuesAre = (...wanted) => browser.until(`${JSON.stringify(wanted)}.every((text, at) => document.querySelectorAll('#clue-list textarea')[at].value === text)`);
     await browser.until("document.getElementById('clue-lengths').disabled");
     await browser.type('plain');
     await browser.press('Enter');
@@ -181,7 +328,7 @@ export const CASES = {
     await browser.until("/the clue of 5 Across says \\(1,9\\) and it has 5 letters|the clue of \\d+ Across says \\(1,9\\)/.test(document.getElementById('rules').textContent)");
     await browser.click('#cell-2-2');
     await browser.press('Control+z');
-    await browser.until("document.querySelectorAll('#clue-list input')[0].value === 'plain'");
+    await browser.until("document.querySelectorAll('#clue-list textarea')[0].value === 'plain'");
   },
 
   async 'clues that have their enumerations'() {
@@ -220,7 +367,7 @@ export const CASES = {
     await browser.insert('Kept \u2192 here');
     await browser.go(PAGE.href);
     await ready();
-    await browser.until("document.querySelector('#clue-list input').value === 'Kept \u2192 here'");
+    await browser.until("document.querySelector('#clue-list textarea').value === 'Kept \u2192 here'");
     await browser.press('F4');
     await browser.insert('A title');
     await browser.go(PAGE.href);

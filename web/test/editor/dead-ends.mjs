@@ -1,5 +1,5 @@
 // Cases of dead ends and their reasons.
-import { begin, beginBlank, menu, openRecord } from '../doing.mjs';
+import { begin, beginBlank, intoDeadEnd, menu, openRecord } from '../doing.mjs';
 import { browser, expect, page, picture, runAlone } from '../page.mjs';
 
 export const CASES = {
@@ -56,13 +56,37 @@ export const CASES = {
     await page.statusIs(/dead end/);
     // the part of the cause is red, its own light more so, and the other part is not
     await browser.until("document.querySelectorAll('.cell.unmatched').length >= 5");
-    const red = await browser.value("[...document.querySelectorAll('.cell.dead')].map(({ id }) => Number(id.split('-')[1]))");
+    const red = await browser.value("[...document.querySelectorAll('.cell.dead, .cell.spent')].map(({ id }) => Number(id.split('-')[1]))");
     expect(red.length === 12 && red.every((row) => row < 4), `these rows are red: ${red}`);
     await browser.press('Control+j');
     await page.statusIs(/ left, the fewest/);
     expect(await browser.value("Number(document.querySelector('.cursor').id.split('-')[1]) > 4"), 'the tightest light is dead');
     await browser.press('Control+z');
-    await browser.until("!document.querySelector('.cell.dead, .cell.unmatched')");
+    await browser.until("!document.querySelector('.cell.dead, .cell.spent, .cell.unmatched')");
+  },
+
+  async 'red near the reason, and grey farther off'() {
+    // at first near the last entry, and then near the reason
+    const told = await intoDeadEnd();
+    await browser.until("document.querySelector('.cell.reason')");
+    const shown = await browser.value(`(() => {
+      const at = (cell) => [...cell.parentElement.children].indexOf(cell);
+      const lit = [...document.querySelectorAll('.cell.reason')].map((cell) => [Number(cell.dataset.index), cell.id]);
+      const cells = (name) => [...document.querySelectorAll('.cell.' + name)].map(({ ariaLabel }) => ariaLabel);
+      const lights = new Set([...document.querySelectorAll('.cell.reason')].flatMap(({ ariaLabel }) => ariaLabel.match(/\\d+ (?:Across|Down)/g)));
+      return { red: cells('dead'), grey: cells('spent'), lights: [...lights] };
+    })()`);
+    const [, dead] = /(\d+ (?:Across|Down))[^A-Z]* no word/.exec(told);
+    const near = [...shown.lights, dead];
+    const isNear = (label) => near.some((light) => label.includes(`, ${light}, letter`));
+    expect(shown.red.length > 0 && shown.red.length < 40 && shown.red.every(isNear), `${shown.red.length} cells are red near ${near}: ${shown.red.filter((label) => !isNear(label))}`);
+    expect(shown.grey.length > 100 && !shown.grey.some(isNear), `${shown.grey.length} cells are grey`);
+    await picture('near-a-dead-end');
+    // a click on a grey cell asks for the reason too
+    await browser.click('#cell-15-15');
+    await page.statusIs(/no word, by/);
+    await browser.press('Control+z');
+    await browser.until("!document.querySelector('.cell.dead, .cell.spent')");
   },
 
   async 'theme entries without blocks'() {

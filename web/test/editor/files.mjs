@@ -3,6 +3,7 @@ import { mkdirSync, rmSync, writeFileSync } from 'node:fs';
 import { join } from 'node:path';
 import { Xw } from '../../dist/xw.js';
 import { begin, hush, menu, openFile, openRecord, print, saved } from '../doing.mjs';
+import { isDrafted } from '../holding.mjs';
 import { browser, expect, module, page, picture, pictures, reload, room, runAlone } from '../page.mjs';
 import { puzOf } from '../puz.mjs';
 import { zipOf } from '../zip.mjs';
@@ -40,7 +41,7 @@ export const CASES = {
     expect((await page.rows()).join() === 'CHEARTT,A#O,TEE', `the grid is ${await page.rows()}`);
     expect((await page.has('2-1', 'circled')) && (await page.has('2-3', 'circled')) && !(await page.has('1-1', 'circled')), 'the marks are not circles');
     await browser.press('F3');
-    await browser.until("[...document.querySelectorAll('#clue-list input')].map(({ value }) => value).join() === 'First,Last,One,Three'");
+    await browser.until("[...document.querySelectorAll('#clue-list textarea')].map(({ value }) => value).join() === 'First,Last,One,Three'");
     await browser.press('F4');
     await browser.until("document.getElementById('title').value === 'Two' && document.getElementById('notes').value === 'A note'");
     await page.factsAre(/built-in list/);
@@ -91,7 +92,7 @@ export const CASES = {
     await opening('plain.puz', /^plain.puz is open; undo/, 'good');
     const ipuz = {
       version: 'http://ipuz.org/v2', kind: ['http://ipuz.org/crossword#1'], dimensions: { width: 3, height: 1 }, saved: [['A', 0, 0]],
-      puzzle: [[{ cell: 1, style: { color: 'ff0000' } }, { cell: 0, style: { shapebg: 'square' } }, 0]], solution: [['HEART', 'C', 'E']],
+      puzzle: [[{ cell: 1, style: { colortext: 'ff0000' } }, { cell: 0, style: { shapebg: 'square' } }, 0]], solution: [['HEART', 'C', 'E']],
       clues: { Across: [[1, 'Organ']], Zones: [[1, 'All']] },
     };
     writeFileSync(join(room, 'coloured.ipuz'), JSON.stringify(ipuz));
@@ -201,6 +202,73 @@ export const CASES = {
     expect(html.includes('<h1>Bars &amp; circles</h1>') && html.includes('<td>Firm =\u2192</td><td>(2)</td><td>CO</td>'), html);
   },
 
+  async 'colours of cells, and what formats cannot keep of a puzzle'() {
+    await openRecord('size 3 3\nset 1 1 C\nset 1 2 O\nset 1 3 T\nset 2 1 A\nblock 2 2\nset 2 3 O\nset 3 1 T\nset 3 2 I\nset 3 3 E\n');
+    await browser.value("document.querySelector('[data-tool=colour]').click()");
+    await browser.until("!document.getElementById('palette').hidden && document.querySelectorAll('#palette [aria-pressed=true]').length === 1");
+    await browser.drag('#cell-1-1', '#cell-1-3');
+    await browser.until("document.querySelectorAll('.cell.tinted.tint-ffe680').length === 3");
+    await browser.click('#palette [aria-label=blue]');
+    await browser.click('#cell-3-1');
+    await browser.until("document.querySelector('#cell-3-1.tint-b9d8ff')");
+    await picture('colours');
+    await browser.press('Escape');
+    await browser.until("document.getElementById('mode').hidden");
+    // a key gives the last colour, and takes it away
+    await browser.click('#cell-3-3');
+    await browser.press('#');
+    await browser.until("document.querySelector('#cell-3-3.tint-b9d8ff')");
+    expect(await browser.value("document.getElementById('cell-3-3').ariaLabel.includes('E, blue')"), 'the colour is not spoken');
+    await browser.press('#');
+    await browser.until("!document.querySelector('#cell-3-3.tinted')");
+    await browser.press('Control+z');
+    await browser.until("document.querySelector('#cell-3-3.tinted')");
+    await browser.click('#tab-puzzle');
+    await browser.until("/Yellow cellsCOT.*Blue cellsTE/.test(document.getElementById('counts').textContent)");
+    await browser.press('Control+p');
+    await browser.until("document.querySelectorAll('#preview .page:first-child rect[fill=\"#ffe680\"]').length === 3");
+    await browser.press('Escape');
+    // it is kept by the browser, in a session and in .ipuz
+    await isDrafted(/colour 3 3/);
+    await reload();
+    expect((await page.count('.cell.tinted')) === 5, 'the colours are lost');
+    await saved('crossword.xw', () => menu('save-session'));
+    const ipuz = JSON.parse((await saved('crossword.ipuz', () => menu('save-ipuz'))).toString());
+    await page.statusIs(/^saved: crossword.ipuz$/);
+    expect(ipuz.puzzle[0][0].style.color === 'FFE680' && ipuz.puzzle[2][0].style.color === 'B9D8FF', JSON.stringify(ipuz.puzzle));
+    for (const name of ['crossword.xw', 'crossword.ipuz']) {
+      await begin(6);
+      await openFile(join(room, name));
+      await page.statusIs(/is open; undo/);
+      await browser.until("document.querySelectorAll('.cell.tint-ffe680').length === 3 && document.querySelectorAll('.cell.tint-b9d8ff').length === 2");
+    }
+    // what else is kept beside the grid: a link, a note and italics
+    await browser.press('F3');
+    await browser.insert('<i>Firm</i> (3)');
+    await browser.press('Enter');
+    await isDrafted(/<i>Firm/);
+    await browser.value("document.querySelector('.clue-more .note').focus()");
+    await browser.insert('two meanings');
+    await browser.press('Enter');
+    await isDrafted(/two meanings/);
+    const losses = {
+      puz: ['save-puz', 'the italics of a clue, 5 colours of cells and a private note'], ipuz: ['save-ipuz', 'a private note'],
+      jpz: ['save-jpz', 'a private note'], exolve: ['save-exolve', '5 colours of cells and a private note'],
+    };
+    for (const [form, [action, lost]] of Object.entries(losses)) {
+      for (let time = 0; time < 2; time++) {
+        await hush();
+        await saved(`crossword.${form}`, () => menu(action));
+        await page.statusIs(new RegExp(`^saved: crossword.${form}, without ${lost}$`));
+      }
+    }
+    await saved('crossword.csv', () => menu('clues-csv'));
+    await page.statusIs(/^saved: crossword.csv, without the italics of a clue and a private note$/);
+    await openFile(join(room, 'crossword.jpz'));
+    await page.statusIs(/^crossword.jpz is open; undo/);
+    await browser.until("document.querySelectorAll('.cell.tinted').length === 5 && document.querySelector('#clue-list textarea').value === '<i>Firm</i> (3)'");
+  },
+
   async '.jpz and the XML of Crossword Compiler'() {
     const cell = (x, y, more) => `<cell x="${x}" y="${y}" ${more}></cell>`;
     const xml = `<?xml version="1.0" encoding="UTF-8"?>
@@ -216,14 +284,15 @@ export const CASES = {
       <clues ordering="normal"><title><b>Down</b></title><clue word="2" number="2">Also</clue><clue word="3" number="3" format="2">Two (2)</clue><clue word="5" number="5">Nothing</clue></clues>
       </crossword></rectangular-puzzle></crossword-compiler-applet>`;
     const rows = 'HEARTOT,A#O,T.#';
-    const parts = 'the colour of a cell, the letters of a solver and a cell that is left out, which is a block now; 1 clue has no place in its grid';
+    const parts = 'the letters of a solver and a cell that is left out, which is a block now; 1 clue has no place in its grid';
     const isOpen = async (name, pattern = new RegExp(`^${name} is open, but without ${parts.replace(/[()]/g, '\\$&')}; undo`)) => {
       await openFile(join(room, name));
       await page.statusIs(pattern);
       expect((await page.rows()).join() === rows, `the grid is ${await page.rows()}`);
       expect((await page.has('1-2', 'bar-right')) && (await page.has('1-1', 'bar-below')) && (await page.has('1-3', 'circled')), 'a bar or the circle is lost');
       await browser.press('F3');
-      await browser.until("[...document.querySelectorAll('#clue-list input')].map(({ value }) => value).join('|') === 'A firm \u2665 (5)|Ends (1,1)|Also|Two (2)'");
+      await browser.until("[...document.querySelectorAll('#clue-list textarea')].map(({ value }) => value).join('|') === 'A <i>firm</i> \u2665 (5)|Ends (1,1)|Also|Two (2)'");
+      expect(await page.has('1-3', 'tint-ff0000'), 'the colour is lost');
       await browser.press('F4');
       await browser.until("document.getElementById('title').value === 'Bars & circles' && document.getElementById('notes').value === 'Two \u2192 one'");
       await begin(6);
@@ -244,14 +313,14 @@ export const CASES = {
   },
 
   async 'Exolve, and a .puz of version 2.0'() {
-    const rows = 'COT,A#O,TIE';
-    const isOpen = async (name, pattern) => {
+    const [rows, firm] = ['COT,A#O,TIE', 'Firm <i>\u2665</i> & (3)'];
+    const isOpen = async (name, pattern, first = firm) => {
       await begin(6);
       await openFile(join(room, name));
       await page.statusIs(pattern);
       expect((await page.rows()).join() === rows, `the grid is ${await page.rows()}`);
       await browser.press('F3');
-      await browser.until("[...document.querySelectorAll('#clue-list input')].map(({ value }) => value).join('|') === 'Firm \u2665 & (3)|Ends|Also|Two'");
+      await browser.until(`[...document.querySelectorAll('#clue-list textarea')].map(({ value }) => value).join('|') === '${first}|Ends|Also|Two'`);
     };
     const text = `exolve-begin\n exolve-title: Three\n exolve-width: 3\n exolve-height: 3\n exolve-grid:\n  COT\n  A.O@\n  TIE
  exolve-across:\n  1 Firm <i>\u2665</i> &amp; (3)\n  3 Ends\n exolve-down:\n  1 Also\n  2 Two\n exolve-colour: red a1\nexolve-end\n`;
@@ -262,7 +331,8 @@ export const CASES = {
     await isOpen('three.exolve', /^three.exolve is open; undo/);
     const texts = ['Three \u2192 four', '', '', 'Firm \u2665 & (3)', 'Also', 'Two', 'Ends', ''].map((one) => Buffer.from(one));
     writeFileSync(join(room, 'later.puz'), puzOf({ version: '2.0\0', width: 3, height: 3, solution: 'COTA.OTIE', texts }));
-    await isOpen('later.puz', /^later.puz is open; undo/);
+    // which has no italics
+    await isOpen('later.puz', /^later.puz is open; undo/, 'Firm \u2665 & (3)');
     await browser.press('F4');
     await browser.until("document.getElementById('title').value === 'Three \u2192 four'");
     // as version 1.3, with near characters
@@ -375,7 +445,9 @@ export const CASES = {
     await browser.click('[name=parts][value=submission]');
     await browser.value("document.getElementById('print-address').focus()");
     await browser.insert('1 Grid Road');
-    await browser.until("document.querySelector('#preview .address').textContent.includes('1 Grid Road') && document.querySelectorAll('#preview .answers tr').length > 60");
+    // on each page, also where the answers go on
+    await browser.until("[...document.querySelectorAll('#preview .page')].every((page) => page.querySelector('.address').textContent.includes('1 Grid Road')) && document.querySelectorAll('#preview .answers tr').length > 60");
+    expect((await page.count('#preview .page')) === 2 && (await page.count('#preview .answers thead .address')) === 1, 'the address is not in the head of the answers');
     expect(await browser.value("[...document.querySelectorAll('#preview .page')].every((page) => page.scrollHeight <= page.clientHeight)"), 'a page of the preview is cut off');
     await picture('print');
     await print();

@@ -75,7 +75,7 @@ export const CASES = {
     await browser.until("document.querySelectorAll('.circled').length === 3");
     await browser.drag('#cell-1-2', '#cell-1-3');
     await browser.until("document.querySelectorAll('.circled').length === 1");
-    await browser.click('#mode button');
+    await browser.click('#mode [data-do=end-mode]');
     await browser.until("document.getElementById('mode').hidden && !document.querySelector('.tool[aria-pressed=true]')");
     await browser.press('Control+z');
     await browser.until("document.querySelectorAll('.circled').length === 3");
@@ -187,6 +187,56 @@ export const CASES = {
     expect(await browser.value("/F6.*leave the grid/.test(document.getElementById('help-dialog').textContent)"), 'the help does not say how to leave the grid');
   },
 
+  async 'what is spoken, and keys of groups'() {
+    await begin(1);
+    const spoken = (pattern) => browser.until(`${pattern}.test(document.getElementById('spoken').textContent)`);
+    await browser.type('ton');
+    await browser.click('#cell-1-1');
+    await browser.press('Enter');
+    await spoken(/^1 Down, \d letters, T( blank)+\u00a0?$/);
+    await browser.press('Enter');
+    await spoken(/^1 Across, 4 letters, T O N blank\u00a0?$/);
+    // the name of a cell has its entries
+    await browser.until("/^row 1, column 2, number 2, O, 1 Across, letter 2 of 4, 2 Down, letter 1 of \\d$/.test(document.getElementById('cell-1-2').ariaLabel)");
+    // the letters of a cell are one stop of Tab, and arrows go through them
+    await browser.click('#cell-1-4');
+    await browser.until("document.querySelectorAll('#letters[aria-busy=false] button').length > 3");
+    expect(await browser.value("document.querySelectorAll('#letters button[tabindex=\"0\"]').length === 1"), 'each letter is a stop of Tab');
+    await browser.value("document.querySelector('#letters [tabindex=\"0\"]').focus()");
+    const here = (at) => browser.until(`[...document.querySelectorAll('#letters button')].indexOf(document.activeElement) === ${at} && document.activeElement.tabIndex === 0`);
+    await browser.press('ArrowRight');
+    await here(1);
+    await browser.press('ArrowRight');
+    await here(2);
+    await browser.press('ArrowLeft');
+    await here(1);
+    await browser.press('End');
+    await here("document.querySelectorAll('#letters button').length - 1");
+    await browser.press('Home');
+    await here(0);
+    expect(await browser.value("document.querySelectorAll('#letters button[tabindex=\"0\"]').length === 1"), 'several letters are stops of Tab');
+    // the menu
+    await browser.click('#file');
+    const itemIs = (text) => browser.until(`document.activeElement.textContent.trim().startsWith('${text}')`);
+    await itemIs('New puzzle');
+    await browser.press('End');
+    await itemIs('Print');
+    await browser.press('Home');
+    await itemIs('New puzzle');
+    await browser.press('ArrowUp');
+    await itemIs('Print');
+    await browser.press('s');
+    await itemIs('Save');
+    await browser.press('s');
+    await itemIs('Save as .puz');
+    await browser.press('c');
+    await itemIs('Clues as CSV');
+    await browser.press('u');
+    await itemIs('Use the built-in');
+    await browser.press('Escape');
+    await browser.until("document.activeElement.id === 'file'");
+  },
+
   async 'undo of all'() {
     await begin(6);
     const blank = await page.rows();
@@ -279,11 +329,11 @@ export const CASES = {
     await page.statusIs(/^undone: the clue of \d+ Across$/i);
     await browser.until("!document.getElementById('clues').hidden");
     await page.cursorAt('3-1');
-    expect(await browser.value(`document.querySelector('.clue.here input').dataset.light === '${light}' && document.querySelector('.clue.here input').value === ''`), 'the clue is not in sight');
+    expect(await browser.value(`document.querySelector('.clue.here textarea').dataset.light === '${light}' && document.querySelector('.clue.here textarea').value === ''`), 'the clue is not in sight');
     await browser.click('#cell-1-2');
     await browser.press('Control+y');
     await page.statusIs(/^done again: the clue of \d+ Across$/i);
-    await browser.until("document.querySelector('.clue.here input').value === 'Of a pirate'");
+    await browser.until("document.querySelector('.clue.here textarea').value === 'Of a pirate'");
     await browser.press('F4');
     await browser.insert('Ships');
     await browser.press('Escape');

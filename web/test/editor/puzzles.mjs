@@ -35,7 +35,7 @@ export const CASES = {
     // the number in the list of clues, which has those across first, of a light of the engine's order
     async function clueNumber(at) {
       const name = lights[at].split(' ').slice(0, 2).join(' ');
-      return browser.value(`[...document.querySelectorAll('#clue-list input')].findIndex((field) => field.dataset.light === '${name}') + 1`);
+      return browser.value(`[...document.querySelectorAll('#clue-list textarea')].findIndex((field) => field.dataset.light === '${name}') + 1`);
     }
   },
 

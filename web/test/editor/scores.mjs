@@ -396,6 +396,36 @@ export const CASES = {
     await menu('built-in');
     await page.factsAre(/built-in list/);
   },
+
+  async 'the ten worst words, and the others below the mark'() {
+    await openGraded();
+    await begin(1);
+    await browser.press('Control+f');
+    await page.statusIs(/^filled/);
+    await browser.press('Escape');
+    await browser.value("document.getElementById('weak').value = 101, document.getElementById('weak').dispatchEvent(new Event('change'))");
+    await browser.until("document.querySelectorAll('.cell.weak-across').length > 150 && document.querySelector('.cell.worst')");
+    const graded = new Map(scoredList().map((line) => line.toUpperCase().split(';')).map(([word, score]) => [word, Number(score)]));
+    const scores = wordsOf(await page.rows()).map((word) => graded.get(word)).sort((a, b) => a - b);
+    // cells of words that are worse than the eleventh are tinted, and no cell is of which both words are better than the tenth
+    const cells = await browser.value("[...document.querySelectorAll('.cell:not(.block)')].map((cell) => [cell.ariaLabel.match(/\\d+ (?:Across|Down)/g), cell.classList.contains('worst'), Number(cell.dataset.index)])");
+    const lettersOfCell = new Map();
+    for (const [names, , index] of cells) for (const name of names) lettersOfCell.set(name, [...(lettersOfCell.get(name) ?? []), index]);
+    const rows = (await page.rows()).join('');
+    const scoreOf = (name) => graded.get(lettersOfCell.get(name).map((index) => rows[index]).join(''));
+    for (const [names, isWorst, index] of cells) {
+      const worst = Math.min(...names.map(scoreOf));
+      if (worst < scores[10]) expect(isWorst, `cell ${index} of a word with ${worst} is not tinted; the tenth has ${scores[9]}`);
+      if (worst > scores[9]) expect(!isWorst, `cell ${index} of words with ${worst} is tinted; the tenth has ${scores[9]}`);
+    }
+    await picture('ten-worst');
+    const thick = (selector) => browser.value(`getComputedStyle(document.querySelector('${selector}')).backgroundSize`);
+    expect((await thick('.cell.worst.weak-across')) !== (await thick('.cell.weak-across:not(.worst)')), 'all dashes are alike');
+    await browser.press('Control+z');
+    await browser.until("!document.querySelector('.cell.worst')");
+    await menu('built-in');
+    await page.factsAre(/built-in list/);
+  },
 };
 
 await runAlone(import.meta.url, { CASES });

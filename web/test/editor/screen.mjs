@@ -1,9 +1,9 @@
 // Cases of the page as a whole: browsers, screens, messages and failures.
 import { writeFileSync } from 'node:fs';
 import { join } from 'node:path';
-import { begin } from '../doing.mjs';
+import { begin, intoDeadEnd, menu, openFile } from '../doing.mjs';
 import { changeEdit } from '../holding.mjs';
-import { PAGE, browser, expect, page, picture, pictures, reload, runAlone } from '../page.mjs';
+import { PAGE, browser, expect, page, picture, pictures, reload, room, runAlone } from '../page.mjs';
 
 export const CASES = {
   async 'a browser that cannot run the page'() {
@@ -75,9 +75,9 @@ export const CASES = {
       await page.cursorAt('3-1');
       await browser.until("['1-1', '1-2', '2-1'].map((cell) => document.querySelector(`#cell-${cell} .letter`).textContent).join('') === 'RAE'");
       await picture('touch');
-      await browser.until("document.querySelector('#candidates[aria-busy=false] li')");
-      const word = await browser.value("document.querySelector('#candidates li').dataset.word");
-      await browser.tap('#candidates li');
+      // a word that leaves some stays where it is
+      const word = await browser.until("[...document.querySelectorAll('#candidates[aria-busy=false] li')].find((row) => Number(row.querySelector('.left').textContent) > 0)?.dataset.word");
+      await browser.tap(`#candidates [data-word=${word}]`);
       await browser.until(`document.querySelector('#cell-4-1 .letter').textContent === '${word[3]}'`);
       await browser.until("document.activeElement.id === 'grid'");
       // what is too large for the screen pans, to the cursor too
@@ -95,10 +95,98 @@ export const CASES = {
     }
   },
 
+  async 'messages that cover no facts and no candidate'() {
+    await intoDeadEnd();
+    try {
+      for (const [width, height] of [[1920, 1080], [1400, 900], [1180, 800], [1000, 700], [768, 1024], [390, 844]]) {
+        await browser.view(width, height);
+        await browser.press('?');
+        await page.statusIs(/no word, by/);
+        const covered = await browser.until(`(() => {
+          const boxOf = (element) => element.getBoundingClientRect();
+          const toast = boxOf(document.getElementById('toast'));
+          if (!toast.width) return null;
+          // what the panel does not show can be scrolled to
+          const end = (element) => (element.closest('.panel') ? boxOf(element.closest('.panel')).bottom : Infinity);
+          const isOver = (element) => {
+            const { left, right, top, bottom, width } = boxOf(element);
+            return width > 0 && left < toast.right && right > toast.left && top < toast.bottom && Math.min(bottom, end(element)) > toast.top;
+          };
+          const others = ['facts', 'candidates', 'letters', 'crossing-candidates'].filter((id) => isOver(document.getElementById(id)));
+          return { others, isIn: toast.left >= 0 && toast.right <= innerWidth && toast.bottom <= innerHeight && toast.width > 200 };
+        })()`);
+        expect(covered.isIn && !covered.others.length, `${width}: the message covers ${covered.others}, or is out of sight`);
+        await picture(`toast-${width}`);
+      }
+    } finally {
+      await browser.view(1400, 900);
+    }
+    await browser.press('Control+z');
+  },
+
+  async 'numbers that keep clear of letters'() {
+    await begin(1);
+    await browser.type('qmw');
+    await page.cursorAt('1-4');
+    // what is inked of a text: from the font's box, whose baseline is known, and the box of the letters
+    const gaps = await browser.until(`(() => {
+      const canvas = new OffscreenCanvas(1, 1).getContext('2d');
+      const inkOf = (span) => {
+        const range = document.createRange();
+        range.selectNodeContents(span);
+        const box = range.getBoundingClientRect();
+        const { fontStyle, fontWeight, fontSize, fontFamily } = getComputedStyle(span);
+        canvas.font = [fontStyle, fontWeight, fontSize, fontFamily].join(' ');
+        const { fontBoundingBoxAscent, fontBoundingBoxDescent, actualBoundingBoxAscent, actualBoundingBoxDescent } = canvas.measureText(span.textContent);
+        const baseline = box.top + box.height * fontBoundingBoxAscent / (fontBoundingBoxAscent + fontBoundingBoxDescent);
+        return { top: baseline - actualBoundingBoxAscent, bottom: baseline + actualBoundingBoxDescent };
+      };
+      const grid = document.getElementById('grid');
+      const before = [grid.style.getPropertyValue('--cell'), grid.className];
+      const found = [24, 26, 28, 30, 34, 38, 44, 52, 60].flatMap((size) => {
+        grid.style.setProperty('--cell', size + 'px');
+        grid.classList.toggle('small', size < 30);
+        return ['1-1', '1-2', '1-3'].map((cell) => {
+          const [root, number, letter] = ['', ' .number', ' .letter'].map((part) => document.querySelector('#cell-' + cell + part));
+          const { bottom } = root.getBoundingClientRect();
+          return [size, letter.textContent, inkOf(letter).top - inkOf(number).bottom, bottom - inkOf(letter).bottom];
+        });
+      });
+      grid.style.setProperty('--cell', before[0]);
+      grid.className = before[1];
+      return found;
+    })()`);
+    const faults = gaps.filter(([, letter, above, below]) => !letter || above < 1 || below < (letter === 'Q' ? -0.5 : 1));
+    expect(gaps.length === 27 && !faults.length, `too close: ${faults.map(([size, letter, ...room]) => `${letter} at ${size}: ${room.map((one) => one.toFixed(1))}`).join('; ')}`);
+  },
+
+  async 'scores that fold away on a phone'() {
+    writeFileSync(join(room, 'folded.txt'), 'cat;50\ncot;60\ncut;100\n');
+    await openFile(join(room, 'folded.txt'));
+    await page.factsAre(/folded.txt, 3 words/);
+    const isOpen = (open) => browser.until(`document.getElementById('least-row').open === ${open} && (document.getElementById('least').checkVisibility() === ${open})`);
+    await browser.click('#tab-words');
+    await isOpen(true);
+    expect(!(await browser.value("document.getElementById('least-told').checkVisibility()")), 'it can be folded in a wide window');
+    try {
+      await browser.view(390, 844);
+      await isOpen(false);
+      await browser.until("document.getElementById('least-told').textContent === 'All scores, marks below 50'");
+      await browser.click('#least-told');
+      await isOpen(true);
+      await picture('scores-on-a-phone');
+    } finally {
+      await browser.view(1400, 900);
+    }
+    await isOpen(true);
+    await menu('built-in');
+    await page.factsAre(/built-in list/);
+  },
+
   async 'tools that stay where they are'() {
     await begin(1);
     try {
-      for (const [width, height] of [[1400, 900], [700, 450], [390, 844], [320, 640]]) {
+      for (const [width, height] of [[1400, 900], [1280, 800], [700, 450], [390, 844], [320, 640]]) {
         await browser.view(width, height);
         const places = (isRunning) => browser.value(`(document.getElementById('stop').hidden = ${!isRunning},
           ['file', 'undo', 'fill'].map((id) => document.getElementById(id).getBoundingClientRect()).map(({ x, y, width }) => [x, y, width].map(Math.round)).join(' '))`);
@@ -179,11 +267,11 @@ export const CASES = {
       const root = getComputedStyle(document.documentElement);
       const of = (name) => { cell.className = 'cell ' + name; const { backgroundColor, backgroundImage, boxShadow } = getComputedStyle(cell); return { color: backgroundColor, mark: (backgroundImage + boxShadow).match(/(rgba?|color|oklab)\\([^)]*\\)/g)?.find((one) => !/^rgba.*, 0\\)$/.test(one)) }; };
       const pairs = Array.from({ length: 8 }, (_, at) => ['shade-' + (at + 1), of('shade-' + (at + 1))]).map(([name, { color, mark }]) => [name, mark, color]);
-      for (const name of ['dead', 'waiting', 'unmatched', 'chosen', 'within', 'reason', 'cursor', 'weak-across', 'weak-down']) { const { color, mark } = of(name); if (mark) pairs.push([name, mark, color]); }
+      for (const name of ['dead', 'waiting', 'unmatched', 'chosen', 'within', 'reason', 'cursor', 'weak-across', 'weak-down', 'worst weak-across', 'worst weak-down']) { const { color, mark } = of(name); if (mark) pairs.push([name, mark, color]); }
       pairs.push(['block', of('block').color, of('').color], ['bar', root.getPropertyValue('--ink'), of('').color], ['band', root.getPropertyValue('--cursor'), of('').color]);
       for (const name of ['accent', 'edge', 'reason', 'good', 'few-mark']) pairs.push([name, root.getPropertyValue('--' + name), root.getPropertyValue('--panel')]);
       const spans = ['number', 'letter'].map((className) => cell.appendChild(Object.assign(document.createElement('span'), { className })));
-      const texts = ['', 'pencil', 'only', 'reason', 'dead', 'unmatched', 'waiting', 'faulty', 'chosen', 'cursor', 'shade-8'].flatMap((name) => spans.map((span) => {
+      const texts = ['', 'pencil', 'only', 'reason', 'dead', 'unmatched', 'waiting', 'faulty', 'chosen', 'cursor', 'shade-8', 'ghost', 'spent', 'worst'].flatMap((name) => spans.map((span) => {
         const { color } = of(name);
         const ink = getComputedStyle(span).color;
         // alone, in the light of the cursor, in the one that crosses it, and in both
@@ -233,7 +321,7 @@ export const CASES = {
     // a clue can be read where it is written
     await browser.view(1280, 800);
     await browser.click('#tab-clues');
-    await browser.until("document.querySelector('#clue-list input').offsetWidth >= 300 && document.getElementById('grid').offsetHeight > 660");
+    await browser.until("document.querySelector('#clue-list textarea').offsetWidth >= 300 && document.getElementById('grid').offsetHeight > 660");
     await browser.click('#tab-words');
     for (const [width, height] of [[390, 844], [820, 1180]]) {
       await browser.view(width, height, { isTouched: true });
@@ -255,7 +343,7 @@ export const CASES = {
         }
         await browser.value("document.querySelector('[data-tool=block]').click()");
         await small(`${width}, mode`);
-        await browser.value("document.querySelector('#mode button').click()");
+        await browser.value("document.querySelector('#mode [data-do=end-mode]').click()");
         for (const name of dialogs) await opened(name, () => small(`${width}, ${name}`));
       } finally {
         await browser.view(1400, 900);

@@ -3,7 +3,7 @@ import { writeFileSync } from 'node:fs';
 import { join } from 'node:path';
 import { Xw } from '../../dist/xw.js';
 import { PATTERNS, recordOf, rowsOf } from '../../editor/patterns.js';
-import { begin, beginBlank, menu, openFile, openWords } from '../doing.mjs';
+import { begin, beginBlank, menu, openFile, openWords, saved } from '../doing.mjs';
 import { isDrafted } from '../holding.mjs';
 import { LIST, PAGE, browser, expect, module, page, picture, ready, room, runAlone } from '../page.mjs';
 
@@ -20,19 +20,155 @@ export const CASES = {
     await browser.press('ArrowDown');
     const word = await browser.value("document.querySelector('#candidates [aria-selected=true]').dataset.word");
     await browser.press('Enter');
-    await browser.until(`document.getElementById('cell-1-4').textContent.includes('${word[3]}')`);
+    await browser.until(`document.querySelector('#cell-1-4:not(.ghost)').textContent.includes('${word[3]}')`);
     expect((await page.row(1)).startsWith(word), `${word} is not placed`);
     await browser.until("document.activeElement.id === 'grid'");
     await browser.press('Tab');
     await browser.until("document.querySelector('#light-name').textContent === '5 Across' && document.querySelector('#candidates[aria-busy=false] li:nth-child(3)')");
-    const other = await browser.value("document.querySelector('#candidates li:nth-child(3)').dataset.word");
-    await browser.click('#candidates li:nth-child(3)');
-    await browser.until(`document.getElementById('cell-1-6').textContent.includes('${other[0]}')`);
+    // a word that leaves some stays where it is
+    const other = await browser.until("[...document.querySelectorAll('#candidates li')].find((row) => Number(row.querySelector('.left').textContent) > 0)?.dataset.word");
+    await browser.click(`#candidates [data-word=${other}]`);
+    await browser.until(`document.querySelector('#cell-1-6:not(.ghost)').textContent.includes('${other[0]}')`);
     await browser.click('#cell-2-2');
     await browser.until("document.getElementById('cell-coordinates').textContent === 'Row 2, column 2' && document.querySelector('#letters[aria-busy=false] button')");
     const letter = await browser.value("document.querySelector('#letters button').dataset.letter");
     await browser.click('#letters button');
     await browser.until(`document.querySelector('#cell-2-2 .letter').textContent === '${letter}'`);
+  },
+
+  async 'dead ends sink to the bottom of the list'() {
+    const list = ['baa', 'bcd', 'aab', 'acd', 'dcb', 'dac', 'cda'];
+    writeFileSync(join(room, 'seven.txt'), list.join('\n'));
+    await openWords(join(room, 'seven.txt'));
+    await page.factsAre(/seven.txt, 7 words/);
+    await beginBlank(3, 3);
+    // each word is entered in the engine, for what it leaves
+    const left = (word) => {
+      const xw = Xw.open(module, { list: list.join('\n'), record: 'size 3 3\n' });
+      xw.line(`place 1 across ${word}`);
+      return Math.min(...xw.line('counts').lines.slice(1).map((line) => Number(line.split(' ')[2])));
+    };
+    const dead = list.filter((word) => !left(word)).map((word) => word.toUpperCase());
+    await browser.click('#cell-1-1');
+    if (await page.has('1-1', 'down')) await browser.press('Enter');
+    await browser.until("document.getElementById('light-name').textContent === '1 Across' && document.querySelectorAll('#candidates[aria-busy=false] li').length === 7 && [...document.querySelectorAll('#candidates .left')].every(({ textContent }) => /\\d|dead end/.test(textContent))");
+    const shown = () => browser.value("[...document.querySelectorAll('#candidates li')].map((row) => [row.dataset.word, row.classList.contains('dead')])");
+    const rows = await shown();
+    expect(rows.slice(-dead.length).map(([word]) => word).sort().join() === dead.sort().join() && dead.length > 0 && dead.length < rows.length, `the list is ${rows.join(' ')}; dead are ${dead}`);
+    expect(rows.every(([, isDead], at) => isDead === at >= rows.length - dead.length), `the list is ${rows.join(' ')}`);
+    // so they do from A to Z
+    await browser.value("document.getElementById('order').value = 'abc', document.getElementById('order').dispatchEvent(new Event('change'))");
+    const sorted = (await shown()).map(([word]) => word);
+    const alive = sorted.slice(0, -dead.length);
+    expect(alive.join() === [...alive].sort().join() && sorted.slice(-dead.length).join() === dead.sort().join(), `from A to Z: ${sorted}`);
+    await browser.value("document.getElementById('order').value = 'list', document.getElementById('order').dispatchEvent(new Event('change'))");
+    await menu('built-in');
+    await page.factsAre(/built-in list/);
+  },
+
+  async 'a candidate in ghost letters'() {
+    await begin(1);
+    await browser.type('t');
+    await page.cursorAt('1-2');
+    await browser.press('/');
+    await browser.until("document.querySelectorAll('#candidates[aria-busy=false] li').length > 20 && document.activeElement.id === 'filter'");
+    const ghosts = "[...document.querySelectorAll('.cell.ghost .letter')].map(({ textContent }) => textContent).join('')";
+    expect((await browser.value(ghosts)) === '', 'a letter is a ghost');
+    await browser.press('ArrowDown');
+    const [one, two, three] = await browser.value("[...document.querySelectorAll('#candidates li')].slice(0, 3).map((row) => row.dataset.word)");
+    await browser.until(`${ghosts} === '${one.slice(1)}'`);
+    await picture('ghost-letters');
+    await browser.press('ArrowDown');
+    await browser.until(`${ghosts} === '${two.slice(1)}'`);
+    // the pointer comes before the keys
+    const point = (word) => browser.value(`document.querySelector('#candidates [data-word=${word}] span').dispatchEvent(new PointerEvent('pointermove', { bubbles: true, pointerType: 'mouse' }))`);
+    await point(three);
+    await browser.until(`${ghosts} === '${three.slice(1)}'`);
+    await browser.value("document.getElementById('candidates').dispatchEvent(new PointerEvent('pointerleave'))");
+    await browser.until(`${ghosts} === '${two.slice(1)}'`);
+    expect((await page.facts()).includes('· 1 of'), `the grid has other letters: ${await page.facts()}`);
+    // they go with the place in the grid
+    await browser.press('Escape');
+    await browser.until(`${ghosts} === '' && document.activeElement.id === 'grid'`);
+    await point(three);
+    await browser.until(`${ghosts} === '${three.slice(1)}'`);
+    await browser.press('Tab');
+    await browser.until(`${ghosts} === ''`);
+    expect((await page.row(1)).startsWith('T...'), `the row is ${await page.row(1)}`);
+  },
+
+  async 'words that are graded where they stand'() {
+    writeFileSync(join(room, 'graded-again.txt'), 'cat;50\ncot;60\ncut;100\n');
+    await openFile(join(room, 'graded-again.txt'));
+    await page.factsAre(/graded-again.txt, 3 words/);
+    await beginBlank(3, 1);
+    const rows = "[...document.querySelectorAll('#candidates[aria-busy=false] li')].map((row) => `${row.dataset.word} ${row.querySelector('.score').textContent}`).join()";
+    await browser.until(`${rows} === 'CUT 100,COT 60,CAT 50'`);
+    await browser.press('/');
+    await browser.press('ArrowDown');
+    await browser.press('ArrowDown');
+    await browser.press('-');
+    await page.statusIs(/^COT has the score 50 in My words$/);
+    await browser.until(`document.querySelector('#candidates [data-word=COT] .score').textContent === '50'`);
+    await browser.press('-');
+    await browser.until(`${rows} === 'CUT 100,CAT 50,COT 40'`);
+    expect(await browser.value("document.querySelector('#candidates [aria-selected=true]').dataset.word === 'COT'"), 'keys point at another word');
+    for (const score of [50, 60, 70]) {
+      await browser.press('+');
+      await browser.until(`document.querySelector('#candidates [data-word=COT] .score').textContent === '${score}'`);
+    }
+    await browser.until(`${rows} === 'CUT 100,COT 70,CAT 50'`);
+    // the best score is the end
+    await browser.press('ArrowUp');
+    await browser.press('+');
+    await page.statusIs(/^CUT has 100 already, the best score$/i);
+    // and so do the buttons of a row
+    await browser.value("document.querySelector('#candidates [data-word=CAT] [data-step=\"1\"]').click()");
+    await page.statusIs(/^CAT has the score 60 in My words$/);
+    await browser.until(`${rows} === 'CUT 100,COT 70,CAT 60'`);
+    expect((await page.row(1)) === '...', 'a word is placed');
+    await browser.click('#tab-puzzle');
+    await browser.until("document.getElementById('lists').ariaBusy !== 'true' && !document.getElementById('personal-export').disabled");
+    expect((await saved('my-words.txt', () => browser.click('#personal-export'))).toString() === 'COT;70\nCAT;60', 'my words are others');
+    // in the filter they are text, where nothing is pointed at
+    await browser.click('#tab-words');
+    await browser.press('/');
+    await browser.insert('/C.+/');
+    await browser.until(`${rows} === 'CUT 100,COT 70,CAT 60'`);
+    await browser.press('Escape');
+    await browser.click('#tab-puzzle');
+    await browser.click('#personal-edit');
+    await browser.value("document.getElementById('personal-text').value = ''");
+    await browser.click('#personal-dialog [value=save]');
+    await menu('built-in');
+    await page.factsAre(/built-in list/);
+    await browser.click('#tab-words');
+  },
+
+  async 'both lights of a cell side by side'() {
+    await begin(1);
+    await browser.view(1700, 950);
+    try {
+      await browser.type('to');
+      await browser.until("document.getElementById('crossing-name').textContent === '3 Down' && document.getElementById('light-name').textContent === '1 Across'");
+      const xw = Xw.open(module, { list: LIST, record: recordOf(rowsOf(PATTERNS[0]), 'half') });
+      for (const line of ['set 1 1 T', 'set 1 2 O']) xw.line(line);
+      const count = Number(xw.line('words 3 down').lines[0]);
+      await browser.until(`document.getElementById('crossing-summary').textContent === '${count.toLocaleString('en')} words' && document.querySelectorAll('#crossing-candidates[aria-busy=false] li').length > 20`);
+      const beside = await browser.value("[document.getElementById('candidates'), document.getElementById('crossing-candidates')].map((list) => list.getBoundingClientRect()).map(({ left, right, width }) => [left, right, width])");
+      expect(beside[0][1] <= beside[1][0] && beside.every(([, , width]) => width > 200), `the lists lie at ${beside}`);
+      await picture('both-lights');
+      // a word that leaves some stays where it is
+      const word = await browser.until("[...document.querySelectorAll('#crossing-candidates li')].find((row) => Number(row.querySelector('.left').textContent) > 0)?.dataset.word");
+      await browser.click(`#crossing-candidates [data-word=${word}]`);
+      await browser.until(`document.querySelector('#cell-4-3 .letter').textContent === '${word[3]}' && document.activeElement.id === 'grid'`);
+      await page.cursorAt('1-3');
+      await browser.press('Enter');
+      await browser.until("document.getElementById('crossing-name').textContent === '1 Across' && document.getElementById('light-name').textContent === '3 Down'");
+    } finally {
+      await browser.view(1400, 900);
+    }
+    expect(await browser.value("document.getElementById('crossing-words').offsetWidth === 0"), 'there is no room for two lists');
   },
 
   async 'filters of the candidates'() {
@@ -62,7 +198,8 @@ export const CASES = {
     const isSorted = (list) => list.join() === [...list].sort().join();
     expect(!isSorted(await shown()), 'the words come in the order of the alphabet');
     await browser.value("document.getElementById('order').value = 'abc', document.getElementById('order').dispatchEvent(new Event('change'))");
-    expect(isSorted(await shown()), 'the words are not sorted');
+    const listed = await browser.value("[...document.querySelectorAll('#candidates li:not(.dead)')].map((row) => row.dataset.word)");
+    expect(listed.length > 50 && isSorted(listed), 'the words are not sorted');
     await browser.value("document.getElementById('order').value = 'list', document.getElementById('order').dispatchEvent(new Event('change'))");
   },
 
@@ -121,7 +258,7 @@ export const CASES = {
     await picture('alternatives');
     const [[word, , needs]] = others;
     await browser.click(`#candidates [data-word=${word}]`);
-    await browser.until(`[...document.querySelectorAll('[id^="cell-2-"]')].map((cell) => cell.querySelector('.letter').textContent).join('') === '${word}'`);
+    await browser.until(`!document.querySelector('.cell.ghost') && [...document.querySelectorAll('[id^="cell-2-"]')].map((cell) => cell.querySelector('.letter').textContent).join('') === '${word}'`);
     expect((await page.rows()).some((row) => row.includes('.')), `no letter of ${needs} is cleared`);
     await browser.press('Control+z');
     await page.factsAre(/filled/);
@@ -149,7 +286,7 @@ export const CASES = {
     await picture('dead-alternatives');
     // the grid is as it was to the engine too
     await browser.click('#candidates [data-word=BCD]');
-    await browser.until("document.querySelector('#cell-1-1 .letter').textContent === 'B'");
+    await browser.until("document.querySelector('#cell-1-1:not(.ghost) .letter')?.textContent === 'B'");
     expect((await page.row(1)) === 'BCD', `the row is ${await page.row(1)}`);
     // where there is no other word, that is said in place of a list
     writeFileSync(join(room, 'one-word.txt'), 'cat');

@@ -1,0 +1,125 @@
+// What belongs to the clue of the light under the cursor, below its field: a private note with the wordplay, the lights that the clue goes on in, and
+// helpers of a cryptic setter over the words of the lists.
+import { anagramsOf, hiddenIn } from './cryptic.js';
+import { spelledLights } from './links.js';
+import { refuse } from './messages.js';
+import { put } from './page.js';
+import { titleOf } from './words.js';
+
+// the most words that a helper shows
+const MOST_SHOWN = 60;
+
+export class ClueMore {
+  /** @type {import('./editor.js').Editor} */
+  #editor;
+  root = Object.assign(document.createElement('div'), { className: 'clue-more', hidden: true });
+  #note = field('note', 'Note', 'the wordplay: for you alone');
+  #links = field('links', 'Goes on in', '17, 4 down');
+  #found = Object.assign(document.createElement('div'), { className: 'found' });
+  // the light that it is for, and what the helper that is at work is for
+  /** @type {import('./board.js').Light | null} */
+  #light = null;
+  #asked = '';
+
+  // `actions`: `note` and `link` keep what is typed, `italics` puts the selection of the clue in italics, `words` promises the words of the lists, and
+  // `leave` leaves a field by Esc.
+  constructor(editor, actions) {
+    this.#editor = editor;
+    this.actions = actions;
+    const anagrams = () => this.#help(anagramsOf, 'no anagram in your lists', (words) => `(${words})*`);
+    const hidden = () => this.#help(hiddenIn, 'your lists do not hide it', (words) => `hidden: ${words}`);
+    const buttons = Object.assign(document.createElement('span'), { className: 'helpers' });
+    buttons.append(
+      button('Italics', 'Puts what is selected in the clue in italics (Ctrl I)', () => this.actions.italics(this.#light)),
+      button('Anagrams', 'Words of your lists with the same letters', anagrams),
+      button('Hidden in', 'Words of your lists that hide the answer, side by side', hidden),
+    );
+    this.root.append(this.#note.label, this.#links.label, buttons, this.#found);
+    for (const { input } of [this.#note, this.#links]) {
+      input.addEventListener('keydown', (event) => this.#key(event));
+      input.addEventListener('change', () => this.#change(input));
+    }
+  }
+
+  // Shows it for a light, after an element; or with null not at all. What is being typed stays.
+  show(light, after = null) {
+    this.root.hidden = !light;
+    if (!light || !after) return;
+    const isOther = this.#light?.name !== light.name;
+    this.#light = light;
+    // old clues may stand between them; what has the focus would lose it
+    if (![after.nextElementSibling, after.nextElementSibling?.nextElementSibling].includes(this.root)) after.after(this.root);
+    if (isOther) this.#clear();
+    const { board, links } = this.#editor;
+    const head = links.headOf.get(light);
+    const typed = (input, text) => {
+      if (document.activeElement !== input || isOther || input.dataset.kept !== text) put(input, 'value', text);
+      input.dataset.kept = text;
+    };
+    typed(this.#note.input, this.#editor.noteOf(light));
+    typed(this.#links.input, spelledLights(light, links.heads.get(light) ?? []));
+    this.#links.input.disabled = Boolean(head);
+    put(this.#links.input, 'placeholder', head ? `goes on from ${titleOf(head)}` : '17, 4 down');
+    this.#note.input.setAttribute('aria-label', `private note on the clue of ${titleOf(board.byName.get(light.name) ?? light)}`);
+    this.#links.input.setAttribute('aria-label', `lights that the clue of ${titleOf(light)} goes on in`);
+  }
+
+  #clear() {
+    this.#asked = '';
+    this.#found.replaceChildren();
+  }
+
+  #key(event) {
+    if (event.key === 'Escape') this.actions.leave(event, this.#change(event.target));
+    if (event.key !== 'Enter' || event.isComposing) return;
+    event.preventDefault();
+    event.stopPropagation();
+    this.#change(event.target);
+  }
+
+  // Takes over what a field holds, and promises what that is refused for, or null. Returns null if it is that already.
+  #change(input) {
+    const light = this.#light && this.#editor.board.byName.get(this.#light.name);
+    const text = input.value.trim();
+    if (!light || text === input.dataset.kept) return null;
+    input.dataset.kept = text;
+    return input === this.#note.input ? this.actions.note(light, text) : this.#link(light, text);
+  }
+
+  async #link(light, text) {
+    if (await this.actions.link(light, text)) return null;
+    this.#links.input.dataset.kept = '';
+    return 'Link';
+  }
+
+  // Shows what a helper finds for the answer. A click puts it into the note, as `spelled` has it.
+  async #help(helper, none, spelled) {
+    const editor = this.#editor;
+    const light = editor.board.byName.get(this.#light?.name ?? '');
+    const { answer } = light ? editor.cluedBy(light) : { answer: '' };
+    if (!light || !answer || answer.includes('.')) return refuse('enter the whole answer first');
+    const asked = `${light.name} ${answer} ${none}`;
+    this.#asked = asked;
+    this.#found.replaceChildren('looking through your lists …');
+    const found = helper(answer, await this.actions.words(), MOST_SHOWN);
+    if (this.#asked !== asked) return undefined;
+    const made = found.map((words) => button(words, 'Put it into the note', () => this.#take(spelled(words))));
+    return this.#found.replaceChildren(...(made.length ? made : [none]));
+  }
+
+  #take(text) {
+    const { input } = this.#note;
+    input.value = [input.value.trim(), text].filter(Boolean).join(' ');
+    input.focus();
+    this.#change(input);
+  }
+}
+
+function field(className, title, placeholder) {
+  const label = Object.assign(document.createElement('label'), { textContent: `${title} ` });
+  const input = Object.assign(document.createElement('input'), { className, placeholder, autocomplete: 'off' });
+  label.append(input);
+  return { label, input };
+}
+
+const button = (text, title, action) => Object.assign(document.createElement('button'), { type: 'button', textContent: text, title, onclick: action });

@@ -1,0 +1,90 @@
+// What a setter adds to clues, beside the texts that the engine has: links of lights that have one clue, as in 1/17, and private notes. Both are kept
+// with the originals, under the names that records have for the clue.
+
+/** @typedef {import('./board.js').Board} Board */
+/** @typedef {import('./board.js').Light} Light */
+/** @typedef {ReadonlyMap<string, string>} Originals */
+
+const [LINK, NOTE] = ['link ', 'note '];
+
+const fieldOf = (kind, board, light) => board.clueField(light).replace(/^clue /, kind);
+export const linkField = (board, light) => fieldOf(LINK, board, light);
+export const noteField = (board, light) => fieldOf(NOTE, board, light);
+export const isAdded = (field) => field.startsWith(LINK) || field.startsWith(NOTE);
+
+// A clue that leads to another one, as that of a linked light does. It belongs to no word.
+export const isReference = (clue) => /^See \d+( (Across|Down))?$/i.test(clue);
+
+// The lights that a light goes on in, in their order. Those that are gone are left out.
+/**
+ * @param {Board} board
+ * @param {Originals} originals
+ * @returns {Light[]}
+ */
+export function linkedTo(board, light, originals) {
+  const spelled = originals.get(linkField(board, light));
+  if (!spelled) return [];
+  const lights = spelled.split(', ').map((place) => {
+    const [row, column, direction] = place.split(' ');
+    return board.at(`${row} ${column}`)?.[direction] ?? null;
+  });
+  return lights.filter((one) => one && one !== light && board.cells[one.cells[0]]);
+}
+
+// All links: the lights that go on in others, each with these, and for each of the others its head.
+/**
+ * @param {Board} board
+ * @param {Originals} originals
+ */
+export function linksOf(board, originals) {
+  /** @type {Map<Light, Light[]>} */
+  const heads = new Map();
+  /** @type {Map<Light, Light>} */
+  const headOf = new Map();
+  if (![...originals.keys()].some((field) => field.startsWith(LINK))) return { heads, headOf };
+  for (const light of board.lights) {
+    const others = linkedTo(board, light, originals).filter((other) => !headOf.has(other));
+    if (others.length && !headOf.has(light)) heads.set(light, others);
+    if (heads.has(light)) for (const other of others) headOf.set(other, light);
+  }
+  return { heads, headOf };
+}
+
+const SHORT = { across: 'ac', down: 'dn' };
+
+// The numbers of a head and of the lights that it goes on in, as in 1/17, or 1/4dn for one in the other direction.
+export function numbersOf(light, others) {
+  const short = (one) => (one.direction === light.direction ? '' : SHORT[one.direction]);
+  return [light.number, ...others.map((one) => `${one.number}${short(one)}`)].join('/');
+}
+
+// The clue of a light that is linked to a head.
+export function referenceTo(light, head) {
+  const direction = head.direction === 'across' ? ' Across' : ' Down';
+  return `See ${head.number}${head.direction === light.direction ? '' : direction}`;
+}
+
+// The lights that a text names for a light to go on in, such as “17, 4 down”; or what of it names none. A number alone is in the direction of the light, if
+// there is one.
+/** @param {Board} board */
+export function namedLights(board, light, text) {
+  const names = text.split(/[,;/&]|\band\b/).map((name) => name.trim()).filter(Boolean);
+  const lights = names.map((name) => {
+    const [, number, direction] = /^(\d+)\s*(a|ac|across|d|dn|down)?\.?$/i.exec(name) ?? [];
+    const other = light.direction === 'across' ? 'down' : 'across';
+    const wanted = direction ? [/^a/i.test(direction) ? 'across' : 'down'] : [light.direction, other];
+    return wanted.map((one) => board.byName.get(`${number} ${one}`)).find((one) => one && one !== light) ?? null;
+  });
+  const at = lights.findIndex((one, index) => !one || lights.indexOf(one) < index);
+  return at < 0 ? { lights, fault: null } : { lights: [], fault: names[at] };
+}
+
+// How a link names its lights, as namedLights reads them.
+export const spelledLights = (light, others) => others.map((one) => (one.direction === light.direction ? one.number : `${one.number} ${one.direction}`)).join(', ');
+
+// How originals spell a link.
+export const spelledLink = (board, others) => others.map((one) => board.clueField(one).replace(/^clue /, '')).join(', ');
+
+// What a board has without links and colours.
+/** @type {{ colourOf: (cell: import('./board.js').Cell) => string, links: { heads: Map<Light, Light[]>, headOf: Map<Light, Light> } }} */
+export const PLAIN = { colourOf: () => '', links: { heads: new Map(), headOf: new Map() } };

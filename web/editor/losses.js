@@ -1,0 +1,41 @@
+// What of a puzzle the format of a file cannot keep, each in a few words. It is said on each saving.
+import { countText } from './dropped.js';
+import { isColourField } from './colours.js';
+import { isAdded } from './links.js';
+import { hasItalics } from './marks.js';
+import { isCellField, isRebus } from './rebus.js';
+import { strangeCharacter } from './record.js';
+
+// What the formats keep of what not all of them do.
+const KEPT = {
+  puz: ['rebus'], text: [], ipuz: ['rebus', 'italics', 'colours', 'links', 'characters'], jpz: ['rebus', 'italics', 'colours', 'characters'],
+  exolve: ['rebus', 'italics', 'links', 'characters'], csv: ['rebus', 'links', 'characters', 'colours'],
+  html: ['rebus', 'italics', 'links', 'characters', 'colours'],
+};
+
+// What a puzzle has of it.
+/** @param {import('./editor.js').Editor} editor */
+function hadBy(editor) {
+  const { board, links } = editor;
+  const clues = board.lights.filter((light) => hasItalics(editor.textOf(`clue ${light.name}`))).length;
+  const cells = (has) => board.cells.filter(has).length;
+  return {
+    rebus: countText(cells((cell) => isRebus(editor.entryOf(cell))), 'all letters but the first of a rebus', 'rebus cells but for their first letters'),
+    italics: countText(clues, 'the italics of a clue', 'clues’ italics'),
+    colours: countText(cells((cell) => editor.colourOf(cell)), 'the colour of a cell', 'colours of cells'),
+    links: countText(links.heads.size, 'the link of a clue', 'links of clues'),
+    notes: countText(board.lights.filter((light) => editor.noteOf(light)).length, 'a private note', 'private notes'),
+  };
+}
+
+// What a format does not keep, and the characters that it has near ones for.
+/** @param {import('./editor.js').Editor} editor */
+export function lossesOf(editor, form) {
+  const isLost = (name) => !KEPT[form].includes(name);
+  const isText = (field) => !isCellField(field) && !isColourField(field) && !isAdded(field);
+  const strange = [...editor.originals].filter(([field]) => isText(field)).map(([, text]) => strangeCharacter(text)).filter((one) => one !== null);
+  return {
+    lost: Object.entries(hadBy(editor)).filter(([name]) => isLost(name)).flatMap(([, told]) => told),
+    strange: isLost('characters') ? [...new Set(strange)] : [],
+  };
+}

@@ -1,0 +1,27 @@
+// Italics in texts, which clues spell as ipuz does: <i>Hamlet</i>. The engine and formats without them have the text alone.
+
+const MARK = /<\/?i>/g;
+
+export const hasItalics = (text) => text.search(MARK) >= 0;
+
+export const withoutItalics = (text) => text.replace(MARK, '');
+
+// The parts of a text, each with whether it is in italics.
+export function partsOfText(text) {
+  let isItalic = false;
+  return text.split(/(<\/?i>)/).flatMap((part) => {
+    if (part === '<i>' || part === '</i>') {
+      isItalic = part === '<i>';
+      return [];
+    }
+    return part ? [{ text: part, isItalic }] : [];
+  });
+}
+
+// The text of a field with its selection in italics, or without if it is; and where the selection is then.
+export function toggledItalics(text, start, end) {
+  const [before, chosen, after] = [text.slice(0, start), text.slice(start, end), text.slice(end)];
+  if (before.endsWith('<i>') && after.startsWith('</i>')) return { text: before.slice(0, -3) + chosen + after.slice(4), start: start - 3, end: end - 3 };
+  if (hasItalics(chosen)) return { text: before + withoutItalics(chosen) + after, start, end: start + withoutItalics(chosen).length };
+  return { text: `${before}<i>${chosen}</i>${after}`, start: start + 3, end: end + 3 };
+}

@@ -1,0 +1,115 @@
+// Tests what the page knows of a setter's work beside the grid: italics, links of clues, colours, scores of one's own words, anagrams and hidden words.
+//
+//   node web/test/setting.mjs
+//
+// The last line is 'N passed, M failed'.
+import { deepStrictEqual as same } from 'node:assert/strict';
+import { Count } from './count.mjs';
+import { pageModules } from './page-modules.mjs';
+
+const {
+  anagramsOf, brightened, changeBeside, colourIn, engineText, hasItalics, hiddenIn, isReference, joinPersonal, linksOf, namedLights, nearDeadEnd, numbersOf, partsOfText, referenceTo, spelledLights,
+  spelledLink, spokenOf, toggledItalics, withScores, withoutItalics,
+} = await pageModules('changed', 'colours', 'cryptic', 'links', 'marks', 'near', 'record', 'spoken', 'word-list');
+
+const light = (number, direction, cells) => ({ name: `${number} ${direction}`, number: String(number), direction, cells, count: 1 });
+
+// A board of so many lights, each in a row or a column of its own.
+function boardOf(lights) {
+  const at = (one) => `${lights.indexOf(one) + 1} 1`;
+  return {
+    lights, byName: new Map(lights.map((one) => [one.name, one])), cells: Array.from({ length: 100 }, () => ({})), clueField: (one) => `clue ${at(one)} ${one.direction}`,
+    at: (coordinates) => Object.fromEntries(lights.filter((one) => at(one) === coordinates).map((one) => [one.direction, one])),
+  };
+}
+
+const [one, two, four, down] = [light(1, 'across', [0]), light(2, 'across', [10]), light(4, 'across', [20]), light(4, 'down', [30])];
+
+const CASES = {
+  'italics of a text'() {
+    const clue = 'Role in <i>Hamlet</i> or <i>Lear</i>?';
+    same(partsOfText(clue), [
+      { text: 'Role in ', isItalic: false }, { text: 'Hamlet', isItalic: true }, { text: ' or ', isItalic: false }, { text: 'Lear', isItalic: true }, { text: '?', isItalic: false },
+    ]);
+    same([hasItalics(clue), hasItalics('a < b'), withoutItalics(clue)], [true, false, 'Role in Hamlet or Lear?']);
+    same(engineText('<i>Łódź</i> — 1'), { near: 'Lódz — 1', count: 2 });
+    const put = toggledItalics('In Hamlet', 3, 9);
+    same(put, { text: 'In <i>Hamlet</i>', start: 6, end: 12 });
+    same(toggledItalics(put.text, put.start, put.end), { text: 'In Hamlet', start: 3, end: 9 });
+    same(toggledItalics(put.text, 0, put.text.length), { text: 'In Hamlet', start: 0, end: 9 });
+  },
+
+  'links of lights'() {
+    const board = boardOf([one, two, four, down]);
+    same(namedLights(board, one, '2, 4 down'), { lights: [two, down], fault: null });
+    same(namedLights(board, one, '4'), { lights: [four], fault: null });
+    same(namedLights(board, down, '2/4a'), { lights: [two, four], fault: null });
+    for (const [text, fault] of [['7', '7'], ['1', '1'], ['2, 2', '2'], ['2, x', 'x']]) same(namedLights(board, one, text), { lights: [], fault });
+    const originals = new Map([['link 1 1 across', spelledLink(board, [two, down])]]);
+    const { heads, headOf } = linksOf(board, originals);
+    same([[...heads], [...headOf]], [[[one, [two, down]]], [[two, one], [down, one]]]);
+    same([numbersOf(one, [two, down]), spelledLights(one, [two, down])], ['1/2/4dn', '2, 4 down']);
+    same([referenceTo(two, one), referenceTo(down, one)], ['See 1', 'See 1 Across']);
+    same(['See 1', 'See 12 Down', 'see 3 across', 'See 1 more', 'Seen'].map(isReference), [true, true, true, false, false]);
+    // a light that is gone is in no link
+    same([...linksOf(boardOf([one]), originals).heads], []);
+  },
+
+  'colours of cells'() {
+    same(['#FFE680', 'ffe680', '#FE8', 'yellow', 'no colour', ''].map(colourIn), ['ffe680', 'ffe680', 'ffee88', 'ffe680', '', '']);
+    // black letters can be read on each
+    const bright = (colour) => [0, 2, 4].map((at) => parseInt(colour.slice(at, at + 2), 16)).reduce((sum, part, at) => sum + part * [0.299, 0.587, 0.114][at], 0);
+    same(brightened('ffe680'), 'ffe680');
+    for (const colour of ['000000', '000080', 'ff0000', '123456']) if (bright(brightened(colour)) < 189) throw new Error(`${colour} stays dark`);
+  },
+
+  'other scores in the personal list'() {
+    same(withScores('', new Map([['CAT', 60]])), 'CAT;60');
+    same(withScores('dot;95\ncat;10 # a note\n-ear', new Map([['CAT', 60], ['TOE', 0]])), 'dot;95\nCAT;60 # a note\n-ear\nTOE;0');
+    same(withScores('cat;1\ncat;2', new Map([['CAT', 3]])), 'cat;1\nCAT;3');
+    same(joinPersonal('CAT;60', withScores('CAT;60', new Map([['CAT', 60]]))).there, 1);
+  },
+
+  'anagrams and hidden words'() {
+    const words = ['NOTE', 'TONE', 'ETON', 'ON', 'TE', 'NO', 'ET', 'STONES', 'PLATE', 'NORTH', 'TEN', 'ORB', 'LISTEN', 'ORGAN'];
+    same(anagramsOf('NOTE', words, 9), ['TONE', 'ETON', 'ON TE', 'ET ON', 'ET NO']);
+    same(anagramsOf('NOTE', words, 2), ['TONE', 'ETON']);
+    same(anagramsOf('TENOR', words, 9), []);
+    same(hiddenIn('TONE', ['STONES', 'TONES', 'STONE', 'TONE'], 9), ['sTONEs']);
+    same(hiddenIn('TENOR', words, 9).every((found) => found.replace(/[a-z ]/g, '') === 'TENOR'), true);
+    same(hiddenIn('TENOR', words, 9).includes('lisTEN ORgan'), true);
+    same(hiddenIn('TENOR', words, 9).includes('plaTE NORth'), true);
+  },
+
+  'what is spoken of a light'() {
+    same(spokenOf(light(1, 'down', [0, 1, 2, 3, 4, 5, 6]), ['T', 'O', 'N', '', '', '', '']), '1 Down, 7 letters, T O N blank blank blank blank');
+    same(spokenOf(light(9, 'across', [0, 1]), ['', '']), '9 Across, 2 letters, all blank');
+    same(spokenOf(light(9, 'across', [0, 1]), ['HEART', 'S']), '9 Across, 2 letters, H E A R T S');
+  },
+
+  'what is near a dead end'() {
+    const cells = Array.from({ length: 9 }, () => ({ letter: '', left: '' }));
+    const lights = [light(1, 'across', [0, 1, 2]), light(2, 'across', [3, 4, 5]), light(3, 'across', [6, 7, 8])].map((one) => ({ ...one, count: 0 }));
+    const board = { cells, lights, byName: new Map(lights.map((one) => [one.name, one])), isEntered: ({ cells: own }) => own.every((cell) => cells[cell].letter), through: (cell) => [lights[Math.floor(cell / 3)]] };
+    const none = { cells: new Set(), light: '' };
+    cells.forEach((cell, at) => Object.assign(cell, { across: lights[Math.floor(at / 3)], down: null }));
+    same(nearDeadEnd({ board, reason: none, edited: null }), null);
+    same([...nearDeadEnd({ board, reason: none, edited: { cell: 4, direction: 'across' } })], [3, 4, 5]);
+    same([...nearDeadEnd({ board, reason: { cells: new Set([8]), light: '1 across' }, edited: null })], [0, 1, 2, 6, 7, 8]);
+    same(nearDeadEnd({ board: { ...board, lights: [] }, reason: none, edited: { cell: 4, direction: 'across' } }), null);
+  },
+
+  'what a step changes in notes, links and italics'() {
+    const step = (originals) => ({ puzzle: 'p', record: 'size 2 2\n', written: [], originals });
+    const changed = (originals) => changeBeside(step([]), step(originals), (place, direction) => `${place} ${direction}`);
+    same(changed([['note 1 1 across', 'wordplay']]), { tab: 'clues', text: 'the note on 1 1 across' });
+    same(changed([['link 1 1 across', '2 1 across']]), { tab: 'clues', text: 'the clue of 1 1 across' });
+    same(changed([['clue 1 1 across', '<i>A</i>']]), { tab: 'clues', text: 'the clue of 1 1 across' });
+    // it is in the grid
+    same(changed([['colour 1 1', 'ffe680']]), null);
+  },
+};
+
+const count = new Count();
+await count.runAll(CASES);
+count.end();
