@@ -136,7 +136,7 @@ const themes = new ThemesView(
   editor,
   helpers,
   {
-    dialog: $('themes-dialog'), entries: $('themes-entries'), style: $('themes-style'), sym: $('themes-sym'), size: $('themes-size'), show: $('themes-show'),
+    dialog: $('themes-dialog'), entries: $('themes-entries'), style: $('themes-style'), sym: $('themes-sym'), size: $('themes-size'), words: $('themes-words'), blocks: $('themes-blocks'), threes: $('themes-threes'), show: $('themes-show'),
     told: $('themes-told'), grids: $('themes-grids'), lengths: $('themes-lengths'),
   },
   (record, entries) => puzzles.begin(record, entries).catch(unforeseen),

@@ -210,7 +210,7 @@ function grids({ wanted, seed, tries }) {
 }
 
 // What the words say of a grid, in a worker that helps: the patterns of its lights that no word matches, with the cells of these, the fewest words
-// of a light, and whether searches of so many placements fill it.
+// of a light, whether searches of so many placements fill it, and the scores of the words of that fill.
 function judge({ lines, most }) {
   for (const line of lines) ask(line);
   const numbers = counts();
@@ -221,7 +221,8 @@ function judge({ lines, most }) {
   const dead = lights.filter(({ name }) => isDead.has(name)).flatMap(answers.cellsOf).map(({ coordinates }) => coordinates);
   let fill = fewest ? 'limit' : 'nofill';
   for (let seed = 1; seed <= JUDGED_SEEDS && fill === 'limit'; seed++) fill = answers.outcomeOf(ask(`autofill ${most} ${seed}`)).answer;
-  return { unmatched: unmatched.map(({ pattern }) => pattern), dead, fewest, fill };
+  const filled = fill === 'filled' && scores.size ? asked(answers.lights()).map(({ letters }) => scores.get(letters) ?? null) : [];
+  return { unmatched: unmatched.map(({ pattern }) => pattern), dead, fewest, fill, scores: filled };
 }
 
 // The most words that are tried in place of one that stands already.

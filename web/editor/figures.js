@@ -90,6 +90,11 @@ export class Figures {
     this.#editor.change({ weak: { across: weakIn('across'), down: weakIn('down') }, worst: cellsOf(weakest.slice(0, MOST_WORST)) });
   }
 
+  // The worst and the mean of the words in the grid; or ''.
+  get worst() {
+    return this.#figures ? `worst ${this.#figures.worst}, mean ${this.#figures.mean}` : '';
+  }
+
   // What is said of the words in the grid; or ''.
   get text() {
     return this.#figures ? `${figuresText(this.#figures)}${this.#proofText()}` : '';

@@ -1,5 +1,5 @@
-// The fills that were found, side by side as small grids, to look at and choose from.
-import { figuresOf, figuresText } from './grades.js';
+// The fills that were found, side by side as small grids, to look at and choose from: those with the best worst words first, if words have scores.
+import { byFigures, figuresOf, figuresText } from './grades.js';
 import { whenIdle } from './idle.js';
 import { sketchOf } from './library.js';
 import { say } from './messages.js';
@@ -104,18 +104,20 @@ export class Fills {
     const figures = isChoice ? await Promise.all(this.#kept.map((fill) => this.#figures(fill))) : [];
     if (turn !== this.#turn) return;
     box.hidden = !isChoice;
-    list.replaceChildren(...(isChoice ? this.#kept.map((fill, at) => this.#card(fill, figures[at])) : []));
+    const cards = isChoice ? this.#kept.map((fill, at) => ({ fill, ...figures[at] })).sort(byFigures) : [];
+    list.replaceChildren(...cards.map(({ fill, told }) => this.#card(fill, told)));
   }
 
-  // What is said of a fill: that it is in the grid, or how many of its words are others; and if the list has scores, how good its words are.
+  // The figures of the words of a fill, if they have scores, and what is said of it: how good they are, and that it is in the grid, or how many of its words
+  // are others.
   async #figures(fill) {
     const { board, list, engine } = this.#editor;
     const now = this.#letters();
     const others = board.lights.filter((light) => this.#spelled(light, fill) !== this.#spelled(light, now)).length;
     const told = others ? `${others} other ${others === 1 ? 'word' : 'words'}` : 'in the grid';
-    if (!list.scored) return told;
-    const figures = figuresOf(await engine.call('grades', { words: board.lights.map((light) => this.#spelled(light, fill)) }), list.weak);
-    return figures ? `${told}; ${figuresText(figures)}` : told;
+    const scores = list.scored ? await engine.call('grades', { words: board.lights.map((light) => this.#spelled(light, fill)) }) : [];
+    const figures = figuresOf(scores, list.weak);
+    return { figures, told: figures ? `${figuresText(figures)}; ${told}` : told };
   }
 
   #card(fill, figures) {

@@ -22,3 +22,6 @@ export function figuresOf(scores, weak) {
 }
 
 export const figuresText = ({ worst, mean, under, weak }) => `worst ${worst}, mean ${mean}${under ? `, ${under} under ${weak}` : ''}`;
+
+// Orders what has figures by them, the best worst word first, and then the best mean. What has none stays in its order.
+export const byFigures = ({ figures: one }, { figures: other }) => (one && other ? other.worst - one.worst || other.mean - one.mean : 0);

@@ -8,6 +8,8 @@ const PLACEMENTS = 1000;
 // how long a raising takes at most, once it has words, and how long one worker is alone, in milliseconds
 const LONGEST = 2000;
 const ALONE = 300;
+// how often it tells what it looks for, in milliseconds
+const TOLD_EACH = 500;
 // the seed of one worker lies so far from that of the next
 const SEEDS = 1000003;
 
@@ -21,7 +23,7 @@ const ANSWERS = new Set(['filled', 'nofill', 'limit']);
 /**
  * @typedef {{
  *   record: string, base: string, names: string, cells: string[], seed: number, grade: number, bound: number, isOver: boolean, isStopped: boolean,
- *   isChanged: boolean, isEntering: boolean, pencil: string, entered: Promise<void>, end: () => void,
+ *   isChanged: boolean, isEntering: boolean, pencil: string, entered: Promise<void>, end: () => void, begun: number, told: number,
  * }} Race
  */
 
@@ -63,11 +65,12 @@ export class Raiser {
   /** @type {Race | null} */
   #race = null;
 
-  // `raised` is told of each better fill in the grid.
-  constructor(editor, helpers, raised) {
+  // `raised` is told of each better fill in the grid, and `tried` what is looked for: { wanted, bound, seconds }.
+  constructor(editor, helpers, raised, tried) {
     this.#editor = editor;
     this.#helpers = helpers;
     this.raised = raised;
+    this.tried = tried;
     editor.on(['step'], () => this.#stepped());
   }
 
@@ -98,7 +101,7 @@ export class Raiser {
     const editor = this.#editor;
     const race = {
       base, names, cells, seed, grade, bound, record: editor.record, pencil: String([...editor.pencil]), isOver: false, isStopped: false, isChanged: false,
-      isEntering: false, entered: Promise.resolve(), end: () => {},
+      isEntering: false, entered: Promise.resolve(), end: () => {}, begun: performance.now(), told: 0,
     };
     const ended = new Promise((resolve) => {
       race.end = () => {
@@ -133,6 +136,7 @@ export class Raiser {
       let [least, isQuick] = [0, isFirst];
       while (!race.isOver) {
         const wanted = leaps.next(race);
+        this.#tell(race, wanted);
         const isLeap = wanted > race.grade + 1;
         const isNew = wanted !== least;
         // any better fill is found soon; after one, and where there is none soon, the best one is looked for
@@ -147,6 +151,14 @@ export class Raiser {
       if (!fault.status) throw fault;
       if (isFirst) race.end();
     }
+  }
+
+  // Tells what is looked for, now and then.
+  #tell(race, wanted) {
+    const now = performance.now();
+    if (race.isOver || now - race.told < TOLD_EACH) return;
+    race.told = now;
+    this.tried({ wanted, bound: race.bound, seconds: Math.floor((now - race.begun) / 1000) });
   }
 
   // Takes what a slice tells that looked for a fill at a grade.

@@ -1,6 +1,7 @@
 // The dialog of new grids, with theme entries or without: each grid is judged by the engine before it is chosen.
 import { openDialog } from './dialogs.js';
 import { sketchOf } from './library.js';
+import { byFigures, figuresOf } from './grades.js';
 import { bodyOf, parseRecord, wordsOf } from './record.js';
 import { termed } from './terms.js';
 import { checkWanted, recordOfGrid } from './themes.js';
@@ -36,11 +37,13 @@ export class ThemesView {
     elements.show.addEventListener('click', () => this.#search().catch((fault) => this.#say(fault.message)));
     elements.entries.addEventListener('input', () => this.#showLengths());
     // Enter in a field shows grids, and does not close the dialog
-    elements.size.addEventListener('keydown', (event) => {
-      if (event.key !== 'Enter') return;
-      event.preventDefault();
-      elements.show.click();
-    });
+    for (const field of [elements.size, elements.words, elements.blocks, elements.threes]) {
+      field.addEventListener('keydown', (event) => {
+        if (event.key !== 'Enter') return;
+        event.preventDefault();
+        elements.show.click();
+      });
+    }
     elements.dialog.addEventListener('close', () => {
       this.#turn++;
       helpers.rest();
@@ -55,6 +58,13 @@ export class ThemesView {
   #say(text, isBusy = false) {
     this.#elements.told.textContent = text;
     this.#elements.grids.setAttribute('aria-busy', String(isBusy));
+  }
+
+  // The most words, blocks and words of three letters of a grid.
+  get #limits() {
+    const { words, blocks, threes } = this.#elements;
+    const [most, mostBlocks, mostThrees] = [words, blocks, threes].map(({ value }) => (value === '' ? Infinity : Number(value)));
+    return { words: most, blocks: mostBlocks, threes: mostThrees };
   }
 
   // The entries that are typed, without what is no letter.
@@ -79,7 +89,7 @@ export class ThemesView {
     const wanted = { entries, size: Number(size.value), style: style.value, sym: sym.value };
     checkWanted(wanted);
     this.#say('looking for grids …', true);
-    const search = { turn, wanted, found: new Map(), spares: [] };
+    const search = { turn, wanted, limits: this.#limits, found: new Map(), spares: [] };
     const seed = ++this.#seed;
     const judges = this.#judges();
     await Promise.all(judges.map((judge, at) => this.#look(search, judge, SEEDS * (judges.length * seed + at))));
@@ -99,8 +109,8 @@ export class ThemesView {
     const { rounds, tries } = EFFORTS[search.wanted.style];
     for (let round = 0; round < rounds && this.#isDue(search); round++) {
       const { fit, spare } = await (await judge).call('grids', { wanted: search.wanted, seed: seed + round * tries, tries });
-      if (spare) search.spares.push(spare);
-      for (const grid of fit) if (this.#isDue(search)) await this.#judge(search, grid, judge, false);
+      if (spare && isWithin(spare, search.limits)) search.spares.push(spare);
+      for (const grid of fit.filter((one) => isWithin(one, search.limits))) if (this.#isDue(search)) await this.#judge(search, grid, judge, false);
     }
   }
 
@@ -108,21 +118,23 @@ export class ThemesView {
   async #judge(search, grid, judge, isSpare) {
     const record = recordOfGrid(grid);
     if (search.found.has(record)) return;
-    const { unmatched, dead, fewest, fill } = await (await judge).call('judge', { lines: bodyOf(record), most: PLACEMENTS });
+    const { unmatched, dead, fewest, fill, scores } = await (await judge).call('judge', { lines: bodyOf(record), most: PLACEMENTS });
     if (search.turn !== this.#turn) return;
     if (fill === 'nofill' && !isSpare) {
       search.spares.unshift(grid);
       return;
     }
-    const card = this.#card(grid, record, verdictOf(unmatched, fewest, fill), new Set(dead), search.wanted.entries);
-    search.found.set(record, { card, rank: fill === 'filled' ? Infinity : fewest - unmatched.length });
+    const figures = figuresOf(scores, 0);
+    const card = this.#card(grid, record, verdictOf(unmatched, fewest, fill, figures), new Set(dead), search.wanted.entries);
+    search.found.set(record, { card, figures, rank: fill === 'filled' ? Infinity : fewest - unmatched.length });
     this.#elements.grids.append(card);
   }
 
   // `dead` has the cells of lights without a word, which are marked.
   #card(grid, record, verdict, dead, entries) {
     const card = Object.assign(document.createElement('button'), { type: 'button', className: 'pattern' });
-    const facts = grid.bars.size ? `${grid.lights.length} words` : `${grid.lights.length} words, ${grid.blocks.size} blocks`;
+    const threes = threesOf(grid);
+    const facts = [`${grid.lights.length} words`, ...(grid.bars.size ? [] : [`${grid.blocks.size} blocks`]), ...(threes ? [`${threes} of 3`] : [])].join(', ');
     card.append(sketchOf(parseRecord(record), new Set(), dead), facts, Object.assign(document.createElement('small'), { ...verdict, textContent: termed(verdict.textContent, this.#elements.style.value !== 'american') }));
     card.addEventListener('click', () => {
       this.#elements.dialog.close();
@@ -131,11 +143,12 @@ export class ThemesView {
     return card;
   }
 
-  // Shows the grids that fill first, and then those whose tightest light has the most words.
-  #end({ turn, found }) {
+  // Shows the grids that fill first, those of them with the best words, and then those whose tightest light has the most words.
+  #end({ turn, found, limits }) {
     if (turn !== this.#turn) return undefined;
-    const best = [...found.values()].sort((a, b) => (a.rank === b.rank ? 0 : b.rank - a.rank)).slice(0, MOST_FOUND);
-    if (!best.length) return this.#say('No such grid was found: try another size or symmetry, or other entries.');
+    const best = [...found.values()].sort((a, b) => (a.rank === b.rank ? byFigures(a, b) : b.rank - a.rank)).slice(0, MOST_FOUND);
+    const isLimited = Object.values(limits).some(Number.isFinite);
+    if (!best.length) return this.#say(`No such grid was found: try ${isLimited ? 'higher limits, ' : ''}another size or symmetry, or other entries.`);
     this.#elements.grids.replaceChildren(...best.map(({ card }) => card));
     return this.#say(`${best.length} ${best.length === 1 ? 'grid' : 'grids'}. “Show grids” shows others.`);
   }
@@ -147,11 +160,16 @@ export class ThemesView {
   }
 }
 
-// What is said of a grid: whether it fills, or what keeps it from that.
-function verdictOf(unmatched, fewest, fill) {
+const threesOf = ({ lights }) => lights.filter(({ length }) => length === 3).length;
+
+// Whether a grid has no more words, blocks and words of three letters than it may.
+const isWithin = (grid, { words, blocks, threes }) => grid.lights.length <= words && grid.blocks.size <= blocks && threesOf(grid) <= threes;
+
+// What is said of a grid: whether it fills, with how good words, or what keeps it from that.
+function verdictOf(unmatched, fewest, fill, figures) {
   const { length } = unmatched;
   if (length) return { textContent: `${length} ${length === 1 ? 'light has' : 'lights have'} no word: ${unmatched[0]}`, className: 'bad' };
   if (fill === 'nofill') return { textContent: 'no fill', className: 'bad' };
-  if (fill === 'filled') return { textContent: 'it fills', className: 'here' };
+  if (fill === 'filled') return { textContent: figures ? `it fills: worst ${figures.worst}, mean ${figures.mean}` : 'it fills', className: 'here' };
   return { textContent: `${fewest.toLocaleString('en')} ${fewest === 1 ? 'word' : 'words'} for the tightest light` };
 }

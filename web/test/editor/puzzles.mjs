@@ -2,7 +2,7 @@
 import { writeFileSync } from 'node:fs';
 import { join } from 'node:path';
 import { Xw } from '../../dist/xw.js';
-import { begin, choosing, filledLights, hasWord, judged, menu, openFile, saved, showGrids, wholePuzzle, writeClues } from '../doing.mjs';
+import { begin, choosing, filledLights, hasWord, judged, menu, openFile, openGraded, saved, showGrids, wholePuzzle, writeClues } from '../doing.mjs';
 import { browser, expect, module, page, picture, reload, room, runAlone } from '../page.mjs';
 
 export const CASES = {
@@ -99,6 +99,37 @@ export const CASES = {
     expect(verdicts.every((text) => /^\d+ entries have no word: [A-Z.]+$/.test(text)), `the verdicts are ${verdicts}`);
     expect((await page.count('#themes-grids .pattern .dead')) === verdicts.length, 'the lights without a word are not shown');
     await browser.press('Escape');
+    await menu('built-in');
+    await page.factsAre(/built-in list/);
+  },
+
+  async 'grids within limits, the best words first'() {
+    await openGraded();
+    await menu('themes');
+    const limit = (id, most) => browser.value(`document.getElementById('themes-${id}').value = '${most}'`);
+    const shown = () => browser.value("[...document.querySelectorAll('#themes-grids .pattern')].map(({ innerText }) => innerText.replaceAll('\\n', ' '))");
+    try {
+      await limit('size', 9);
+      await limit('words', 28);
+      await limit('threes', 13);
+      const verdicts = await showGrids('', 'american');
+      for (const text of await shown()) {
+        const [, words, threes = 0] = /(\d+) words, \d+ blocks(?:, (\d+) of 3)?/.exec(text) ?? [];
+        expect(words <= 28 && threes <= 13, `a grid is beyond the limits: ${text}`);
+      }
+      expect(await browser.value("[...document.querySelectorAll('#themes-grids .pattern')].every((card) => card.scrollWidth <= card.clientWidth)"), 'what is said of a grid does not fit its card');
+      const figures = verdicts.map((text) => /^it fills: worst (\d+), mean (\d+)$/.exec(text)?.slice(1).map(Number)).filter(Boolean);
+      const sorted = [...figures].sort((a, b) => b[0] - a[0] || b[1] - a[1]);
+      expect(figures.length > 1 && JSON.stringify(figures) === JSON.stringify(sorted), `the grids come as ${verdicts}`);
+      await picture('grids-within-limits');
+      // no grid is as small as this
+      await limit('words', 3);
+      await browser.click('#themes-show');
+      await browser.until("/^No such grid was found: try higher limits/.test(document.getElementById('themes-told').textContent)");
+    } finally {
+      for (const [id, most] of [['size', 15], ['words', ''], ['threes', '']]) await limit(id, most);
+      await browser.press('Escape');
+    }
     await menu('built-in');
     await page.factsAre(/built-in list/);
   },

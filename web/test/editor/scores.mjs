@@ -163,6 +163,8 @@ export const CASES = {
     await begin(1);
     await browser.press('Control+f');
     await page.statusIs(/^filled; its worst word is raised/);
+    // a line tells what is known and what is tried
+    await page.statusIs(/^filled; its worst word is raised: (worst \d+, mean \d+; )?(no fill is better than \d+; )?trying \d+; \d+ s … Esc ends this$/);
     const told = await page.statusIs(/^filled: worst \d+/);
     const [, worst, better] = /worst (\d+),.*?(?:no fill is better than (\d+))?$/.exec(told);
     await picture('raised');
@@ -178,6 +180,9 @@ export const CASES = {
     await another();
     await page.statusIs(/^filled: worst \d+/);
     await browser.until("document.querySelectorAll('#fills-list .fill').length >= 3 && [...document.querySelectorAll('#fills-list small')].every(({ textContent }) => /worst \\d+, mean \\d+/.test(textContent))");
+    // those with the best worst words come first
+    const figures = (await browser.value("[...document.querySelectorAll('#fills-list small')].map(({ textContent }) => textContent)")).map((text) => /worst (\d+), mean (\d+)/.exec(text).slice(1).map(Number));
+    expect(JSON.stringify(figures) === JSON.stringify([...figures].sort((a, b) => b[0] - a[0] || b[1] - a[1])), `the fills come as ${figures.join(' ')}`);
     await picture('raised-fills');
     return told;
   },
