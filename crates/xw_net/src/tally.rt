@@ -55,25 +55,6 @@ fn count_row<R: Rows>(
     total
 }
 
-/// The weight of the words of the row that have the letter at the position. No proof depends on it.
-fn weigh_row<R: Rows>(
-    rows: &mut R,
-    row: &BitRow,
-    len: usize,
-    position: usize,
-    letter: Letter,
-) -> u64 {
-    let _ = row.len();
-    let mut total: u64 = 0;
-    let mut from = 0;
-    while let Some(chunk) = row.next_chunk(from) {
-        let words = row.chunk(chunk) & rows.column(len, position, letter, chunk);
-        total = total.saturating_add(rows.weight(len, chunk, words));
-        from = chunk + 1;
-    }
-    total
-}
-
 /// 1 if the entered word of a light is in the net and has the letter, else 0.
 fn count_entered(entered: bool, here: u8, letter: u8) -> usize
     ensures { result ≡ (if entered && (here == letter) then 1 else 0) }
@@ -131,9 +112,7 @@ impl Net {
     {
         let board = Board::new(grid, lights);
         let cells = board.light(light);
-        let mut rows = Counted::new(bank, 0);
-        let row = &self.rows[light];
-        let listed = weigh_row(&mut rows, row, cells.len(), position, letter);
+        let listed = bank.weigh(cells.len(), position, letter, &self.rows[light]);
         let here = board.letter(cells.at(position));
         listed.saturating_add(count_entered(self.entered[light], here.byte(), letter.byte()) as u64)
     }

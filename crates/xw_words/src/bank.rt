@@ -162,11 +162,11 @@ impl Bank {
         }
     }
 
-    /// How much these words of the 64 from `64 * chunk` on, of length `len`, weigh in a search: more for better grades,
-    /// and 1 each if all grades are equal. It is a hint; the contract promises nothing.
-    pub(crate) fn weight(&self, len: usize, chunk: usize, words: u64) -> u64 {
+    /// How much the words of length `len` that a row has and that have `letter` at `position` weigh in a search: more for
+    /// better grades, and 1 each if all grades are equal. It is a hint; the contract promises nothing.
+    pub fn weigh(&self, len: usize, position: usize, letter: Letter, row: &BitRow) -> u64 {
         match self.rows.get(len) {
-            Some(row) => row.table().weight(chunk, words),
+            Some(words) => words.weigh(position, letter, row),
             None => 0,
         }
     }

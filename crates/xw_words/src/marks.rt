@@ -1,8 +1,10 @@
 //! The grade of a word, and whether it was struck.
-ghost use Rattle.std.specs.Prelude.{◌≡◌, ◌<◌};
-ghost use Rattle.xw_words.specs.Marks.{are_left};
+ghost use Rattle.std.specs.Prelude.{◌≡◌, ℕ, ◌<◌, ◌≤◌, length, slice_index, slice_index_or};
+ghost use Rattle.xw_bits.specs.Bits.{has_bit};
+ghost use Rattle.xw_words.specs.Marks.{no_marks, marks_in, are_left};
 
 use std::marker::Model;
+use std::simd::prelude::*;
 
 /// What the byte of a struck word has beside its grade, which is less.
 const STRUCK: u8 = 128;
@@ -56,4 +58,30 @@ impl Marks {
     {
         (least <= self.byte) & (self.byte < STRUCK)
     }
+}
+
+/// The bytes of at most 64 words. Those past the last word are 0.
+fn bytes_of(marks: &[Marks]) -> [u8; 64]
+    requires { length marks.now ≤ 64 }
+    ensures len { length result ≡ 64 }
+    ensures bytes { (k : ℕ) → k < length marks.now → marks_in (slice_index result k) ≡ slice_index_or marks.now k no_marks }
+{
+    let mut bytes = [0; 64];
+    for k in 0..marks.len() {
+        let word = &marks[k];
+        bytes[k] = word.byte;
+    }
+    bytes
+}
+
+/// A bit for each of at most 64 words: whether it is not struck and not below a grade. The first word is the lowest
+/// bit. It looks at all words at once.
+pub fn left_bits(marks: &[Marks], least: u8) -> u64
+    requires { length marks.now ≤ 64 }
+    ensures { (k : ℕ) → k < length marks.now → has_bit result k ≡ are_left least (slice_index_or marks.now k no_marks) }
+{
+    let bytes = u8x64::from_array(bytes_of(marks));
+    let graded = bytes.simd_ge(u8x64::splat(least)).to_bitmask();
+    let kept = bytes.simd_lt(u8x64::splat(STRUCK)).to_bitmask();
+    graded & kept
 }

@@ -90,6 +90,15 @@ impl Row {
             .get(position * LETTERS + (letter.byte() - b'A') as usize)
     }
 
+    /// How much the words that a row has and that have `letter` at `position` weigh in a search. The contract promises
+    /// nothing.
+    pub fn weigh(&self, position: usize, letter: Letter, row: &BitRow) -> u64 {
+        match self.column_of(position, letter) {
+            Some(column) => self.table.weigh(row, column),
+            None => 0,
+        }
+    }
+
     /// The 26 columns at a position. If it returns `None`, no known word has a letter there.
     pub fn columns_of(&self, position: usize) -> Option<&[BitRow]>
         ensures some { IfSome result (λ columns. AreColumns self.now.entries position columns.now) }

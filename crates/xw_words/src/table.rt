@@ -185,20 +185,35 @@ impl Table {
         index < self.regraded.len() && self.regraded.has(index)
     }
 
-    /// How much these words of a chunk of 64 words weigh in a search. The contract promises nothing.
-    pub fn weight(&self, chunk: usize, words: u64) -> u64 {
+    /// How much these words of a chunk of 64 words weigh in a search. The contract promises nothing. No sum wraps, since
+    /// a row has at most 2^20 words.
+    fn weigh_chunk(&self, chunk: usize, words: u64) -> u64 {
         if self.weights.are_equal() {
             return u64::from(words.count_ones());
         }
-        let first = chunk.saturating_mul(64);
+        let first = chunk.wrapping_mul(64);
         let mut total: u64 = 0;
         let mut left = words;
-        for _ in 0..words.count_ones() {
-            let index = first.saturating_add(left.trailing_zeros() as usize);
+        while left != 0 {
+            let index = first.wrapping_add(left.trailing_zeros() as usize);
             if let Some(marks) = self.marks.get(index) {
-                total = total.saturating_add(self.weights.of_grade(marks.grade()));
+                total = total.wrapping_add(self.weights.of_grade(marks.grade()));
             }
-            left &= left.wrapping_sub(1);
+            left &= left - 1;
+        }
+        total
+    }
+
+    /// How much the words that both rows have weigh in a search: 1 each, if all grades are equal. The contract promises
+    /// nothing.
+    pub fn weigh(&self, row: &BitRow, column: &BitRow) -> u64 {
+        let mut total: u64 = 0;
+        let mut from = 0;
+        while let Some(index) = row.next_common(column, from) {
+            let chunk = index / 64;
+            let words = row.chunk(chunk) & column.chunk(chunk);
+            total = total.wrapping_add(self.weigh_chunk(chunk, words));
+            from = chunk + 1;
         }
         total
     }

@@ -5,22 +5,9 @@ ghost use Rattle.std.specs.List.{list_any};
 ghost use Rattle.xw_words.specs.Dictionary.{entry_at, all_limited, is_left as is_left_in, is_turned as is_turned_in};
 ghost use Rattle.xw_words.specs.Marks.{no_marks, are_left};
 
-use crate::marks::Marks;
+use crate::marks::{Marks, left_bits};
 use crate::table::Table;
 use xw_bits::bit_row::BitRow;
-
-/// A bit for each of at most 64 words: whether it is not struck and not below a grade. The first word is
-/// the lowest bit. It has no branch on a word, since no processor could predict it.
-fn left_bits(marks: &[Marks], least: u8) -> u64
-    requires { length marks.now ≤ 64 }
-    ensures { (k : ℕ) → k < length marks.now → has_bit result k ≡ are_left least (slice_index_or marks.now k no_marks) }
-{
-    let mut bits = 0;
-    for k in 0..marks.len() {
-        bits |= u64::from(marks[k].is_left(least)) << k;
-    }
-    bits
-}
 
 /// Sets the flag of each word that is not struck and not below a grade, and clears the others.
 fn limit_flags(active: &mut BitRow, marks: &[Marks], least: u8)
