@@ -1,7 +1,7 @@
 -- States that can share a snapshot.
-use Rattle.std.proofs.Common.{◌≡◌, ℕ, suc, ◌<◌, ◌≤◌, List, [], ◌∷◌, map, length, get_or, refl, sym, ◌∙◌, ap, arith}
+use Rattle.std.proofs.Common.{◌≡◌, ℕ, suc, List, [], ◌∷◌, map, length, get_or, refl, sym, ◌∙◌, ap, arith}
 use Rattle.std.proofs.lemmas.Simd.{map-map}
-use Rattle.xw_words.specs.Dictionary.{Dictionary, Entry, no_entry, row, capped, is_left, AreLeft, limited, all_limited, with_least}
+use Rattle.xw_words.specs.Dictionary.{Dictionary, Entry, no_entry, row, capped, AreLeft, limited, all_limited, with_least}
 use Rattle.xw_words.proofs.DictionaryLemmas.{length-limited, row-with_least}
 use Rattle.xw_feas.specs.Shape.{SameCounts}
 use Rattle.xw_feas.specs.Snapshot.{IsTwin, CanSave}

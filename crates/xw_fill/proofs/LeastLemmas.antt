@@ -1,12 +1,12 @@
 -- Lemmas on the least grade of an active word.
-use Rattle.std.proofs.Common.{◌≡◌, ℕ, suc, ◌+◌, ◌<◌, ◌≤◌, Bool, true, not, leb, List, [], ◌∷◌, map, length, get_or, Some, None, min, refl, sym, ◌∙◌, ap, subst, arith, inl, inr}
+use Rattle.std.proofs.Common.{◌≡◌, ℕ, ◌+◌, ◌<◌, ◌≤◌, Bool, true, not, leb, List, [], length, Some, None, min, sym, ◌∙◌, ap, subst, arith, inl, inr}
 use Rattle.std.specs.Prelude.{Contains}
 use Rattle.std.specs.Str.{bytes_eq}
 use Rattle.std.proofs.lemmas.Bool.{cases_lt, and_parts, and_from, le-leb, leb-true, false≢true}
 use Rattle.std.proofs.lemmas.List.{get_or-map, length-map}
 use Rattle.std.proofs.lemmas.List.Quantifiers.{position-Some}
 use Rattle.std.proofs.lemmas.Slice.Eq.{bytes_eq-Decides}
-use Rattle.xw_words.specs.Dictionary.{Dictionary, Entry, no_entry, row, entry_at, index_of_word, best_grade, capped, is_left, AreLeft, limited, all_limited, with_least}
+use Rattle.xw_words.specs.Dictionary.{Dictionary, Entry, no_entry, row, entry_at, index_of_word, best_grade, capped, is_left, limited, all_limited, with_least}
 use Rattle.xw_words.proofs.DictionaryLemmas.{length-limited, row-with_least}
 use Rattle.xw_feas.specs.State.{State}
 use Rattle.xw_feas.specs.WellFormed.{IsWellFormed}

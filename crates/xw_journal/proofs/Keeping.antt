@@ -6,7 +6,6 @@ use Rattle.xw_commands.specs.declared.command.Command.{Command}
 use Rattle.xw_commands.specs.declared.command.Command.TheVariants as commands
 use Rattle.xw_commands.specs.declared.search.Search.{Search}
 use Rattle.xw_commands.specs.declared.search.Search.TheVariants as searches
-use Rattle.xw_commands.specs.declared.command.LightArg.{LightArg}
 use Rattle.xw_commands.specs.declared.command.SyntaxFault.{SyntaxFault}
 use Rattle.xw_commands.specs.Command.{command_of}
 use Rattle.xw_fill.specs.Position.{position_of, filled_in}
@@ -27,7 +26,6 @@ use Rattle.xw_answers.specs.declared.refusal.CommandRefusal.{CommandRefusal}
 use Rattle.xw_session.specs.State.{SessionState}
 use Rattle.xw_session.specs.Resuming.{MayBeDone}
 use Rattle.xw_session.specs.Reply.{Reply, fill_tried, filling_line, shown}
-use Rattle.xw_answers.specs.Text.{word_line}
 use Rattle.xw_session.specs.NamedSearch.{names_of, IsSearchDue}
 use Rattle.xw_session.specs.Best.{best_lines}
 use Rattle.xw_session.specs.Answer.{IsDue, Replies, Answers, AnswersParsed, step_of, state_after}

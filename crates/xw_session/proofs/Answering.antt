@@ -19,7 +19,6 @@ use Rattle.xw_commands.specs.declared.query.Query.{Query}
 use Rattle.xw_commands.specs.declared.change.Change.{Change}
 use Rattle.xw_answers.specs.declared.refusal.CommandRefusal.{CommandRefusal}
 use Rattle.xw_answers.specs.declared.refusal.CommandRefusal.TheVariants as refusals
-use Rattle.xw_feas.specs.declared.edit.Refusal.TheVariants as edits
 use Rattle.xw_session.specs.Reply.{Reply, shown, changed, want_of}
 use Rattle.xw_session.specs.Answer.{Answers, IsReply, IsAnswer, AnswersBy, AnswersTo, AnswersQuery, AnswersChange, AnswersParsed, AnswersParsedBy, Edits, reply_of, text_of, ended_by, step_by, outcome_of, step_of, IsExecuted}
 

@@ -24,7 +24,6 @@ use Rattle.xw_commands.specs.declared.command.TextMode.{TextMode}
 use Rattle.xw_commands.specs.declared.command.TextMode.TheVariants.{Instead, Behind}
 use Rattle.xw_answers.specs.declared.refusal.CommandRefusal.{CommandRefusal}
 use Rattle.xw_answers.specs.declared.refusal.CommandRefusal.TheVariants as refusals
-use Rattle.xw_feas.specs.declared.edit.Refusal.TheVariants as edits
 use Rattle.xw_answers.specs.Escape.{text_spelled}
 use Rattle.xw_session.specs.State.{SessionState, drawn}
 use Rattle.xw_session.specs.declared.session.putting.Target.{Target}

@@ -34,9 +34,6 @@ module _ (engine : State) where
     pub all : AreLights engine (names_of left) → AreLights engine (names_of lights)
     pub some : AreLights engine (names_of lights) → AreLights engine (names_of left)
 
-  pub all_left : (lights : List LightArg) → AreLeft lights lights
-  all_left lights = record { all = λ are. are; some = λ are. are }
-
   abbrev pub IsLight : LightName → Type 0
   IsLight name = is_some (index_named (lights_of engine.grid) name) ≡ true
 
@@ -50,9 +47,6 @@ module _ (engine : State) where
   one_unknown lights left rest named are is missing known =
       let there = head_of IsLight (name_of_light named) (names_of rest) (subst (λ ls. AreLights engine (names_of ls)) is (are.some known)) in
       absurd (false≢true (sym missing ∙ there))
-
-  pub all_known : (lights left : List LightArg) → AreLeft lights left → left ≡ [] → AreLights engine (names_of lights)
-  all_known lights left are none = are.all (subst (λ ls. AreLights engine (names_of ls)) (sym none) (λ k d below. absurd (omega (arith, below))))
 
 -- ---- results of calls
 

@@ -1,5 +1,5 @@
 -- The replies of searches over named lights.
-use Rattle.std.proofs.Common.{◌≡◌, ◌≤◌, ℕ, Bool, List, refl, sym, ap, inl, inr, arith}
+use Rattle.std.proofs.Common.{◌≤◌, ℕ, Bool, List, refl, sym, ap, inl, inr, arith}
 use Rattle.std.specs.Prelude.{Some, Result, Ok, Err, IfOk, IfErr, OnOk}
 use Rattle.xw_words.specs.Dictionary.{best_grade}
 use Rattle.xw_grid.specs.declared.cell.LightName.{LightName}

@@ -52,7 +52,6 @@ use Rattle.xw_session.specs.Answer.{IsDue}
 use Rattle.xw_answers.specs.Escape.{text_spelled, has_nul}
 use Rattle.xw_session.specs.State.{SessionState, with_text_in, cell_of}
 use Rattle.xw_session.specs.Put.{target_of, has_target, text_at, with_text_at, with_piece}
-use Rattle.xw_answers.specs.Text.{word_line}
 use Rattle.xw_session.specs.Reply.{Reply, asked, changed, edited, shown, moved, watch_lines, with_letter, resized, with_clue_at, erased, written, circle_toggled, put, light_named, start_named, name_of_light, filling_line}
 use Rattle.xw_session_laws.proofs.SessionKept.{ok_state}
 use Rattle.xw_session_laws.proofs.GridsKept.{blank_good, letter_good, with_words_good, with_letter_good, with_word_good, emptied_good, with_orbit_good, with_bar_good, with_symmetry_good, square_good, filled_good}

@@ -1,6 +1,6 @@
-use Rattle.std.proofs.Common.{refl, sym, ◌∙◌, ◌++◌, ◌∷◌, [], inl, inr}
+use Rattle.std.proofs.Common.{refl, sym, ◌∙◌, ◌++◌, ◌∷◌, [], inl}
 use Rattle.std.proofs.lemmas.Bool.{or_parts}
-use Rattle.xw_session.proofs.Naming.{all_known, one_known, one_unknown, one_named, if_pushed}
+use Rattle.xw_session.proofs.Naming.{one_known, one_unknown, one_named, if_pushed}
 use Rattle.xw_session.proofs.lookup.names_of.Goals as goal
 
 pub returns-in_default-clause-refused : goal.returns-in_default-clause-refused

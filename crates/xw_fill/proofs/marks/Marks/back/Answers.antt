@@ -1,4 +1,4 @@
-use Rattle.std.proofs.Common.{◌≡◌, ◌-◌, ◌<◌, arith, length, length-set, refl, set, subst, sym}
+use Rattle.std.proofs.Common.{◌-◌, ◌<◌, arith, length, length-set, refl, subst, sym}
 use Rattle.std.specs.Prelude.{All}
 use Rattle.std.proofs.lemmas.List.Elements.{All-set}
 use Rattle.xw_feas.specs.Snapshot.{IsTwin, CanSave}

@@ -1,5 +1,4 @@
-use Rattle.std.proofs.Common.{sym, ◌∙◌, subst}
-use Rattle.xw_feas.specs.Snapshot.{IsTwin}
+use Rattle.std.proofs.Common.{◌∙◌, subst}
 use Rattle.xw_feas.proofs.SnapshotLemmas.{IsTwin-then, IsTwin-turned, CanSave-twin}
 use Rattle.xw_fill.specs.Inner.Stack.{IsReady}
 use Rattle.xw_fill.proofs.AllowanceLemmas.{counted_same}

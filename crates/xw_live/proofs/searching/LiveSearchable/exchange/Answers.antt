@@ -1,4 +1,4 @@
-use Rattle.std.proofs.Common.{◌≡◌, length, refl, sym, ap, ◌∙◌, subst}
+use Rattle.std.proofs.Common.{length, refl, sym, ap, ◌∙◌, subst}
 use Rattle.xw_feas.specs.State.{State}
 use Rattle.xw_feas.proofs.SnapshotLemmas.{CanSave-twin}
 use Rattle.xw_net.specs.Net.{sets_of}

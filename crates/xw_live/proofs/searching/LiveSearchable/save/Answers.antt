@@ -4,7 +4,6 @@ use Rattle.std.specs.Prelude.{is_some}
 use Rattle.xw_grid.specs.Grid.{Grid}
 use Rattle.xw_words.specs.Dictionary.{Dictionary}
 use Rattle.xw_feas.specs.Board.{board_of}
-use Rattle.xw_feas.specs.State.{State}
 use Rattle.xw_feas.proofs.SnapshotLemmas.{saved_words}
 use Rattle.xw_net.specs.Brought.{IsBase}
 use Rattle.xw_net.proofs.Nets.CopiedNets.{settled_base}
