@@ -6,5 +6,4 @@ pub mod Stack
 pub mod Stepping
 pub mod Progress
 pub mod Climbing
-pub mod Pace
 pub mod OfState

@@ -1,5 +1,6 @@
 //! Searches for the best fill of the named lights: the one whose worst new word has the greatest grade.
 mod climb;
+mod course;
 mod grades;
 mod pace;
 mod probe;
@@ -11,9 +12,8 @@ ghost use Rattle.xw_fill.specs.Best.{IsBest};
 
 use crate::allowance::Allowance;
 use crate::best::climb::Climb;
-use crate::best::pace::Pace;
+use crate::best::course::Course;
 use crate::named_lights::plan::Plan;
-use crate::named_lights::run::Effort;
 use crate::named_lights::{all_lights, flags_of};
 use crate::scan::{board, light_count};
 use std::alloc::{AllocError, Global};
@@ -41,8 +41,7 @@ pub enum Best {
 pub struct BestHint {
     names: Vec<LightName>,
     entries: Vec<Option<Letter>>,
-    effort: Effort,
-    pace: Pace,
+    course: Course,
 }
 
 /// The entries of the cells, in reading order.
@@ -80,18 +79,17 @@ impl BestHint {
     ) -> Result<BestHint, AllocError> {
         let names = Vec::from_slice(alloc, names)?;
         let entries = copied_entries(alloc, engine)?;
-        let effort = Effort::new(alloc, light_count(engine), seed, engine.bank().is_graded())?;
+        let course = Course::new(alloc, light_count(engine), seed, engine.bank().is_graded())?;
         Ok(BestHint {
             names,
             entries,
-            effort,
-            pace: Pace::new(),
+            course,
         })
     }
 
     /// Whether the hint is from a search with these lights and this seed that began with the entries of the engine.
     fn is_of<E: Feasible>(&self, engine: &E, names: &[LightName], seed: u64) -> bool {
-        self.effort.seed == seed
+        self.course.seed() == seed
             && self.names.as_slice() == names
             && has_entries(engine, &self.entries)
     }
@@ -117,8 +115,7 @@ fn best_flagged<E: Searchable>(
     alloc: Global,
     engine: &mut E,
     named: Vec<bool>,
-    effort: &mut Effort,
-    pace: &mut Pace,
+    course: &mut Course,
     allowance: &mut Allowance,
 ) -> Result<Best, AllocError>
     ensures counted { IsCounted allowance.old allowance.new (E.state engine.old) (E.state engine.new) }
@@ -128,7 +125,7 @@ fn best_flagged<E: Searchable>(
 {
     let plan = Plan::of(alloc, engine, named)?;
     let mut climb = Climb::new(alloc, engine, plan)?;
-    climb.run(alloc, engine, effort, pace, allowance)?;
+    climb.run(alloc, engine, course, allowance)?;
     Ok(climb.finish(engine))
 }
 
@@ -147,14 +144,7 @@ fn best_named<E: Searchable>(
     ensures unchanged { OnErr result (E.state engine.new ≡ E.state engine.old) }
 {
     let named = named_flags(alloc, engine, names)?;
-    Ok(best_flagged(
-        alloc,
-        engine,
-        named,
-        &mut hint.effort,
-        &mut hint.pace,
-        allowance,
-    )?)
+    Ok(best_flagged(alloc, engine, named, &mut hint.course, allowance)?)
 }
 
 /// The hint if it is from a search with these lights and this seed that began with the entries of the engine.

@@ -4,12 +4,11 @@ ghost use Rattle.xw_words.specs.Dictionary.{best_grade};
 ghost use Rattle.xw_fill.specs.Inner.OfState.{IsPlan};
 ghost use Rattle.xw_fill.specs.NamedFill.{flags};
 ghost use Rattle.xw_fill.specs.Best.{IsBest, IsFilledAt};
-ghost use Rattle.xw_fill.specs.Inner.Pace.{Covers};
 ghost use Rattle.xw_fill.specs.Inner.Climbing.{IsAtLeast, IsClimbing, HasClimbed, IsTaken, IsIdle, next_grade, work_left, best_of};
 
 use crate::allowance::Allowance;
 use crate::best::Best;
-use crate::best::pace::Pace;
+use crate::best::course::Course;
 use crate::best::probe::{Probe, Prober, bound_of};
 use crate::named_lights::plan::Plan;
 use crate::named_lights::run::Effort;
@@ -109,42 +108,47 @@ impl<E: Searchable> Climb<E> {
         Ok(probe)
     }
 
-    /// Whether the search may try a grade: a placement is left, or it needs none, since no cell is to be filled.
-    fn may_try(&self, allowance: &Allowance) -> bool
-        ensures { allowance.now.made < allowance.now.limit → result ≡ true }
+    /// Tries the next grade, upwards or downwards. It decides a grade or makes a placement.
+    fn advance(
+        &mut self,
+        alloc: Global,
+        engine: &mut E,
+        course: &mut Course,
+        allowance: &mut Allowance,
+    ) -> Result<(), AllocError>
+        requires climbing { IsClimbing E.saved self.old (E.state engine.old) }
+        requires below { next_grade self.old < self.old.bound }
+        ensures climbing { IsClimbing E.saved self.new (E.state engine.new) }
+        ensures unchanged { E.state engine.new ≡ E.state engine.old }
+        ensures climbed { HasClimbed E.saved self.old self.new allowance.old allowance.new }
+        ensures moved { OnOk result (allowance.old.made < allowance.old.limit → work_left self.new allowance.new < work_left self.old allowance.old) }
     {
-        allowance.left() > 0 || self.prober.plan.targets.is_empty()
+        let left = allowance.left();
+        let grade = course.pace.grade(self.next_grade(), self.bound);
+        allowance.grant(course.pace.share().min(left));
+        let probe = self.step(alloc, engine, grade, course.effort(), allowance)?;
+        course
+            .pace
+            .note(grade, probe, left.saturating_sub(allowance.left()));
+        Ok(())
     }
 
-    /// Runs one pass, until it has tried all its grades or no placement is left. If it has a grade to try, it decides a
-    /// grade or makes a placement.
-    fn pass(
+    /// Tries the least grade at which a fill would be new, if there may be one.
+    fn try_next(
         &mut self,
         alloc: Global,
         engine: &mut E,
         effort: &mut Effort,
-        pace: &mut Pace,
         allowance: &mut Allowance,
     ) -> Result<(), AllocError>
         requires climbing { IsClimbing E.saved self.old (E.state engine.old) }
         ensures climbing { IsClimbing E.saved self.new (E.state engine.new) }
         ensures unchanged { E.state engine.new ≡ E.state engine.old }
         ensures climbed { HasClimbed E.saved self.old self.new allowance.old allowance.new }
-        ensures moved { OnOk result (Covers pace.old (next_grade self.old) → next_grade self.old < self.old.bound → allowance.old.made < allowance.old.limit → work_left self.new allowance.new < work_left self.old allowance.old) }
     {
-        pace.keep_within(self.next_grade(), self.bound);
-        while pace.low < pace.high && self.may_try(allowance) {
-            let grade = pace.low + (pace.high - pace.low) / 2;
-            let share = pace.share().min(allowance.left());
-            if pace.spent == 0 {
-                effort.restart();
-            }
-            allowance.grant(share);
-            let probe = self.step(alloc, engine, grade, effort, allowance)?;
-            if probe == Probe::Limit && !pace.spend(share) {
-                break;
-            }
-            pace.narrow(grade, probe);
+        let grade = self.next_grade();
+        if grade < self.bound {
+            let _ = self.step(alloc, engine, grade, effort, allowance)?;
         }
         Ok(())
     }
@@ -154,8 +158,7 @@ impl<E: Searchable> Climb<E> {
         &mut self,
         alloc: Global,
         engine: &mut E,
-        effort: &mut Effort,
-        pace: &mut Pace,
+        course: &mut Course,
         allowance: &mut Allowance,
     ) -> Result<(), AllocError>
         requires climbing { IsClimbing E.saved self.old (E.state engine.old) }
@@ -164,14 +167,14 @@ impl<E: Searchable> Climb<E> {
         ensures climbed { HasClimbed E.saved self.old self.new allowance.old allowance.new }
         ensures ended { OnOk result ((allowance.new.made ≡ allowance.new.limit) ⊎ (self.new.bound ≤ next_grade self.new)) }
     {
-        // With no cell to fill, one pass over all grades needs no placement.
         if self.prober.plan.targets.is_empty() {
-            *pace = Pace::new();
+            // No cell is to be filled, so no placement is needed: the first search finds the greatest grade of what
+            // stands there, and the second one that there is nothing else.
+            self.try_next(alloc, engine, course.effort(), allowance)?;
+            self.try_next(alloc, engine, course.effort(), allowance)?;
         }
-        self.pass(alloc, engine, effort, pace, allowance)?;
         while allowance.left() > 0 && self.next_grade() < self.bound {
-            pace.turn(self.next_grade());
-            self.pass(alloc, engine, effort, pace, allowance)?;
+            self.advance(alloc, engine, course, allowance)?;
         }
         Ok(())
     }

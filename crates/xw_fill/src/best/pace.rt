@@ -1,116 +1,194 @@
 //! Which grades a search for the best fill tries, and with how many placements each.
-ghost use Rattle.std.specs.Prelude.{◌≡◌, ◌<◌, ◌≤◌, ◌-◌};
-ghost use Rattle.xw_words.specs.Dictionary.{best_grade};
+ghost use Rattle.std.specs.Prelude.{◌<◌, ◌≤◌};
 
 use crate::best::grades::NO_BOUND;
 use crate::best::probe::Probe;
 
-/// How many placements each grade gets in the first two passes. In each later pair of passes it gets twice as many.
+/// How many placements a grade gets first.
 const BUDGET: u64 = 1000;
 
-/// The progress of a search for the best fill. Passes come in pairs, and each pass bisects the grades. If the budget
-/// runs out at a grade, the first pass takes the grade as too great, and so finds fills. The second pass takes it as
-/// too small, and so finds bounds. Which grades are tried is not promised.
-/// - `budget`: how many placements each grade gets.
-/// - `spent`: how many of these the current grade has used.
-/// - `is_second`: whether it is the second pass.
-/// - `low`, `high`: the pass still has the grades from `low` to below `high`.
-/// - `ceiling`: the least grade at which this search, or one that it continues, found that there is no fill. Grades
-///   from it on are tried only if no grade below it can have a fill.
+/// How many grades the second step up goes. The first one goes halfway to the bound.
+const STEP: u8 = 8;
+
+/// How many grades a later step up goes at most.
+const LONGEST: u8 = 16;
+
+/// Of ten placements, those for the bound.
+const TENTHS_DOWN: u64 = 3;
+
+/// With fewer placements for the last bound, the next step down goes three grades.
+const CHEAP: u64 = 200;
+
+/// With fewer placements for the last bound, the next step down goes two grades.
+const FAIR: u64 = 800;
+
+/// How many times the placements of the last bound the next one gets.
+const DEARER: u64 = 4;
+
+/// Whether a search looks for a better fill or for a better bound.
+#[derive(Clone, Copy, Debug, PartialEq, Eq)]
+pub enum Direction {
+    Up,
+    Down,
+}
+
+/// The progress of a search for the best fill. It goes up from the best fill, in steps that get longer with each fill
+/// and shorter with each grade that is not decided, and in turn down from the bound, by fewer grades the more the last
+/// bound cost. If a step of one grade is not decided, the next one in its direction gets twice as many placements.
+/// Which grades are tried is not promised.
+/// - `direction`: of the grade that is tried now.
+/// - `spent`: how many placements this grade has used.
+/// - `step`, `budget`: how far the next step up goes, and its placements.
+/// - `stride`, `price`: how far the next step down goes beyond one grade, and its placements.
+/// - `up`, `down`: the placements that were made in each direction.
+/// - `floor`: one more than the best grade at which this search, or one that it continues, found a fill. Grades below
+///   it are tried only if there is no fill at it.
+/// - `ceiling`: the least grade at which it found that there is no fill. Grades from it on are tried only if no grade
+///   below it can have a fill.
 #[derive(Clone, Copy)]
 pub struct Pace {
-    budget: u64,
+    pub direction: Direction,
     pub spent: u64,
-    is_second: bool,
-    pub low: u8,
-    pub high: u8,
+    step: u8,
+    budget: u64,
+    stride: u8,
+    price: u64,
+    up: u64,
+    down: u64,
+    floor: u8,
     ceiling: u8,
-    pub ghost open: { spent < budget },
 }
 
 impl Pace {
-    ghost use Rattle.xw_fill.specs.Inner.Pace.{Covers, IsNarrowed};
-    ghost use Rattle.xw_fill.specs.Inner.Climbing.{IsAtLeast};
-
     /// The pace of a search that has not begun.
     pub fn new() -> Pace {
         Pace {
-            budget: BUDGET,
+            direction: Direction::Up,
             spent: 0,
-            is_second: false,
-            low: 0,
-            high: NO_BOUND,
+            step: NO_BOUND,
+            budget: BUDGET,
+            stride: 2,
+            price: BUDGET,
+            up: 0,
+            down: 0,
+            floor: 0,
             ceiling: NO_BOUND,
         }
     }
 
-    /// Starts the next pass. `least` is the least grade at which a fill would be new. If it is not below the ceiling,
-    /// which an earlier search found, the pass tries this grade alone.
-    pub fn turn(&mut self, least: u8)
-        requires { least ≤ best_grade }
-        ensures { Covers self.new least }
+    /// The grade to try, if a fill at `least` would be new, and there is none at `bound`. If an earlier search found
+    /// that there is no fill at `least` either, it is this grade.
+    pub fn grade(&mut self, least: u8, bound: u8) -> u8
+        requires { least < bound }
+        ensures least { least ≤ result }
+        ensures bound { result < bound }
     {
         if self.ceiling <= least {
-            self.ceiling = NO_BOUND;
-            self.low = least;
-            self.high = least.saturating_add(1);
-            return;
+            return least;
         }
-        if self.is_second {
-            self.budget = self.budget.saturating_mul(2);
+        let last = bound.min(self.ceiling) - 1;
+        let first = if self.floor <= last {
+            least.max(self.floor)
+        } else {
+            least
+        };
+        if first == last {
+            // A proof or a fill at this grade ends the search, so it gets all placements.
+            self.direction = Direction::Down;
         }
-        self.is_second = !self.is_second;
-        self.low = 0;
-        self.high = NO_BOUND;
+        if self.direction == Direction::Down {
+            return last.saturating_sub(self.stride).max(first);
+        }
+        self.step = self.step.min((last - first) / 2 + 1);
+        first + self.step.saturating_sub(1)
     }
 
-    /// Leaves out grades that are not worth a search.
-    pub fn keep_within(&mut self, low: u8, high: u8)
-        ensures low { low ≤ self.new.low }
-        ensures high { self.new.high ≤ high }
-        ensures some { Covers self.old low → low < high → self.new.low < self.new.high }
-    {
-        self.low = self.low.max(low);
-        self.high = self.high.min(high).min(self.ceiling);
-    }
-
-    /// How many placements the current grade still gets.
+    /// How many placements this grade still gets.
     pub fn share(&self) -> u64
         ensures { 0 < result }
     {
-        self.budget.saturating_sub(self.spent)
+        let budget = match self.direction {
+            Direction::Up => self.budget,
+            Direction::Down => self.price,
+        };
+        budget.saturating_sub(self.spent).max(1)
     }
 
-    /// Counts placements that decided nothing. Returns whether the budget of the current grade is used up.
-    pub fn spend(&mut self, placements: u64) -> bool
-        ensures low { self.new.low ≡ self.old.low }
-        ensures high { self.new.high ≡ self.old.high }
-    {
-        let spent = self.spent.saturating_add(placements);
-        let is_over = spent >= self.budget;
-        self.spent = if is_over { 0 } else { spent };
-        is_over
-    }
-
-    /// Leaves out the grades that a search at `grade` decided.
-    pub fn narrow(&mut self, grade: u8, probe: Probe)
-        requires low { self.old.low ≤ grade }
-        requires high { grade < self.old.high }
-        requires found { IsAtLeast grade probe }
-        ensures low { self.old.low ≤ self.new.low }
-        ensures high { self.new.high ≤ self.old.high }
-        ensures fewer { self.new.high - self.new.low < self.old.high - self.old.low }
-        ensures narrowed { IsNarrowed grade probe self.new }
-    {
-        self.spent = 0;
-        match probe {
-            Probe::Filled(least) => self.low = least + 1,
-            Probe::NoFill => {
-                self.high = grade;
-                self.ceiling = grade;
-            }
-            Probe::Limit if self.is_second => self.low = grade + 1,
-            Probe::Limit => self.high = grade,
+    /// Notes what a search at a grade found with so many placements, and chooses the next direction. A search that was
+    /// given fewer placements than `share` goes on.
+    pub fn note(&mut self, grade: u8, probe: Probe, made: u64) {
+        let is_over = made >= self.share();
+        self.count(made);
+        if probe == Probe::Limit && !is_over {
+            return;
         }
+        match probe {
+            Probe::Filled(least) => self.floor = least.saturating_add(1),
+            Probe::NoFill => self.ceiling = grade,
+            Probe::Limit => {}
+        }
+        match self.direction {
+            Direction::Up => self.step_after(probe),
+            Direction::Down => self.stride_after(probe),
+        }
+        self.turn();
+    }
+
+    /// Counts placements.
+    fn count(&mut self, made: u64) {
+        self.spent = self.spent.saturating_add(made);
+        match self.direction {
+            Direction::Up => self.up = self.up.saturating_add(made),
+            Direction::Down => self.down = self.down.saturating_add(made),
+        }
+    }
+
+    /// The next step up.
+    fn step_after(&mut self, probe: Probe) {
+        match probe {
+            Probe::Filled(_) => {
+                self.step = if self.step > LONGEST {
+                    STEP
+                } else {
+                    self.step.saturating_mul(2).min(LONGEST)
+                };
+                self.budget = (self.budget / 2).max(BUDGET);
+            }
+            Probe::Limit if self.step <= 1 => {
+                self.budget = self.budget.saturating_mul(2);
+                self.step = STEP / 2;
+            }
+            _ => self.step = (self.step / 2).max(1),
+        }
+    }
+
+    /// The next step down.
+    fn stride_after(&mut self, probe: Probe) {
+        if probe == Probe::Limit {
+            if self.stride == 0 {
+                self.price = self.price.saturating_mul(2);
+            }
+            self.stride = 0;
+            return;
+        }
+        self.price = self.price.max(self.spent.saturating_mul(DEARER));
+        self.stride = if self.spent < CHEAP {
+            2
+        } else if self.spent < FAIR {
+            1
+        } else {
+            0
+        };
+    }
+
+    /// Turns to the next grade.
+    fn turn(&mut self) {
+        self.spent = 0;
+        let is_down = self.down < self.up.saturating_add(self.down) / 10 * TENTHS_DOWN;
+        self.direction = if is_down {
+            Direction::Down
+        } else {
+            Direction::Up
+        };
     }
 }
