@@ -153,6 +153,27 @@ impl<E: Searchable> Climb<E> {
         Ok(())
     }
 
+    /// Decides all grades if no cell is to be filled, which needs no placement: the first search finds the greatest grade
+    /// of what stands there, and the second one that there is nothing else.
+    fn begin(
+        &mut self,
+        alloc: Global,
+        engine: &mut E,
+        effort: &mut Effort,
+        allowance: &mut Allowance,
+    ) -> Result<(), AllocError>
+        requires climbing { IsClimbing E.saved self.old (E.state engine.old) }
+        ensures climbing { IsClimbing E.saved self.new (E.state engine.new) }
+        ensures unchanged { E.state engine.new ≡ E.state engine.old }
+        ensures climbed { HasClimbed E.saved self.old self.new allowance.old allowance.new }
+    {
+        if !self.prober.plan.targets.is_empty() {
+            return Ok(());
+        }
+        self.try_next(alloc, engine, effort, allowance)?;
+        self.try_next(alloc, engine, effort, allowance)
+    }
+
     /// Searches until no fill can be better than the best one that was found, or no placement is left.
     pub fn run(
         &mut self,
@@ -167,12 +188,7 @@ impl<E: Searchable> Climb<E> {
         ensures climbed { HasClimbed E.saved self.old self.new allowance.old allowance.new }
         ensures ended { OnOk result ((allowance.new.made ≡ allowance.new.limit) ⊎ (self.new.bound ≤ next_grade self.new)) }
     {
-        if self.prober.plan.targets.is_empty() {
-            // No cell is to be filled, so no placement is needed: the first search finds the greatest grade of what
-            // stands there, and the second one that there is nothing else.
-            self.try_next(alloc, engine, course.effort(), allowance)?;
-            self.try_next(alloc, engine, course.effort(), allowance)?;
-        }
+        self.begin(alloc, engine, course.effort(), allowance)?;
         while allowance.left() > 0 && self.next_grade() < self.bound {
             self.advance(alloc, engine, course, allowance)?;
         }

@@ -5,8 +5,8 @@ use Rattle.xw_fill.proofs.best.climb.Climb.run.Given as goal
 abbrev pub invariant-loop-self : goal.invariant-loop-self
 invariant-loop-self g l = record {
   climbing : IsClimbing g.E.Searchable.saved l.self (g.E.Feasible.state l.engine);
-  same : g.E.Feasible.state l.engine ≡ g.E.Feasible.state l.initial.engine;
-  climbed : HasClimbed g.E.Searchable.saved l.initial.self l.self l.initial.allowance l.allowance;
+  same : g.E.Feasible.state l.engine ≡ g.E.Feasible.state l.fn.engine;
+  climbed : HasClimbed g.E.Searchable.saved l.fn.self l.self l.fn.allowance l.allowance;
 }
 
 abbrev pub decreases-loop-self : goal.decreases-loop-self
