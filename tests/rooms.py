@@ -1,6 +1,7 @@
 """Where packages are installed for a test: a folder with a C library, Python and Node, and nothing else, which is the root of what runs there.
 
-A folder that debootstrap made is taken if the variable XW_CHROOT names one. Otherwise the folder gets the files of this machine that the three need.
+If the variable XW_CHROOT names an archive that tools/make-root made by debootstrap, the folder has its files. Otherwise it gets the files of this machine
+that the three need.
 """
 import contextlib
 import os
@@ -80,16 +81,25 @@ def make_small(folder):
     (dpkg / "available").touch()
 
 
+def why_not(archive):
+    """What the log of an archive that was not made says."""
+    log = pathlib.Path(f"{archive}.log")
+    return f" ({log.read_text().strip()})" if log.exists() and log.stat().st_size else ""
+
+
 class Room:
     """A folder as the root of what runs in it. `home` is the folder in it where files are made."""
 
     def __init__(self, folder):
         given = os.environ.get("XW_CHROOT")
-        self.folder = pathlib.Path(given) if given else folder / "root"
+        self.folder = folder / "root"
         self.home = self.folder / "home/test"
-        self.name = "a root that debootstrap made" if given else "a root of this machine's files"
-        if not given:
-            self.folder.mkdir()
+        self.folder.mkdir()
+        if given and pathlib.Path(given).exists():
+            self.name = "a root that debootstrap made"
+            subprocess.run(["tar", "-C", self.folder, "-xf", given], check=True, timeout=SECONDS)
+        else:
+            self.name = "a root of this machine's files" + (f", since there is no {given}{why_not(given)}" if given else "")
             make_small(self.folder)
         self.home.mkdir(parents=True, exist_ok=True)
 

@@ -14,11 +14,10 @@ import archives
 from archives import Entry, below, gzipped, read_tree
 from notices import notices
 from proving import TOP, Failed, output_of
+from publisher import MAINTAINER, REPOSITORY
 
 # the folder of the libraries in Debian's packages
 DEBIAN_LIBDIR = "lib/x86_64-linux-gnu"
-# whom a package names as its maintainer; who publishes one gives an address of theirs
-MAINTAINER = "The xw authors <xw@xw.invalid>"
 # the oldest C library that the program and the shared library run with
 GLIBC = "2.34"
 WORDS = pathlib.Path("/usr/share/dict/american-english")
@@ -39,6 +38,7 @@ to prove it again.
 """
 
 BUILD_INFO = """{told}
+repository {repository}
 commit {commit}
 commit date {date}
 kit {kit}
@@ -61,6 +61,7 @@ Installed-Size: {size}
 Depends: {depends}
 Section: {section}
 Priority: optional
+Homepage: {homepage}
 Description: {description}
 """
 
@@ -176,7 +177,7 @@ class Release:
         commit = self.commit + (" with changes" if git("status", "--porcelain") else "")
         kit = output_of("rt", "version").replace(" logic ", "\nlogic ")
         told = re.search(r'^pub const VERSION: &str = "(.*)"', (TOP / "crates/xw_commands/src/version.rt").read_text(), re.M)[1]
-        return BUILD_INFO.format(told=told, commit=commit, date=date, kit=kit, tools=versions_of_tools())
+        return BUILD_INFO.format(told=told, repository=REPOSITORY, commit=commit, date=date, kit=kit, tools=versions_of_tools())
 
     def licences(self, notices_text):
         return {
@@ -209,7 +210,7 @@ class Release:
             f"{folder}/BUILD-INFO": Entry(self.info.encode()),
         }
         size = sum(len(entry.data) // 1024 + 1 for entry in tree.values())
-        fields = {"maintainer": MAINTAINER, "description": DESCRIPTIONS[package], "size": size, "depends": depends, "section": section}
+        fields = {"maintainer": MAINTAINER, "homepage": REPOSITORY, "description": DESCRIPTIONS[package], "size": size, "depends": depends, "section": section}
         told = CONTROL.format(package=package, version=self.version, **fields)
         sums = "".join(f"{hashlib.md5(it.data).hexdigest()}  {path}\n" for path, it in sorted(tree.items()) if isinstance(it.data, bytes))
         archives.deb(self.folder / f"{package}_{self.version}_amd64.deb", tree, {"control": told, "md5sums": sums, **control}, self.time)
