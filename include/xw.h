@@ -30,8 +30,8 @@
  *
  * TEXTS. Titles, clues and notes are bytes. Solving programs read those of a .puz file as Windows-1252, so convert your strings.
  *
- * STATUSES. Each call returns one of enum xw_status, except xw_answer, xw_close and xw_version. A later library may return others: treat an
- * unknown one as a refusal.
+ * STATUSES. Each call returns one of enum xw_status, except xw_answer, xw_close, xw_version and xw_status_name. A later library may return others:
+ * treat an unknown one as a refusal.
  */
 #ifndef XW_H
 #define XW_H
@@ -222,14 +222,11 @@ void xw_close(struct xw *xw);
  */
 size_t xw_version(void *out, size_t out_length);
 
-/* The name of a status, as the program spells it, or "Unknown". The string is constant. */
-static inline const char *xw_status_name(uint32_t status) {
-    static const char *const names[] = {
-        "Accepted", "Refused", "Silent", "Closed", "Open", "Memory", "NoCommand", "Full", "Short", "Magic", "Version",
-        "Scrambled", "Size", "NoNul", "BadSum", "BadCell", "ClueCount", "Header", "Tag", "SizeLine", "GridLine", "AcrossCount",
-        "DownCount", "NulByte", "GextSize", "GextSum", "Barred", "NotFilled", "Field", "Circled", "Cut"};
-    return status < sizeof names / sizeof *names ? names[status] : "Unknown";
-}
+/*
+ * The name of a status, as the program spells it, such as "NotFilled", or "Unknown" for a number that is no status of the library. It needs no
+ * session. The string is constant, ends with a NUL, and stays as long as the library is loaded; the pointer is never null. Time: none to speak of.
+ */
+const char *xw_status_name(uint32_t status);
 
 #ifdef __cplusplus
 }

@@ -23,7 +23,8 @@ PROGRAM = OUT / "xw"
 LIBRARY = TOP / "crates/xw_c/out/libxw.a"
 # the module that the library was compiled from
 MODULE = TOP / "crates/xw_c/out/xw.bc"
-PARTS = ("src", "specs", "proofs")
+# the parts of a crate; link/ has what is linked with the proved code
+PARTS = ("src", "specs", "proofs", "link")
 # what the prover makes of the crates that are no library for other crates
 OBJECTS = {"xw": "xw.o", "xw_c": "libxw_c.a"}
 # the memory that a process of the prover needs, in kB
@@ -278,11 +279,14 @@ class Build:
         self.run([*words, MADE / "xw/xw.o", kit() / "c/libos_c.a", kit() / "c/liblibc_c.a"], log)
 
     def archive(self, log):
-        """Joins what was compiled with the part of the kit's C library that it calls, which calls malloc, realloc and free."""
+        """Joins what was compiled with the part of the kit's C library that it calls, which calls malloc, realloc and free, and with link/."""
         tools, folder = kit() / "toolchain/bin", MADE / "xw_c/objects"
         folder.mkdir()
         self.run([tools / "llvm-ar", "x", "../libxw_c.a"], log, folder)
         self.run([tools / "llvm-ar", "x", kit() / "c/liblibc_c.a", "heap.pic.o"], log, folder)
+        for path in (TOP / "crates/xw_c/link").glob("*.ll"):
+            words = [tools / "clang", "--target=x86_64-unknown-linux-gnu", "-O2", "-fPIC", "-c", "-x", "ir", path, "-o", f"{path.stem}.o"]
+            self.run(words, log, folder)
         LIBRARY.unlink(missing_ok=True)
         self.run([tools / "llvm-ar", "rcs", LIBRARY, *sorted(folder.iterdir())], log)
 

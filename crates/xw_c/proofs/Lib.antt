@@ -1,3 +1,4 @@
 pub mod Boxes
 pub mod Calling
+pub mod Names
 pub mod Opened

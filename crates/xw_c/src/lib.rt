@@ -8,6 +8,7 @@ mod open_session;
 mod status;
 
 ghost use Rattle.std.specs.Prelude.{◌≡◌, None, length};
+ghost use denote.RawPtr.{InBlock};
 ghost use Rattle.xw_files.specs.declared.kind.Kind.TheVariants.{Puz, Text};
 ghost use Rattle.xw_c.specs.OpenSession.{IsFileMade, IsLineDone, IsRecordMade, IsResumed};
 ghost use Rattle.xw_c.specs.Status.{code_of};
@@ -16,8 +17,9 @@ ghost use Rattle.xw_c.specs.Calls.{Opens, Calls, answer_of, copied};
 ghost use Rattle.xw_commands.specs.declared.version.TheConstants.{VERSION};
 
 use crate::handle::Handle;
-use crate::status::Status;
+use crate::status::{Status, name_of_code};
 use std::alloc::Global;
+use std::ptr::from_ref;
 use xw_commands::version::VERSION;
 
 /// The code of a call without an open session.
@@ -143,6 +145,15 @@ pub extern "C" fn xw_version(out: &mut [u8]) -> usize
     ensures copied { out.new ≡ copied VERSION.now out.old }
 {
     copy(VERSION.as_bytes(), out)
+}
+
+/// Writes the address of the name of the status with a code, and `Unknown` for any other code: the bytes of `name_of_code`, which end with a NUL and never
+/// change. C calls it by `xw_status_name` (link/status_name.ll), since an export may not return an address.
+#[unsafe(no_mangle)]
+pub extern "C" fn xw_own_name(address: &mut *const u8, code: u32)
+    ensures not_null { InBlock address.new }
+{
+    *address = from_ref(&name_of_code(code)[0]);
 }
 
 /// Closes a session, if one is open.

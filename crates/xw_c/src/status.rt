@@ -1,6 +1,6 @@
 //! The status with which a call of the library ends, and its code.
-ghost use Rattle.std.specs.Prelude.{◌≡◌};
-ghost use Rattle.xw_c.specs.Status.{code_of, read_code, write_code};
+ghost use Rattle.std.specs.Prelude.{◌≡◌, ◌++◌, ◌∷◌, []};
+ghost use Rattle.xw_c.specs.Status.{code_of, name_of_code, read_code, write_code};
 
 use xw_files::{ReadFault, WriteFault};
 use xw_lines::Step;
@@ -112,5 +112,45 @@ fn write_code(fault: WriteFault) -> u32
         WriteFault::NotFilled(_) => 27,
         WriteFault::Field(_) => 28,
         WriteFault::Circled(_) => 29,
+    }
+}
+
+/// The name of the status with a code, and `Unknown` for any other code, with a NUL at its end.
+pub fn name_of_code(code: u32) -> &'static [u8]
+    ensures { result.now ≡ name_of_code code ++ 0 ∷ [] }
+{
+    match code {
+        0 => b"Accepted\0",
+        1 => b"Refused\0",
+        2 => b"Silent\0",
+        3 => b"Closed\0",
+        4 => b"Open\0",
+        5 => b"Memory\0",
+        6 => b"NoCommand\0",
+        7 => b"Full\0",
+        8 => b"Short\0",
+        9 => b"Magic\0",
+        10 => b"Version\0",
+        11 => b"Scrambled\0",
+        12 => b"Size\0",
+        13 => b"NoNul\0",
+        14 => b"BadSum\0",
+        15 => b"BadCell\0",
+        16 => b"ClueCount\0",
+        17 => b"Header\0",
+        18 => b"Tag\0",
+        19 => b"SizeLine\0",
+        20 => b"GridLine\0",
+        21 => b"AcrossCount\0",
+        22 => b"DownCount\0",
+        23 => b"NulByte\0",
+        24 => b"GextSize\0",
+        25 => b"GextSum\0",
+        26 => b"Barred\0",
+        27 => b"NotFilled\0",
+        28 => b"Field\0",
+        29 => b"Circled\0",
+        30 => b"Cut\0",
+        _ => b"Unknown\0",
     }
 }
