@@ -131,12 +131,6 @@ pub record IsChange (before now : State) (action : Action) (change : Fields) : T
   pub gone : (len index : ℕ) → change.back ≡ false → change.turned len ≡ true → (entry_at (row now.words len) index).active ≡ true → (entry_at (row before.words len) index).active ≡ true
   pub spelling : (len index : ℕ) → index < length (row before.words len) → (entry_at (row now.words len) index).word ≡ (entry_at (row before.words len) index).word
 
--- the edit adds or strikes the word with this length and index, and keeps the grid
-pub record IsWordEdit (grid : Grid) (old new : Dictionary) (action : Action) (word : ℕ × ℕ) : Type 0 where
-  pub made : after (record { grid = grid; words = old }) action ≡ Ok (record { grid = grid; words = new })
-  pub no_cells : cells_written grid action ≡ []
-  pub names : word_changed old action ≡ Some word
-
 -- the reads return the words of a dictionary
 abbrev pub AreReadsOf : (ℕ → List Entry) → Dictionary → Type 0
 AreReadsOf entries words = (len : ℕ) → entries len ≡ row words len
