@@ -48,7 +48,6 @@ module _ (old : Live) (now : Position) (action : Action) (made : after (state_of
       kept_from (position_state now) old.net
       (subst (λ (words : Dictionary). ∥ IsSettledOn (layout_of now.grid) words old.net ∥₁) (sym words) (subst (λ (layout : Layout). ∥ IsSettledOn layout old.position.bank.words old.net ∥₁) (sym same) old.kept.settled))
       old.kept.none_waits
-      now.formed
 
   -- the letters of before the edit
   pub same_cells_kept : (net : Net) (before : List ℕ) → before ≡ sets_of old.net → IsKept (position_state now) net → length before ≡ length (sets_of net)

@@ -23,7 +23,6 @@ use Rattle.xw_feas.specs.Rows.{grows}
 use Rattle.xw_feas.specs.Shape.{SameCounts, GrowsAt}
 use Rattle.xw_feas.specs.Standing.{HasRows}
 use Rattle.xw_feas.specs.State.{State}
-use Rattle.xw_feas.specs.WellFormed.{IsWellFormed}
 use Rattle.xw_feas.proofs.AnswersLemmas.{AreAnswers-rows}
 use Rattle.xw_feas.proofs.BoardLemmas.{length-open_cells, length-lights, light_at-found}
 use Rattle.xw_feas.proofs.QueryLemmas.{count_is}
@@ -42,12 +41,11 @@ settled_answers : (state : State) (net : Net) → IsSettledFor state net → Are
 settled_answers state net settled = AreAnswers-rows (board_of state.grid) state.words (flags_of (lights_of state.grid) net) (sets_of net) settled.rows settled.exact
 
 -- the invariant from a net that is settled for a state and has no spare arrays
-pub kept_from : (state : State) (net : Net) → ∥ IsSettledFor state net ∥₁ → is_some net.spare ≡ false → IsWellFormed state → IsKept state net
-kept_from state net settled none_waits formed = record {
+pub kept_from : (state : State) (net : Net) → ∥ IsSettledFor state net ∥₁ → is_some net.spare ≡ false → IsKept state net
+kept_from state net settled none_waits = record {
   settled = settled;
   none_waits = none_waits;
   answers = ∥∥₁_elim settled (AreAnswers-prop (board_of state.grid) state.words (net_answers state net)) (settled_answers state net);
-  formed = formed;
 }
 
 -- an alike net is settled for the same states
@@ -56,7 +54,7 @@ settled_alike state old new alike known = ∥∥₁_elim known ∥∥₁_prop (�
 
 -- an alike net satisfies the invariant for the same states
 pub kept_alike : (state : State) (old new : Net) → IsAlike old new → is_some new.spare ≡ false → IsKept state old → IsKept state new
-kept_alike state old new alike none_waits kept = kept_from state new (settled_alike state old new alike kept.settled) none_waits kept.formed
+kept_alike state old new alike none_waits kept = kept_from state new (settled_alike state old new alike kept.settled) none_waits
 
 -- there is a set for each cell
 pub kept_cells : (state : State) (net : Net) → IsKept state net → length (sets_of net) ≡ length state.grid.squares

@@ -11,6 +11,7 @@ use Rattle.xw_feas.specs.Board.{board_of}
 use Rattle.xw_feas.specs.Queries.{tally_of}
 use Rattle.xw_feas.specs.Snapshot.{CanSave}
 use Rattle.xw_feas.specs.State.{State}
+use Rattle.xw_feas.specs.WellFormed.{IsWellFormed}
 use Rattle.xw_feas.proofs.AnswersLemmas.{rows_at}
 use Rattle.xw_feas.proofs.BoardLemmas.{length-lights}
 use Rattle.xw_feas.proofs.SnapshotLemmas.{saved_counts}
@@ -25,7 +26,7 @@ use Rattle.xw_live.proofs.Keeping.{kept_from, kept_cells}
 -- a copy of a kept net is kept
 pub kept_copy : (state : State) (net new : Net) (lights : List Light) → lights ≡ lights_of state.grid → IsCopy lights net new → is_some new.spare ≡ false → IsKept state net → IsKept state new
 kept_copy state net new lights are copy none_waits kept =
-    kept_from state new (∥∥₁_elim kept.settled ∥∥₁_prop (λ settled. ∣ copy.settled state (sym are) settled ∣₁)) none_waits kept.formed
+    kept_from state new (∥∥₁_elim kept.settled ∥∥₁_prop (λ settled. ∣ copy.settled state (sym are) settled ∣₁)) none_waits
 
 -- the same fact for an equal dictionary
 pub kept_same : (grid : Grid) (net : Net) {words other : Dictionary} → words ≡ other → IsKept (record { grid = grid; words = words }) net → IsKept (record { grid = grid; words = other }) net
@@ -35,6 +36,10 @@ kept_same grid net same kept = subst (λ (words : Dictionary). IsKept (record { 
 pub kept_moved : {grid other : Grid} {net kept_net : Net} {words : Dictionary} → other ≡ grid → kept_net ≡ net → IsKept (record { grid = grid; words = words }) net → IsKept (record { grid = other; words = words }) kept_net
 kept_moved {grid} {other} {net} {kept_net} {words} same same_net kept =
     subst (λ (grid : Grid). IsKept (record { grid = grid; words = words }) kept_net) (sym same) (subst (λ (net : Net). IsKept (record { grid = grid; words = words }) net) (sym same_net) kept)
+
+-- an equal state is well formed
+pub formed_moved : {grid other : Grid} {words others : Dictionary} → other ≡ grid → words ≡ others → IsWellFormed (record { grid = grid; words = words }) → IsWellFormed (record { grid = other; words = others })
+formed_moved same_grid same_words formed = subst IsWellFormed (λ i. record { grid = sym same_grid i; words = same_words i }) formed
 
 module _ (saved state : State) (can : CanSave saved state) (net kept_net : Net) (kept : IsKept state net) (saved_kept : IsKept saved kept_net) where
   -- a net can be copied into one for a state with the same shape

@@ -7,9 +7,8 @@ use Rattle.xw_grid.specs.Light.{lights_of}
 use Rattle.xw_feas.specs.AnswersOf.{answers_of}
 use Rattle.xw_feas.specs.Board.{board_of}
 use Rattle.xw_feas.specs.Feasible.{Answers, AreAnswers}
-use Rattle.xw_feas.specs.Single.{AreAnswers-prop, IsWellFormed-prop}
+use Rattle.xw_feas.specs.Single.{AreAnswers-prop}
 use Rattle.xw_feas.specs.State.{State}
-use Rattle.xw_feas.specs.WellFormed.{IsWellFormed}
 use Rattle.xw_net.specs.declared.change.Change.{Change}
 use Rattle.xw_net.specs.declared.net.Net.{Net}
 use Rattle.xw_net.specs.Change.{before_of, cells_of, word_of}
@@ -29,7 +28,6 @@ pub record IsKept (state : State) (net : Net) : Type 0 where
   pub settled : ∥ IsSettledFor state net ∥₁
   pub none_waits : is_some net.spare ≡ false
   pub answers : AreAnswers (board_of state.grid) state.words (net_answers state net)
-  pub formed : IsWellFormed state
 
 -- the invariant is a proposition (two proofs of it are equal), so a ghost field can hold it
 pub IsKept-prop : (state : State) (net : Net) → IsProp (IsKept state net)
@@ -37,7 +35,6 @@ IsKept-prop state net x y = λ i. record {
   settled = ∥∥₁_prop x.settled y.settled i;
   none_waits = Bool-set (is_some net.spare) false x.none_waits y.none_waits i;
   answers = AreAnswers-prop (board_of state.grid) state.words (net_answers state net) x.answers y.answers i;
-  formed = IsWellFormed-prop state x.formed y.formed i;
 }
 
 -- the conditions of `Net::settle` that do not concern the words

@@ -1,5 +1,7 @@
 //! Saved states of the engine, and the number of its words by letter.
 ghost use Rattle.std.specs.Prelude.{◌≡◌};
+ghost use Rattle.xw_feas.specs.Single.{IsWellFormed-prop};
+ghost use Rattle.xw_feas.specs.WellFormed.{IsWellFormed};
 ghost use Rattle.xw_live.specs.Engine.{IsKept, IsKept-prop};
 
 use crate::live::Live;
@@ -25,6 +27,7 @@ pub struct Saved {
     pub(crate) least: u8,
     pub(crate) bank: Snapshot<Bank>,
     ghost kept: { IsKept (record { grid = grid; words = bank.value.words }) net } by { IsKept-prop (record { grid = grid; words = bank.value.words }) net },
+    ghost formed: { IsWellFormed (record { grid = grid; words = bank.value.words }) } by { IsWellFormed-prop (record { grid = grid; words = bank.value.words }) },
     ghost same_least: { least ≡ bank.value.words.least },
 }
 

@@ -28,7 +28,6 @@ returns-clause-kept c before action change known =
     kept_from now net
     (∥∥₁_elim known ∥∥₁_prop (λ settled. ∣ c.settle.ensures.settled before now.words action (λ len. ap (λ (words : Dictionary). row words len) c.new-rows.ensures.words) change settled ∣₁))
     (ap is_some c.settle.ensures.spare)
-    change.formed_now
 
 pub returns-clause-cost : goal.returns-clause-cost
 returns-clause-cost c before action change known member region =

@@ -36,8 +36,7 @@ returns-clause-kept c =
     let net = c.try_settle-dead.new.self in
     kept_from now net
     (∥∥₁_elim known ∥∥₁_prop (λ settled. ∣ settles before now.words action (λ len. ap (λ (words : Dictionary). row words len) c.new-reads.ensures.words) change settled ∣₁))
-    (ap is_some c.try_settle-dead.ensures.spare)
-    change.formed_now)
+    (ap is_some c.try_settle-dead.ensures.spare))
 
 pub returns-clause-stopped : goal.returns-clause-stopped
 returns-clause-stopped c =

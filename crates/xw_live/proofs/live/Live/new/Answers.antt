@@ -11,7 +11,7 @@ invariant_of-result c =
     let position = c.in_ok-position.position in
     let net = c.in_ok-net.net in
     let same : position.grid ≡ c.args.grid = ap (λ (state : State). state.grid) c.in_ok-position.ensures.state in
-    let kept : IsKept (state_of position) net = kept_from (state_of position) net ∣ c.in_ok-net.ensures.settled ∣₁ c.in_ok-net.ensures.none_waits position.formed in
+    let kept : IsKept (state_of position) net = kept_from (state_of position) net ∣ c.in_ok-net.ensures.settled ∣₁ c.in_ok-net.ensures.none_waits in
     record {
       kept = kept;
       same_cells = c.in_ok-before.ensures.ok ∙ sym (ap (λ (grid : Grid). length grid.squares) same) ∙ sym (kept_cells (state_of position) net kept);

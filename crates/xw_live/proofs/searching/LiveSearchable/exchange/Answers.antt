@@ -5,7 +5,7 @@ use Rattle.xw_net.specs.Net.{sets_of}
 use Rattle.xw_net.specs.declared.net.Net.{Net}
 use Rattle.xw_live.specs.Engine.{IsKept}
 use Rattle.xw_live.specs.Live.{state_of}
-use Rattle.xw_live.proofs.Saving.{kept_same, kept_moved, same_sets}
+use Rattle.xw_live.proofs.Saving.{kept_same, kept_moved, formed_moved, same_sets}
 use Rattle.xw_live.proofs.searching.LiveSearchable.exchange.Goals as goal
 
 pub exchange-requires : goal.exchange-requires
@@ -28,4 +28,8 @@ invariant_of-self c =
 pub invariant_of-snapshot : goal.invariant_of-snapshot
 invariant_of-snapshot c =
     let live = c.args.self.now in
-    record { kept = kept_moved c.exchange.ensures.before c.swap.ensures.y_after (kept_same live.position.grid live.net c.requires.twin.words live.kept); same_least = c.args.snapshot.now.same_least }
+    record {
+      kept = kept_moved c.exchange.ensures.before c.swap.ensures.y_after (kept_same live.position.grid live.net c.requires.twin.words live.kept);
+      formed = formed_moved c.exchange.ensures.before c.requires.twin.words live.position.formed;
+      same_least = c.args.snapshot.now.same_least;
+    }

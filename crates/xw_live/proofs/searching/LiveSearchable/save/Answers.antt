@@ -10,7 +10,7 @@ use Rattle.xw_net.proofs.Nets.CopiedNets.{settled_base}
 use Rattle.xw_live.specs.Engine.{IsKept}
 use Rattle.xw_live.specs.Live.{state_of}
 use Rattle.xw_live.specs.Saved.{saved_state}
-use Rattle.xw_live.proofs.Saving.{kept_copy, kept_same, can_copy}
+use Rattle.xw_live.proofs.Saving.{kept_copy, kept_same, formed_moved, can_copy}
 use Rattle.xw_live.proofs.searching.LiveSearchable.save.Goals as goal
 
 pub copy_net-requires-clause-lights : goal.copy_net-requires-clause-lights
@@ -27,7 +27,7 @@ copy_net-requires-clause-before c same =
     let live = c.args.self.now in
     let kept = c.args.snapshot.now in
     let least : kept.least ≡ c.least-least.result = grind (arith, nat_tests, same) in
-    let words = saved_words (saved_state kept) (state_of live) kept.kept.formed live.kept.formed c.requires (sym kept.same_least ∙ least ∙ c.least-least.ensures.least) in
+    let words = saved_words (saved_state kept) (state_of live) kept.formed live.position.formed c.requires (sym kept.same_least ∙ least ∙ c.least-least.ensures.least) in
     subst (λ (words : Dictionary). IsBase (board_of c.args.snapshot.now.grid) words c.args.snapshot.now.net.base.items) (sym words) (settled_base (saved_state kept) kept.net kept.kept.settled)
 
 pub invariant_of-snapshot : goal.invariant_of-snapshot
@@ -39,5 +39,6 @@ invariant_of-snapshot c =
     record {
       kept = subst (λ (grid : Grid). IsKept (record { grid = grid; words = c.of.result.value.words }) c.copy_net.new.net) (sym c.copy_from.ensures)
           (kept_same live.position.grid net (sym (ap (λ bank. bank.words) c.of.ensures)) copied);
+      formed = formed_moved c.copy_from.ensures (sym (ap (λ bank. bank.words) c.of.ensures)) live.position.formed;
       same_least = c.least-least.ensures.least ∙ sym (ap (λ bank. bank.words.least) c.of.ensures);
     }
