@@ -1,12 +1,22 @@
 //! An iterator over the cells whose feasible letters an edit changed.
-ghost use Rattle.std.specs.Prelude.{◌≡◌, slice_index_or};
+ghost use Rattle.std.specs.Prelude.{◌≡◌, length, slice_index_or, IfOk, IsOkUnless};
 ghost use Rattle.std.specs.Iterator.{YieldsFirst, item_count};
 ghost use Rattle.xw_feas.specs.Changes.{changed_sets};
 ghost use Rattle.xw_feas.specs.Changed.{changes_left};
 
+use std::alloc::Global;
 use xw_grid::cell::Cell;
+use xw_grid::fault::GridFault;
 use xw_grid::grid::Grid;
 use xw_letters::letter_set::LetterSet;
+
+/// Creates an empty set for each cell of a grid. Returns `Memory` if the allocation fails.
+pub fn make_grid_sets(alloc: Global, grid: &Grid) -> Result<Vec<LetterSet>, GridFault>
+    ensures ok { IfOk result (λ sets. length sets.items ≡ length grid.now.squares) }
+    ensures memory { IsOkUnless result GridFault.Memory }
+{
+    Ok(vec![in alloc; LetterSet::new(); grid.squares().len()]?)
+}
 
 /// The open cells whose feasible letters changed, in reading order, each with its new letters.
 #[derive(Drop)]

@@ -5,16 +5,18 @@ ghost use Rattle.std.specs.Io.BufRead.{Rests};
 ghost use Rattle.xw_letters.specs.LetterSet.{letters_in};
 ghost use Rattle.xw_grid.specs.Light.{lights_of};
 ghost use Rattle.xw_feas.specs.Board.{board_of};
+ghost use Rattle.xw_feas.specs.Changes.{letters_of};
 ghost use Rattle.xw_feas.specs.Feasible.{Answers, AreAnswers};
 ghost use Rattle.xw_feas.specs.State.{State, IsAfter, action_of, after, known_placed, known_count};
 ghost use Rattle.xw_feas.specs.Engine.{IsEdited};
+ghost use Rattle.xw_feas.specs.Position.{state_of as position_state};
 ghost use Rattle.xw_feas.specs.WellFormed.{IsWellFormed};
 ghost use Rattle.xw_feas.specs.Queries.{count_answer, next_answer, next_found, words_of, AreLetters};
 
 use crate::changed::Changed;
-use crate::dictionary::known_distinct;
 use crate::edit::{Edit, Found, Refusal};
 use crate::place::spell_bytes;
+use crate::position::Position;
 use std::alloc::Global;
 use xw_grid::cell::{Cell, LightName};
 use xw_grid::fault::GridFault;
@@ -57,50 +59,76 @@ pub trait Feasible: Drop {
         ensures same { OnErr result (state self.new ≡ state self.old) }
         ensures answers_same { OnErr result (answers self.new ≡ answers self.old) };
 
-    /// The grid.
-    fn grid(&self) -> &Grid
-        ensures { result.now ≡ (state self.now).grid };
-
-    /// The dictionary.
-    fn bank(&self) -> &Bank
-        ensures { result.now.words ≡ (state self.now).words };
-
-    /// The lights of the grid, in order.
-    fn lights(&self) -> &Lights
-        ensures { result.now ≡ lights_of (state self.now).grid };
-
-    /// The number of feasible words of a light. Returns `NoLight` if no light has this name.
-    fn word_count(&self, name: LightName) -> Result<usize, Refusal>
-        ensures { result ≡ count_answer (state self.now) (answers self.now) name };
-
-    /// The first feasible word of a light whose index is at least `from`; the entered word of a
-    /// filled light has index 0. Returns `NoLight` if no light has this name.
-    fn next_word(&self, name: LightName, from: usize) -> Result<Option<Found>, Refusal>
-        ensures { result ≡ next_answer (state self.now) (answers self.now) name from };
-
-    /// The feasible letters of a cell. Returns `OutOfGrid`, then `OnBlock` if the cell is a block.
-    fn letters(&self, cell: Cell) -> Result<LetterSet, Refusal>
-        ensures { AreLetters (state self.now) (answers self.now) cell result };
+    /// The grid with its lights, and the dictionary.
+    fn position(&self) -> &Position
+        ensures { position_state result.now ≡ state self.now };
 
     /// The number of feasible words of a light, by its index.
     fn word_count_at(&self, light: usize) -> usize
         requires { light < length (lights_of (state self.now).grid) }
-        ensures { result ≡ length (words_of (answers self.now) light) }
-    {
-        match self.word_count(self.lights().at(light).name) {
-            Ok(count) => count,
-            Err(_) => unreachable!(),
-        }
-    }
+        ensures { result ≡ length (words_of (answers self.now) light) };
 
     /// The first feasible word of a light, by its index, whose own index is at least `from`.
     fn next_word_at(&self, light: usize, from: usize) -> Option<Found>
         requires { light < length (lights_of (state self.now).grid) }
-        ensures { result ≡ next_found (board_of (state self.now).grid) (state self.now).words (answers self.now) light from }
+        ensures { result ≡ next_found (board_of (state self.now).grid) (state self.now).words (answers self.now) light from };
+
+    /// The feasible letters of a cell, by its index.
+    fn letters_at(&self, index: usize) -> LetterSet
+        requires { index < length (state self.now).grid.squares }
+        ensures { letters_of (answers self.now) index ≡ letters_in result };
+
+    /// The grid.
+    fn grid(&self) -> &Grid
+        ensures { result.now ≡ (state self.now).grid }
     {
-        match self.next_word(self.lights().at(light).name, from) {
-            Ok(found) => found,
-            Err(_) => unreachable!(),
+        &self.position().grid
+    }
+
+    /// The dictionary.
+    fn bank(&self) -> &Bank
+        ensures { result.now.words ≡ (state self.now).words }
+    {
+        &self.position().bank
+    }
+
+    /// The lights of the grid, in order.
+    fn lights(&self) -> &Lights
+        ensures { result.now ≡ lights_of (state self.now).grid }
+    {
+        &self.position().lights
+    }
+
+    /// The number of feasible words of a light. Returns `NoLight` if no light has this name.
+    fn word_count(&self, name: LightName) -> Result<usize, Refusal>
+        ensures { result ≡ count_answer (state self.now) (answers self.now) name }
+    {
+        match self.lights().index(name) {
+            None => Err(Refusal::NoLight),
+            Some(light) => Ok(self.word_count_at(light)),
+        }
+    }
+
+    /// The first feasible word of a light whose index is at least `from`; the entered word of a
+    /// filled light has index 0. Returns `NoLight` if no light has this name.
+    fn next_word(&self, name: LightName, from: usize) -> Result<Option<Found>, Refusal>
+        ensures { result ≡ next_answer (state self.now) (answers self.now) name from }
+    {
+        match self.lights().index(name) {
+            None => Err(Refusal::NoLight),
+            Some(light) => Ok(self.next_word_at(light, from)),
+        }
+    }
+
+    /// The feasible letters of a cell. Returns `OutOfGrid`, then `OnBlock` if the cell is a block.
+    fn letters(&self, cell: Cell) -> Result<LetterSet, Refusal>
+        ensures { AreLetters (state self.now) (answers self.now) cell result }
+    {
+        let grid = self.grid();
+        match grid.index(cell) {
+            None => Err(Refusal::Grid(GridFault::OutOfGrid)),
+            Some(_) if grid.is_block(cell) => Err(Refusal::Grid(GridFault::OnBlock)),
+            Some(index) => Ok(self.letters_at(index)),
         }
     }
 
@@ -112,7 +140,7 @@ pub trait Feasible: Drop {
         ensures { after (state self.old) (known_placed (state self.old) light index) ≡ Ok (state self.new) }
     {
         self.grid().well_formed();
-        known_distinct(self.bank());
+        let _ = self.bank().known(0);
         let light = self.lights().at(light);
         let len = light.size as usize;
         let mut bytes = [0; LONGEST];

@@ -2,10 +2,8 @@
 //! of the engines that compute them.
 #![tactic(auto)]
 
-pub mod arrays;
 pub mod board;
 pub mod changed;
-pub mod dictionary;
 pub mod edit;
 pub mod feasible;
 pub mod laws;

@@ -2,18 +2,17 @@
 //! room for what is pending, it is made, which cannot fail.
 ghost use Rattle.std.specs.Prelude.{◌≡◌, ◌<◌, length, true, IfOk, IfErr, OnOk, OnErr, IsOk, IsOkUnless, Ok, Err};
 ghost use Rattle.xw_words.specs.Bank.{has_room};
-ghost use Rattle.xw_words.specs.Dictionary.{IsDictionary, add_answer, strike_answer};
+ghost use Rattle.xw_words.specs.Dictionary.{IsDictionary, IsNew, add_answer, strike_answer};
 ghost use Rattle.xw_grid.specs.Edit.{set_symmetry as symmetry_set};
 ghost use Rattle.xw_grid.specs.EditLaws.{SameShape};
 ghost use Rattle.xw_grid.specs.Grid.{IsGrid};
 ghost use Rattle.xw_grid.specs.Light.{lights_of};
 ghost use Rattle.xw_feas.specs.Pending.{in_place_action, shape_action, IsInPlace, IsJudged};
-ghost use Rattle.xw_feas.specs.Shape.{SameCounts, GrowsAt};
+ghost use Rattle.xw_feas.specs.Shape.{SameCounts, GrowsAt, IsReturned, IsAddRefused};
 ghost use Rattle.xw_feas.specs.Single.{IsWellFormed-prop};
-ghost use Rattle.xw_feas.specs.State.{Action, after, grid_after, action_of, entry_action, symmetry_chosen, word_added, word_struck, list_written, known_count, known_placed};
+ghost use Rattle.xw_feas.specs.State.{Action, after, grid_after, action_of, add_word, entry_action, symmetry_chosen, word_added, word_struck, list_written, known_count, known_placed};
 ghost use Rattle.xw_feas.specs.WellFormed.{IsWellFormed};
 
-use crate::dictionary::{add_in, known_distinct, limit_in, return_in, strike_in};
 use crate::edit::{Edit, EntryEdit, Refusal};
 use crate::pending::{InPlace, Pending, ShapeEdit};
 use crate::place::{judge_place, place, place_known};
@@ -49,7 +48,7 @@ impl Position {
     {
         let lights = Lights::of(alloc, &grid)?;
         grid.well_formed();
-        known_distinct(&bank);
+        let _ = bank.known(0);
         Ok(Position { grid, lights, bank })
     }
 
@@ -310,7 +309,7 @@ fn make(grid: &mut Grid, lights: &Lights, bank: &mut Bank, edit: &InPlace<'_>)
 {
     change(grid, lights, bank, edit);
     grid.well_formed();
-    known_distinct(bank);
+    let _ = bank.known(0);
 }
 
 fn change(grid: &mut Grid, lights: &Lights, bank: &mut Bank, edit: &InPlace<'_>)
@@ -334,8 +333,35 @@ fn change(grid: &mut Grid, lights: &Lights, bank: &mut Bank, edit: &InPlace<'_>)
             let _ = return_in(bank, word, *grade);
         }
         InPlace::Strike(word, _) => {
-            let _ = strike_in(bank, word);
+            let _ = bank.strike(word);
         }
-        InPlace::Least(grade) => limit_in(bank, *grade),
+        InPlace::Least(grade) => bank.set_least(*grade),
     }
+}
+
+/// Makes a word active again. The word must be known and not active. Its grade is as `Bank::add` says.
+fn return_in(bank: &mut Bank, word: &[u8], grade: Option<u8>) -> Result<(), WordFault>
+    requires { IsReturned (add_answer bank.old.words word.now) }
+    ensures ok { OnOk result (add_word bank.old.words word.now grade ≡ Ok bank.new.words) }
+    ensures refused { IfErr result (λ fault. IsAddRefused bank.old.words word.now grade fault) }
+    ensures counts { SameCounts bank.old.words bank.new.words }
+    ensures same { OnErr result (bank.new.words ≡ bank.old.words) }
+{
+    bank.add(word, grade)?;
+    Ok(())
+}
+
+/// Adds a word that is not known, in reserved room. Its grade is as `Bank::add` says.
+fn add_in(bank: &mut Bank, word: &[u8], grade: Option<u8>)
+    requires new { IsNew (add_answer bank.old.words word.now) }
+    requires room { has_room bank.old (length word.now) ≡ true }
+    ensures words { add_word bank.old.words word.now grade ≡ Ok bank.new.words }
+    ensures counts { GrowsAt bank.old.words bank.new.words (length word.now) }
+    ensures distinct { IsDictionary bank.new.words }
+{
+    let _ = bank.known(word.len());
+    let mut letters = [Letter::first(); LONGEST];
+    spell(&mut letters, word);
+    let _ = bank.add_reserved(&letters[..word.len()], grade);
+    let _ = bank.known(0);
 }

@@ -11,7 +11,6 @@ ghost use Rattle.xw_fill.specs.Inner.Tries.{taken_back, AreBlanks, CanBeMade, Is
 use crate::placement::Placement;
 use crate::scan::{board, light_at};
 use xw_feas::board::{Board, Cells};
-use xw_feas::dictionary::known_distinct;
 use xw_feas::edit::{Edit, EntryEdit};
 use xw_feas::feasible::Feasible;
 use xw_feas::searchable::Searchable;
@@ -93,7 +92,7 @@ fn try_word<E: Searchable>(
     ensures dead { IfSome result (λ dead. (there : State) × IsWordPlaced light index (E.state engine.old) there × IsDead (flags watched.now) there dead) }
 {
     engine.grid().well_formed();
-    known_distinct(engine.bank());
+    let _ = engine.bank().known(0);
     let found = light_at(engine, light);
     let len = found.size as usize;
     let mut bytes = [0; LONGEST];

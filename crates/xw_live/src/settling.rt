@@ -13,7 +13,6 @@ ghost use Rattle.xw_live.specs.Idle.{IsIdle};
 ghost use Rattle.xw_net.specs.Net.{StandsFor, IsSettledFor, IsAlike, known_counts, sets_of};
 ghost use Rattle.xw_net.specs.Room.{HasRoom};
 
-use xw_feas::dictionary::known_distinct;
 use xw_feas::edit::{EntryEdit, Refusal};
 use xw_feas::position::Position;
 use xw_grid::grid::Grid;
@@ -40,7 +39,7 @@ pub fn settle(net: &mut Net, spent: u64, change: &Change<'_>, position: &Positio
         ∥ IsSettledFor before net.old ∥₁ →
         RoseWithinCost before (record { grid = position.now.grid; words = position.now.bank.words }) action spent result }
 {
-    known_distinct(&position.bank);
+    let _ = position.bank.known(0);
     let mut rows = Counted::new(&position.bank, spent);
     net.settle(&mut rows, change, &position.grid, &position.lights);
     rows.spent()
@@ -70,7 +69,7 @@ pub fn try_settle(
     ensures within { IfSome result.0 (λ light. light < length position.now.lights) }
     ensures watched { IfSome result.0 (λ light. slice_index_or watched.now light false ≡ true) }
 {
-    known_distinct(&position.bank);
+    let _ = position.bank.known(0);
     let mut reads = Counted::new(&position.bank, spent);
     let trial = Trial {
         watched,

@@ -3,7 +3,6 @@ ghost use Rattle.std.specs.Prelude.{◌≡◌, ℕ, ◌<◌, false, length, slic
 ghost use Rattle.xw_feas.specs.State.{least_chosen};
 ghost use Rattle.xw_net.specs.Region.{turns_words};
 
-use xw_feas::dictionary::known_distinct;
 use xw_words::bank::Bank;
 
 /// The number of lengths: from 0 to 255.
@@ -13,7 +12,7 @@ const LENGTHS: usize = 256;
 pub fn turned_lengths(bank: &Bank, grade: u8) -> [bool; LENGTHS]
     ensures { (len : ℕ) → slice_index_or result len false ≡ turns_words bank.now.words (least_chosen grade) len }
 {
-    known_distinct(bank);
+    let _ = bank.known(0);
     let mut turned = [false; LENGTHS];
     for len in 0..LENGTHS {
         turned[len] = bank.turns(len, grade);

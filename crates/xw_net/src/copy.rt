@@ -7,7 +7,6 @@ use crate::sparse::copy_row;
 use std::alloc::{AllocError, Global};
 use xw_bits::bit_row::BitRow;
 use xw_feas::board::{Board, Cells};
-use xw_feas::dictionary::known_distinct;
 use xw_grid::grid::Grid;
 use xw_grid::lights::Lights;
 use xw_words::bank::Bank;
@@ -169,7 +168,7 @@ impl Net {
     {
         let mut net = Net::blank(alloc, grid, lights, bank)?;
         grid.well_formed();
-        known_distinct(bank);
+        let _ = bank.known(0);
         net.copy_arrays(self, grid, grid, lights, false);
         Ok(net)
     }

@@ -10,7 +10,6 @@ use crate::net::Net;
 use crate::seeds::mark_all;
 use std::alloc::Global;
 use xw_feas::board::{Board, allowed};
-use xw_feas::dictionary::known_distinct;
 use xw_feas::edit::Refusal;
 use xw_grid::fault::GridFault;
 use xw_grid::grid::Grid;
@@ -88,7 +87,7 @@ impl Net {
     {
         let mut net = Net::blank(alloc, grid, lights, bank)?;
         grid.well_formed();
-        known_distinct(bank);
+        let _ = bank.known(0);
         let mut rows = Counted::new(bank, 0);
         net.fill(&mut rows, &Board::new(grid, lights));
         Ok(net)

@@ -1,5 +1,5 @@
 //! An engine that computes all answers from scratch after each edit.
-ghost use Rattle.std.specs.Prelude.{◌≡◌, ◌<◌, length, IfOk, IfErr, OnErr, IsOkUnless, OnOk, Ok, Err, IsOk};
+ghost use Rattle.std.specs.Prelude.{◌≡◌, length, IfOk, IfErr, OnErr, IsOkUnless, OnOk, Ok, Err, IsOk};
 ghost use Rattle.xw_words.specs.Dictionary.{add_answer};
 ghost use Rattle.xw_grid.specs.EditLaws.{SameShape};
 ghost use Rattle.xw_grid.specs.Light.{lights_of};
@@ -11,7 +11,6 @@ ghost use Rattle.xw_feas.specs.Choices.{IsExact};
 ghost use Rattle.xw_feas.specs.Feasible.{AreAnswers};
 ghost use Rattle.xw_feas.specs.Flags.{flag_at, set_has};
 ghost use Rattle.xw_feas.specs.Pending.{in_place_action, shape_action, IsInPlace};
-ghost use Rattle.xw_feas.specs.Queries.{next_found, words_of};
 ghost use Rattle.xw_feas.specs.Single.{IsExact-prop};
 ghost use Rattle.xw_feas.specs.Standing.{HasRows};
 ghost use Rattle.xw_feas.specs.State.{action_of, grid_after, word_added};
@@ -21,14 +20,12 @@ use crate::flags::Flags;
 use crate::rows::{make_grid_rows, make_grown_rows};
 use crate::standing::settle;
 use std::alloc::Global;
-use xw_feas::arrays::make_grid_sets;
 use xw_feas::board::{Board, has_all_entries};
-use xw_feas::changed::Changed;
+use xw_feas::changed::{Changed, make_grid_sets};
 use xw_feas::edit::{Edit, Found, Refusal};
 use xw_feas::feasible::Feasible;
 use xw_feas::pending::{InPlace, Pending, ShapeEdit};
 use xw_feas::position::Position;
-use xw_grid::cell::{Cell, LightName};
 use xw_grid::fault::GridFault;
 use xw_grid::grid::Grid;
 use xw_grid::lights::Lights;
@@ -246,38 +243,6 @@ impl Plain {
         self.position.exchange(grid);
         settle_position(&self.position, &mut self.words, &mut self.letters);
     }
-
-    /// The number of feasible words of a light.
-    fn count_at(&self, light: usize) -> usize
-        requires { light < length (lights_of self.now.position.grid) }
-        ensures { result ≡ length (words_of (answers_of (board_of self.now.position.grid) self.now.position.bank.words self.now.words.items self.now.letters.items) light) }
-    {
-        let row = &self.words[light];
-        row.count()
-    }
-
-    /// The first feasible word of a light whose index is at least `from`.
-    fn next_at(&self, light: usize, from: usize) -> Option<Found>
-        requires { light < length (lights_of self.now.position.grid) }
-        ensures { result ≡ next_found (board_of self.now.position.grid) self.now.position.bank.words (answers_of (board_of self.now.position.grid) self.now.position.bank.words self.now.words.items self.now.letters.items) light from }
-    {
-        let board = Board::new(&self.position.grid, &self.position.lights);
-        let cells = board.light(light);
-        let row = &self.words[light];
-        let known = self.position.bank.known(cells.len());
-        if has_all_entries(&board, &cells) {
-            if from == 0 && row.at(known) {
-                return Some(Found::Entered);
-            }
-            return None;
-        }
-        for index in from..known {
-            if row.at(index) {
-                return Some(Found::Listed(index));
-            }
-        }
-        None
-    }
 }
 
 impl Feasible for Plain {
@@ -303,37 +268,35 @@ impl Feasible for Plain {
         Ok(())
     }
 
-    fn grid(&self) -> &Grid {
-        &self.position.grid
+    fn position(&self) -> &Position {
+        &self.position
     }
 
-    fn bank(&self) -> &Bank {
-        &self.position.bank
+    fn word_count_at(&self, light: usize) -> usize {
+        let row = &self.words[light];
+        row.count()
     }
 
-    fn lights(&self) -> &Lights {
-        &self.position.lights
-    }
-
-    fn word_count(&self, name: LightName) -> Result<usize, Refusal> {
-        let light = self.position.lights.index(name).ok_or(Refusal::NoLight)?;
-        Ok(self.count_at(light))
-    }
-
-    fn next_word(&self, name: LightName, from: usize) -> Result<Option<Found>, Refusal> {
-        let light = self.position.lights.index(name).ok_or(Refusal::NoLight)?;
-        Ok(self.next_at(light, from))
-    }
-
-    fn letters(&self, cell: Cell) -> Result<LetterSet, Refusal> {
-        match self.position.grid.index(cell) {
-            None => Err(Refusal::Grid(GridFault::OutOfGrid)),
-            Some(index) => {
-                if self.position.grid.is_block(cell) {
-                    return Err(Refusal::Grid(GridFault::OnBlock));
-                }
-                Ok(self.letters[index])
+    fn next_word_at(&self, light: usize, from: usize) -> Option<Found> {
+        let board = Board::new(&self.position.grid, &self.position.lights);
+        let cells = board.light(light);
+        let row = &self.words[light];
+        let known = self.position.bank.known(cells.len());
+        if has_all_entries(&board, &cells) {
+            if from == 0 && row.at(known) {
+                return Some(Found::Entered);
+            }
+            return None;
+        }
+        for index in from..known {
+            if row.at(index) {
+                return Some(Found::Listed(index));
             }
         }
+        None
+    }
+
+    fn letters_at(&self, index: usize) -> LetterSet {
+        self.letters[index]
     }
 }

@@ -7,8 +7,8 @@ use Rattle.xw_feas.specs.Known.{spellings}
 use Rattle.xw_feas.specs.Flags.{flag_at}
 use Rattle.xw_feas.specs.AnswersOf.{answers_of}
 use Rattle.xw_feas.proofs.QueryLemmas.{entered_is, listed_is, next-entered, next-none_entered, next-listed, next-none_listed}
-use Rattle.xw_plain.proofs.plain.Plain.next_at.Goals as goal
-use Rattle.xw_plain.proofs.plain.Plain.next_at.Goals.{else-from-eq0-via-then-from-eq0+else-at, else-from-eq0-via-else-from-eq0}
+use Rattle.xw_plain.proofs.plain.PlainFeasible.next_word_at.Goals as goal
+use Rattle.xw_plain.proofs.plain.PlainFeasible.next_word_at.Goals.{else-from-eq0-via-then-from-eq0+else-at, else-from-eq0-via-else-from-eq0}
 
 pub returns-then-at : goal.returns-then-at
 returns-then-at c =

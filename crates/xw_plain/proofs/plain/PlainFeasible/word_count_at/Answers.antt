@@ -4,7 +4,7 @@ use Rattle.xw_feas.specs.Flags.{standing_count}
 use Rattle.xw_feas.specs.Board.{board_of}
 use Rattle.xw_feas.proofs.BoardLemmas.{length-lights}
 use Rattle.xw_feas.proofs.QueryLemmas.{count_is}
-use Rattle.xw_plain.proofs.plain.Plain.count_at.Goals as goal
+use Rattle.xw_plain.proofs.plain.PlainFeasible.word_count_at.Goals as goal
 
 pub returns : goal.returns
 returns c =
