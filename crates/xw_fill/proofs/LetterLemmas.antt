@@ -1,61 +1,25 @@
 -- Lemmas on the letters of a cell, and on the cell to fill next.
-use Rattle.std.proofs.Common.{◌≡◌, ℕ, ◌+◌, ◌-◌, ◌<◌, true, false, not, cond, ◌==◌, Option, Some, None, refl, sym, ◌∙◌, ap, subst, arith, IfSome, IfNone, is_some}
-use Rattle.std.specs.Prelude.{Result, Ok, Err}
+use Rattle.std.proofs.Common.{◌≡◌, ℕ, ◌+◌, ◌-◌, ◌<◌, true, false, ◌==◌, Option, Some, None, refl, sym, ◌∙◌, ap, subst, arith, IfSome, IfNone, is_some}
 use Rattle.std.specs.List.{list_any}
-use Rattle.std.proofs.lemmas.Bool.{and_parts, false≢true, true≢false}
+use Rattle.std.proofs.lemmas.Bool.{and_parts, true≢false}
 use Rattle.xw_letters.specs.Letter.{is_capital}
 use Rattle.xw_letters.specs.LetterSet.{has, letters_in}
 use Rattle.xw_letters.proofs.LetterSetLemmas.{capital_is_letter, one_of_letters}
-use Rattle.xw_grid.specs.declared.cell.Cell.{Cell}
-use Rattle.xw_grid.specs.declared.cell.Square.{Square}
-use Rattle.xw_grid.specs.declared.cell.Square.TheVariants.{Block, Open}
-use Rattle.xw_grid.specs.Grid.{Grid, IsGrid, is_block, is_block_square, is_open, is_open_square, square_at, cell_at, index_of}
-use Rattle.xw_grid.proofs.GridLemmas.{index_of-cell_at}
-use Rattle.xw_grid.proofs.LightLemmas.{inside_from_open}
-use Rattle.xw_feas.specs.declared.edit.Refusal.{Refusal}
-use Rattle.xw_feas.specs.declared.edit.Refusal.TheVariants as refusals
-use Rattle.xw_grid.specs.declared.fault.GridFault.TheVariants as grids
-use Rattle.xw_feas.specs.Board.{board_of, is_open as is_open_at}
+use Rattle.xw_feas.specs.Board.{board_of}
 use Rattle.xw_feas.specs.Changes.{letters_of}
 use Rattle.xw_feas.specs.Feasible.{Answers, AreAnswers}
-use Rattle.xw_feas.specs.Queries.{AreLetters, cell_judged}
 use Rattle.xw_feas.specs.State.{State}
-use Rattle.xw_feas.proofs.ChangesLemmas.{open_index}
 use Rattle.xw_fill.specs.Position.{position_of}
 use Rattle.xw_fill.specs.FeasibleLetters.{is_feasible_letter}
 use Rattle.xw_fill.proofs.FeasibleLettersLemmas.{answers_letter-is}
-use Rattle.xw_fill.proofs.Entering.{open_within}
 
 -- ---- the feasible letters of a cell
 
-no_block : (grid : Grid) (cell : Cell) → is_open grid cell ≡ true → is_block grid cell ≡ false
-no_block grid cell h = split (square_at grid cell) h where
-  split : (o : Option Square) → is_open_square o ≡ true → is_block_square o ≡ false
-  split None e = absurd (false≢true e)
-  split (Some Block) e = absurd (false≢true e)
-  split (Some (Open letter)) e = refl
-
--- an open cell has an answer
-open_judged : {X : Type 0} (grid : Grid) (cell : ℕ) (spot : Cell) (good : X) → IsGrid grid → is_open_at (board_of grid) cell ≡ true → spot ≡ cell_at grid cell → cell_judged grid spot good ≡ Ok good
-open_judged {X} grid cell spot good is opens spot_is =
-    let within = open_within grid cell is opens in
-    let open_cell : is_open grid spot ≡ true = ap (is_open grid) spot_is ∙ open_index grid cell is within ∙ opens in
-    ap (λ b. cond {A = Result X Refusal} (not b) (Err (refusals.Grid grids.OutOfGrid)) (cond {A = Result X Refusal} (is_block grid spot) (Err (refusals.Grid grids.OnBlock)) (Ok good))) (inside_from_open grid spot open_cell)
-    ∙ ap (λ b. cond {A = Result X Refusal} b (Err (refusals.Grid grids.OnBlock)) (Ok good)) (no_block grid spot open_cell)
-
-pub letters_refused : (state : State) (answers : Answers) (cell : ℕ) (spot : Cell) (refusal : Refusal) → IsGrid state.grid → is_open_at (board_of state.grid) cell ≡ true → spot ≡ cell_at state.grid cell → AreLetters state answers spot (Err refusal) → ⊥
-letters_refused state answers cell spot refusal is opens spot_is refused =
-    let both = sym (open_judged state.grid cell spot (letters_of answers (index_of state.grid spot)) is opens spot_is) ∙ refused in
-    cc
-
-pub letters_are : (state : State) (answers : Answers) (cell : ℕ) (spot : Cell) (set : ℕ) → AreAnswers (board_of state.grid) state.words answers → IsGrid state.grid → is_open_at (board_of state.grid) cell ≡ true → spot ≡ cell_at state.grid cell → AreLetters state answers spot (Ok set)
+pub letters_are : (state : State) (answers : Answers) (cell set : ℕ) → AreAnswers (board_of state.grid) state.words answers → letters_of answers cell ≡ letters_in set
     → (letter : ℕ) → has set letter ≡ is_feasible_letter (position_of state) cell letter
-letters_are state answers cell spot set exact is opens spot_is found letter =
-    let both = sym (open_judged state.grid cell spot (letters_of answers (index_of state.grid spot)) is opens spot_is) ∙ found in
-    let same : letters_of answers (index_of state.grid spot) ≡ letters_in set = cc in
-    let index : index_of state.grid spot ≡ cell = ap (index_of state.grid) spot_is ∙ index_of-cell_at state.grid cell in
+letters_are state answers cell set exact same letter =
     sym (one_of_letters set letter)
-    ∙ ap (list_any (λ other. letter == other)) (sym same ∙ ap (letters_of answers) index)
+    ∙ ap (list_any (λ other. letter == other)) (sym same)
     ∙ answers_letter-is (position_of state) answers exact cell letter
 
 -- ---- letters by their index in the alphabet

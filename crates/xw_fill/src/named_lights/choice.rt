@@ -20,10 +20,7 @@ pub fn letters_at<E: Feasible>(engine: &E, cell: usize) -> LetterSet
     requires { is_open (board_of (E.state engine.now).grid) cell ≡ true }
     ensures { (letter : ℕ) → has result letter ≡ is_feasible_letter (E.state engine.now) cell letter }
 {
-    match engine.letters(engine.grid().cell_at(cell)) {
-        Ok(letters) => letters,
-        Err(_) => unreachable!(),
-    }
+    engine.letters_at(cell)
 }
 
 /// Whether a letter is the only feasible one of an open cell.
