@@ -35,6 +35,7 @@ pub mod GradeLemmas
 pub mod ClimbLemmas
 pub mod WritingLemmas
 pub mod EntryLemmas
+pub mod CandidateLemmas
 pub mod ReasonLemmas
 pub mod ReasonExists
 mod ReasonExamples

@@ -6,4 +6,5 @@ pub mod Stack
 pub mod Stepping
 pub mod Progress
 pub mod Climbing
+pub mod Candidate
 pub mod OfState

@@ -1,4 +1,5 @@
 //! Searches for the best fill of the named lights: the one whose worst new word has the greatest grade.
+mod candidate;
 mod climb;
 mod course;
 mod grades;

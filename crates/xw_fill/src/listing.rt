@@ -83,7 +83,7 @@ fn is_listed<E: Feasible>(engine: &E, light: usize) -> bool
 }
 
 /// Returns whether a light is wholly entered and its word is not active.
-fn is_unlisted<E: Feasible>(engine: &E, light: usize) -> bool
+pub(crate) fn is_unlisted<E: Feasible>(engine: &E, light: usize) -> bool
     requires { light < light_count (E.state engine.now) }
     ensures { result ≡ is_unlisted (E.state engine.now) light }
 {

@@ -1,5 +1,5 @@
 //! Why a light has no feasible word: a set of entries that leaves it none, and that is minimal.
-mod entries;
+pub(crate) mod entries;
 mod order;
 mod sparing;
 

@@ -9,6 +9,7 @@ ghost use Rattle.xw_fill.specs.Best.{IsBound};
 ghost use Rattle.xw_fill.specs.Inner.Climbing.{DiffersInLeast, IsDeadAt, AreAliveAt, AreActiveAt, IsProber, IsProbed};
 
 use crate::allowance::Allowance;
+use crate::best::candidate::enter;
 use crate::best::grades::{NO_BOUND, choose_least, first_deadly, fresh_lights, worst_grade};
 use crate::named_lights::frame::Frame;
 use crate::named_lights::plan::Plan;
@@ -19,6 +20,7 @@ use crate::stack::Stack;
 use std::alloc::{AllocError, Global};
 use xw_feas::feasible::Feasible;
 use xw_feas::searchable::Searchable;
+use xw_letters::letter::Letter;
 
 /// What a search with the words of a grade and better found.
 /// - `Filled`: the grid holds a fill, and this is the greatest grade at which it is one.
@@ -128,5 +130,31 @@ impl<E: Searchable> Prober<E> {
         };
         choose_least(engine, self.least);
         probe
+    }
+
+    /// Looks whether some entries of the cells to fill are a fill. Answers `Filled` if they are, and `Limit` if not.
+    pub fn try_known(
+        &mut self,
+        alloc: Global,
+        engine: &mut E,
+        entries: &[Option<Letter>],
+    ) -> Result<Probe, AllocError>
+        requires prober { IsProber E.saved self.old (E.state engine.old) }
+        ensures prober { IsProber E.saved self.new (E.state engine.old) }
+        ensures plan { self.new.plan ≡ self.old.plan }
+        ensures least { self.new.least ≡ self.old.least }
+        ensures ok { IfOk result (IsProbed (flags self.old.plan.named.items) (E.state engine.old) self.old.least (E.state engine.new)) }
+        ensures unchanged { OnErr result (E.state engine.new ≡ E.state engine.old) }
+    {
+        let plan = &self.plan;
+        let fresh = self.fresh.as_slice();
+        let is_fill = enter(alloc, engine, &mut self.stack, plan, fresh, entries)?;
+        if !is_fill {
+            return Ok(Probe::Limit);
+        }
+        let watched = self.plan.watched.as_slice();
+        let grade = greatest_grade(engine, watched, fresh, self.least);
+        choose_least(engine, self.least);
+        Ok(Probe::Filled(grade))
     }
 }
