@@ -37,7 +37,8 @@ pub enum Best {
 }
 
 /// The hint that a search leaves. The next search continues from it if it has the same seed and lights and begins with
-/// the same entries. A hint decides only at which grades and in which order a search tries letters.
+/// the same entries. A hint decides only which fill a search tries first, and at which grades and in which order it tries
+/// letters.
 #[derive(Drop)]
 pub struct BestHint {
     names: Vec<LightName>,
@@ -127,7 +128,9 @@ fn best_flagged<E: Searchable>(
     let plan = Plan::of(alloc, engine, named)?;
     let mut climb = Climb::new(alloc, engine, plan)?;
     climb.run(alloc, engine, course, allowance)?;
-    Ok(climb.finish(engine))
+    let best = climb.finish(engine);
+    course.note(engine, best);
+    Ok(best)
 }
 
 /// Finds the best fill of the named lights.
@@ -171,7 +174,8 @@ fn hint_of<'a, E: Feasible>(
 /// fill is better. A search without any placement still finds a bound.
 ///
 /// A search leaves a hint, unless there is no fill. The next search with the same names and seed continues from it if
-/// it begins with the same entries, but proves its bound anew. So a search can continue after a fill once the letters
+/// it begins with the same entries, but proves its bound anew. It tries the best fill of the earlier ones first, as one
+/// placement, and takes it over only if it is one. So a search can continue after a fill once the letters
 /// of the fill are removed. The least grade may change in between. Pass `None`, or the hint of a search over the same
 /// words and lights: the answer depends on the state, the names, the allowance, the seed and the hint alone. An error
 /// leaves the hint as it was.

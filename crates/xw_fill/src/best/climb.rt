@@ -14,6 +14,7 @@ use crate::named_lights::plan::Plan;
 use crate::named_lights::run::Effort;
 use std::alloc::{AllocError, Global};
 use xw_feas::searchable::Searchable;
+use xw_letters::letter::Letter;
 
 /// A search for the best fill.
 /// - `start`, `best`: the state where it began, and the best fill that was found.
@@ -153,13 +154,43 @@ impl<E: Searchable> Climb<E> {
         Ok(())
     }
 
-    /// Decides all grades if no cell is to be filled, which needs no placement: the first search finds the greatest grade
-    /// of what stands there, and the second one that there is nothing else.
+    /// Tries the entries of a fill that is known, as one placement, if a placement is left.
+    fn try_known(
+        &mut self,
+        alloc: Global,
+        engine: &mut E,
+        entries: &[Option<Letter>],
+        allowance: &mut Allowance,
+    ) -> Result<(), AllocError>
+        requires climbing { IsClimbing E.saved self.old (E.state engine.old) }
+        ensures climbing { IsClimbing E.saved self.new (E.state engine.new) }
+        ensures unchanged { E.state engine.new ≡ E.state engine.old }
+        ensures climbed { HasClimbed E.saved self.old self.new allowance.old allowance.new }
+    {
+        if entries.is_empty() || allowance.left() == 0 {
+            return Ok(());
+        }
+        if self.found.is_some() {
+            return Ok(());
+        }
+        allowance.grant(1);
+        allowance.count();
+        let probe = self.prober.try_known(alloc, engine, entries)?;
+        match probe {
+            Probe::Filled(least) => self.keep(engine, least),
+            Probe::NoFill => (),
+            Probe::Limit => (),
+        }
+        Ok(())
+    }
+
+    /// Tries the fill that is known. If no cell is to be filled, it decides all grades, which needs no placement: the first
+    /// search finds the greatest grade of what stands there, and the second one that there is nothing else.
     fn begin(
         &mut self,
         alloc: Global,
         engine: &mut E,
-        effort: &mut Effort,
+        course: &mut Course,
         allowance: &mut Allowance,
     ) -> Result<(), AllocError>
         requires climbing { IsClimbing E.saved self.old (E.state engine.old) }
@@ -168,10 +199,10 @@ impl<E: Searchable> Climb<E> {
         ensures climbed { HasClimbed E.saved self.old self.new allowance.old allowance.new }
     {
         if !self.prober.plan.targets.is_empty() {
-            return Ok(());
+            return self.try_known(alloc, engine, &course.fill, allowance);
         }
-        self.try_next(alloc, engine, effort, allowance)?;
-        self.try_next(alloc, engine, effort, allowance)
+        self.try_next(alloc, engine, course.effort(), allowance)?;
+        self.try_next(alloc, engine, course.effort(), allowance)
     }
 
     /// Searches until no fill can be better than the best one that was found, or no placement is left.
@@ -188,7 +219,7 @@ impl<E: Searchable> Climb<E> {
         ensures climbed { HasClimbed E.saved self.old self.new allowance.old allowance.new }
         ensures ended { OnOk result ((allowance.new.made ≡ allowance.new.limit) ⊎ (self.new.bound ≤ next_grade self.new)) }
     {
-        self.begin(alloc, engine, course.effort(), allowance)?;
+        self.begin(alloc, engine, course, allowance)?;
         while allowance.left() > 0 && self.next_grade() < self.bound {
             self.advance(alloc, engine, course, allowance)?;
         }

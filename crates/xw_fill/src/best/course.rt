@@ -1,13 +1,21 @@
 //! What a search for the best fill learns from grade to grade.
+use crate::best::Best;
 use crate::best::pace::{Direction, Pace};
 use crate::named_lights::run::Effort;
+use crate::scan::board;
 use std::alloc::{AllocError, Global};
+use xw_feas::feasible::Feasible;
+use xw_letters::letter::Letter;
 
-/// The pace of a search, and what it learned of the lights: other lights fail when it looks for fills than when it looks
-/// for bounds. The first effort is that of fills, the second one that of bounds.
+/// The pace of a search, and what it learned.
+/// - `efforts`: what it learned of the lights: other lights fail when it looks for fills, which is the first one, than
+///   when it looks for bounds.
+/// - `fill`: the entry of each cell in the best fill that an earlier search found; empty if none did. Nothing is promised
+///   of them, so a search checks them.
 #[derive(Drop)]
 pub struct Course {
     pub pace: Pace,
+    pub fill: Vec<Option<Letter>>,
     efforts: [Effort; 2],
 }
 
@@ -23,6 +31,7 @@ impl Course {
         let down = Effort::new(alloc, lights, seed, graded)?;
         Ok(Course {
             pace: Pace::new(),
+            fill: Vec::new(alloc),
             efforts: [up, down],
         })
     }
@@ -30,6 +39,19 @@ impl Course {
     /// The seed of the search.
     pub fn seed(&self) -> u64 {
         self.efforts[0].seed
+    }
+
+    /// Keeps the entries of the grid if it holds the best fill that was found. Keeps none if an allocation fails.
+    pub fn note<E: Feasible>(&mut self, engine: &E, best: Best) {
+        if let Best::Filled { .. } = best {
+            self.fill.clear();
+            for cell in 0..board(engine).cell_count() {
+                if self.fill.push(board(engine).entry(cell)).is_err() {
+                    self.fill.clear();
+                    return;
+                }
+            }
+        }
     }
 
     /// The effort for the grade that is tried now. Upwards, a new grade begins with the cut of a first run; downwards each

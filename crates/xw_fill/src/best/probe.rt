@@ -153,8 +153,9 @@ impl<E: Searchable> Prober<E> {
             return Ok(Probe::Limit);
         }
         let watched = self.plan.watched.as_slice();
-        let grade = greatest_grade(engine, watched, fresh, self.least);
-        choose_least(engine, self.least);
+        let least = self.least;
+        let grade = greatest_grade(engine, watched, fresh, least);
+        choose_least(engine, least);
         Ok(Probe::Filled(grade))
     }
 }
