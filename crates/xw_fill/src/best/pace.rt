@@ -5,7 +5,7 @@ use crate::best::grades::NO_BOUND;
 use crate::best::probe::Probe;
 
 /// How many placements a grade gets first.
-const BUDGET: u64 = 1000;
+const BUDGET: u64 = 2000;
 
 /// How many grades the second step up goes. The first one goes halfway to the bound.
 const STEP: u8 = 8;
@@ -14,7 +14,7 @@ const STEP: u8 = 8;
 const LONGEST: u8 = 16;
 
 /// Of ten placements, those for the bound.
-const TENTHS_DOWN: u64 = 3;
+const TENTHS_DOWN: u64 = 2;
 
 /// With fewer placements for the last bound, the next step down goes three grades.
 const CHEAP: u64 = 200;
