@@ -224,7 +224,9 @@ size_t xw_version(void *out, size_t out_length);
 
 /*
  * The name of a status, as the program spells it, such as "NotFilled", or "Unknown" for a number that is no status of the library. It needs no
- * session. The string is constant, ends with a NUL, and stays as long as the library is loaded; the pointer is never null. Time: none to speak of.
+ * session. The string is constant, ends with a NUL, and stays as long as the library is loaded; the pointer is never null.
+ *
+ * Time: some nanoseconds.
  */
 const char *xw_status_name(uint32_t status);
 
