@@ -44,7 +44,7 @@ export class Editor extends EditorState {
     this.module = module;
     await this.engine.call('load', { bytes: module });
     await this.#open(list, record);
-    const words = adopted(this.board, new Map(written));
+    const words = adopted(this.board, new Map(written), this.record);
     this.change({ board: this.board, pencil: new Set(pencil), originals: new Map(originals), written: words, puzzle: puzzle ?? this.puzzle });
     this.#now = this.#state(this.record);
   }
@@ -235,7 +235,7 @@ export class Editor extends EditorState {
     else this.#takeLetters(lines, told);
     if (!isWhole) await this.#idle();
     const record = await this.engine.call('record');
-    const entries = standing(this.originals, this.board);
+    const entries = standing(this.originals, record);
     if (entries !== this.originals) this.hold({ originals: entries });
     this.hold({ record, ...(isWhole && { sym: parseRecord(record).sym }) });
     this.#adopt(withoutWords(this.written, rewritten));
@@ -279,7 +279,7 @@ export class Editor extends EditorState {
 
   // Gives clues that have no word yet those of their lights.
   #adopt(written) {
-    const now = adopted(this.board, written);
+    const now = adopted(this.board, written, this.record);
     if (now !== this.written) this.hold({ written: now });
   }
 

@@ -1,5 +1,7 @@
 // Cells with several letters. The engine has the first letter of each, which is locked; all its letters are kept beside the record, as the texts are
 // that a record cannot have, under a name of the cell.
+import { letterIn, lettersOf } from './record.js';
+
 const FIELD = 'cell ';
 
 export const cellField = (coordinates) => `${FIELD}${coordinates}`;
@@ -25,13 +27,16 @@ export function withoutEntered(originals, lines) {
   return entered.length ? new Map([...originals].filter(([field]) => !entered.some((cell) => field === cellField(cell)))) : null;
 }
 
-// The originals without cells that have another first letter on a board now; the same if there are none.
+// The originals without cells that have another first letter in a record; the same if there are none. Letters that the board shows ahead of the record
+// belong to later steps.
 /**
  * @param {ReadonlyMap<string, string>} originals
- * @param {import('./board.js').Board} board
+ * @param {string} record
  */
-export function standing(originals, board) {
-  const isGone = (field, entry) => isCellField(field) && !(entry.startsWith(board.at(field.slice(FIELD.length))?.letter || '-'));
+export function standing(originals, record) {
+  if (![...originals.keys()].some(isCellField)) return originals;
+  const letters = new Map(lettersOf(record).map(letterIn));
+  const isGone = (field, entry) => isCellField(field) && !entry.startsWith(letters.get(field.slice(FIELD.length)) ?? '-');
   const kept = [...originals].filter(([field, entry]) => !isGone(field, entry));
   return kept.length < originals.size ? new Map(kept) : originals;
 }

@@ -2,25 +2,31 @@
 // once another word stands there. One that leads to another clue, such as “See 1”, belongs to no word.
 
 import { isReference } from './links.js';
-import { unescapeText } from './record.js';
+import { letterIn, lettersOf, unescapeText } from './record.js';
 
 /** @typedef {import('./board.js').Board} Board */
 /** @typedef {import('./board.js').Light} Light */
 /** @typedef {ReadonlyMap<string, string>} Written the words, by the names that records have for clues */
 
-// The words of the clues as they are: a clue without one has that of its light, and one that is gone has none. The same map if nothing changes.
+// The words of the clues as they are: a clue without one has that of its light in a record, and one that is gone has none. The same map if nothing
+// changes. Letters that the board shows ahead of the record belong to later steps.
 /**
  * @param {Board} board
  * @param {Written} written
+ * @param {string} record
  * @returns {Written}
  */
-export function adopted(board, written) {
+export function adopted(board, written, record) {
   if (!written.size && !board.texts.size) return written;
   const now = new Map(written);
+  const letters = new Map(lettersOf(record).map(letterIn));
   for (const light of board.lights) {
     const field = board.clueField(light);
     if (!board.hasClue(light) || isReference(unescapeText(board.texts.get(`clue ${light.name}`)))) now.delete(field);
-    else if (!now.has(field) && board.isEntered(light)) now.set(field, board.spell(light));
+    else if (!now.has(field)) {
+      const word = light.cells.map((cell) => letters.get(board.cells[cell].coordinates) ?? '.').join('');
+      if (!word.includes('.')) now.set(field, word);
+    }
   }
   return isSameMap(now, written) ? written : now;
 }

@@ -100,12 +100,12 @@ export const raceOthers = (answer, cores) => browser.value(`(() => {
 export const raiseToTheEnd = () => browser.value('window.inTime ??= window.setTimeout, window.setTimeout = (action, time, ...more) => (time === 2000 ? 0 : window.inTime(action, time, ...more)), 0');
 export const raiseInTime = () => browser.value('window.setTimeout = window.inTime, 0');
 
-// Holds the slices of raisings back until `release` of the page is called, and takes their end by time away.
-export const holdRaising = () => raiseToTheEnd().then(() => browser.value(`(() => {
+// Holds calls of a name back until `release` of the page is called.
+export const hold = (name) => browser.value(`(() => {
   window.held = [];
   const post = Worker.prototype.postMessage;
   Worker.prototype.postMessage = function (message, transfer) {
-    if (window.held && message.call === 'best') window.held.push(() => post.call(this, message, transfer));
+    if (window.held && message.call === '${name}') window.held.push(() => post.call(this, message, transfer));
     else post.call(this, message, transfer);
   };
   window.release = () => {
@@ -113,5 +113,8 @@ export const holdRaising = () => raiseToTheEnd().then(() => browser.value(`(() =
     window.held = null;
     for (const action of held) action();
   };
-})()`));
+})()`);
+
+// Holds the slices of raisings back so, and takes their end by time away.
+export const holdRaising = () => raiseToTheEnd().then(() => hold('best'));
 export const isHeld = () => browser.until('window.held?.length > 0');

@@ -3,7 +3,7 @@ import { writeFileSync } from 'node:fs';
 import { join } from 'node:path';
 import { Xw } from '../../dist/xw.js';
 import { begin, menu, openFile, openRecord, print, saved } from '../doing.mjs';
-import { isDrafted } from '../holding.mjs';
+import { hold, isDrafted, isHeld } from '../holding.mjs';
 import { LIST, PAGE, browser, expect, module, page, picture, ready, reload, room, runAlone } from '../page.mjs';
 
 // A row of four cells with a word.
@@ -69,6 +69,25 @@ export const CASES = {
     await staleIs('');
     const other = (await saved('crossword.xw', () => menu('save-session'))).toString();
     expect(!other.includes('# written'), `the session is ${other}`);
+  },
+
+  async 'letters that come before a clue is recorded'() {
+    await openRecord(`${rowOf('BAAS')}# originals [["cell 1 4","SH"]]\n`);
+    await browser.until("document.querySelector('#cell-1-4.rebus .letter').textContent === 'SH'");
+    await browser.press('F3');
+    await browser.insert('Sheep sounds');
+    await hold('record');
+    await browser.press('Enter');
+    await isHeld();
+    // the grid shows them at once, and the clue was written before
+    await browser.click('#cell-1-1');
+    await browser.type('agar');
+    await browser.until("document.querySelector('#cell-1-4 .letter').textContent === 'R'");
+    await browser.value('window.release()');
+    await staleIs(WRITTEN);
+    // and the cell of two letters is there before the one that comes over it
+    await browser.press('Control+z');
+    await browser.until("document.querySelector('#cell-1-4.rebus .letter').textContent === 'SH'");
   },
 
   async 'a block that hides a clue'() {
