@@ -19,7 +19,7 @@ export class AllWords {
   // Promises the words, those of each length in the order of the lists.
   get() {
     const { list, record } = this.#editor;
-    const of = [list.name, list.words, list.personal, list.least, wordsOf(record)].join();
+    const of = [list.name, list.words, list.personal, list.least, list.threes, wordsOf(record)].join();
     if (of !== this.#of) this.#words = this.#ask();
     this.#of = of;
     return this.#words;

@@ -81,8 +81,8 @@ export class Editor extends EditorState {
   }
 
   async #open(list, record) {
-    const { sources, personal, least } = list;
-    const opened = await this.engine.call('open', { sources, personal, least, record });
+    const { sources, personal, least, threes } = list;
+    const opened = await this.engine.call('open', { sources, personal, least, threes, record });
     const { words, scored, best, byGrade, grade, leftOut, folded } = opened;
     this.hold({ list: { ...list, weak: list.weak ?? usualWeak(best), words, scored, best, byGrade, grade, leftOut, folded }, record: opened.record });
     this.#takeWhole(opened);
@@ -412,9 +412,10 @@ export class Editor extends EditorState {
     });
   }
 
-  // Marks words below another score.
-  markBelow(weak) {
-    this.change({ list: { ...this.list, weak }, board: this.board });
+  // Changes what of the lists is no matter of the engine: the score below which words are marked, and whether candidates and fills are apart.
+  /** @param {{ weak?: number, apart?: boolean }} changed */
+  changeList(changed) {
+    this.change({ list: { ...this.list, ...changed }, board: this.board });
   }
 
   // Chooses the least score of the words in use, which is no step of the history.

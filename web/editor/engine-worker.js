@@ -2,6 +2,7 @@
 import { Xw, load, toBytes, toText } from '../xw.js';
 import * as answers from './answers.js';
 import { MOST, UNSCORED, gradeOf } from './grades.js';
+import { closeNew } from './kin.js';
 import { letterIn, lettersOf, withoutLeast } from './record.js';
 import { crossingPatterns, gridFrom } from './themes.js';
 import { joinLists } from './word-list.js';
@@ -192,26 +193,57 @@ function orbit({ width, height, sym, coordinates }) {
 }
 
 // A slice of a search in a worker that helps: what it answers, and if there is a fill, the lines of its letters.
-function search({ line }) {
-  const { answer } = answers.outcomeOf(ask(line));
+function search({ line, cells = [], isApart = false }) {
+  const { answer } = apart(isApart, cells, () => answers.outcomeOf(ask(line)));
   return { answer, letters: answer === 'filled' ? lettersOf(recordNow()) : [] };
 }
 
-// Grids from so many seeds, in a worker that helps: those whose crossing lights have words one by one, and one that has not.
-function grids({ wanted, seed, tries }) {
+// words that searches struck in a worker that helps, which come back with the next record
+let struck = [];
+
+// Has a search of some cells go on, if that is wanted, until it finds a fill whose new words are close to no others: the one with the lower score of two is
+// struck. What is proved without these words is not told.
+function apart(isWanted, cells, find) {
+  for (let tries = 0; isWanted && tries < MOST_APART; tries++) {
+    const told = find();
+    const close = told.answer === 'filled' ? closeIn(cells) : [];
+    if (told.answer === 'filled' && close.length === 0) return { ...told, bound: struck.length ? null : told.bound };
+    if (told.answer !== 'filled') return struck.length ? { ...told, answer: 'limit', bound: null } : told;
+    for (const coordinates of cells) ask(`clear ${coordinates}`);
+    for (const word of close) ask(`strike ${word}`);
+    struck.push(...close);
+  }
+  return isWanted ? { answer: 'limit', bound: null } : find();
+}
+
+// The words of the grid that are new with some cells, and close to others.
+function closeIn(cells) {
+  const open = new Set(cells);
+  const isNew = (light) => answers.cellsOf(light).some(({ coordinates }) => open.has(coordinates));
+  const whole = asked(answers.lights()).filter(answers.isWhole);
+  return closeNew(whole.map((light) => ({ word: light.letters, isNew: isNew(light), score: scores.get(light.letters) ?? 0 })));
+}
+
+// Grids from so many seeds, in a worker that helps: those whose crossing lights have words one by one, each with how many of these lights have none of the
+// grade `weak`; and one that has a light without a word.
+function grids({ wanted, seed, tries, least, weak }) {
   const fits = new Map();
-  const isFit = (pattern) => {
-    if (!fits.has(pattern)) fits.set(pattern, asked(answers.match(pattern)).length > 0);
-    return fits.get(pattern);
+  const isFit = (grade) => (pattern) => {
+    const asking = `${grade} ${pattern}`;
+    if (!fits.has(asking)) fits.set(asking, asked(answers.match(pattern)).length > 0);
+    return fits.get(asking);
   };
   const made = Array.from({ length: tries }, (_, at) => gridFrom(wanted, seed + at)).filter(Boolean);
-  const fit = made.filter((grid) => crossingPatterns(grid).every(isFit));
-  return { fit, spare: made.find((grid) => !fit.includes(grid)) ?? null };
+  const fit = made.filter((grid) => crossingPatterns(grid).every(isFit(least)));
+  ask(`least ${weak}`);
+  const told = fit.map((grid) => ({ grid, weak: crossingPatterns(grid).filter((pattern) => !isFit(weak)(pattern)).length }));
+  ask(`least ${least}`);
+  return { fit: told, spare: made.find((grid) => !fit.includes(grid)) ?? null };
 }
 
 // What the words say of a grid, in a worker that helps: the patterns of its lights that no word matches, with the cells of these, the fewest words
-// of a light, whether searches of so many placements fill it, and the scores of the words of that fill.
-function judge({ lines, most }) {
+// of a light, whether searches of so many placements fill it with words of a grade, and the scores of the words of that fill.
+function judge({ lines, most, least, grade }) {
   for (const line of lines) ask(line);
   const numbers = counts();
   const lights = asked(answers.lights());
@@ -219,14 +251,29 @@ function judge({ lines, most }) {
   const unmatched = asked(answers.unmatched());
   const isDead = new Set(unmatched.map(({ name }) => name));
   const dead = lights.filter(({ name }) => isDead.has(name)).flatMap(answers.cellsOf).map(({ coordinates }) => coordinates);
-  let fill = fewest ? 'limit' : 'nofill';
-  for (let seed = 1; seed <= JUDGED_SEEDS && fill === 'limit'; seed++) fill = answers.outcomeOf(ask(`autofill ${most} ${seed}`)).answer;
+  const fill = fewest ? fillAt(grade, least, most) : 'nofill';
   const filled = fill === 'filled' && scores.size ? asked(answers.lights()).map(({ letters }) => scores.get(letters) ?? null) : [];
   return { unmatched: unmatched.map(({ pattern }) => pattern), dead, fewest, fill, scores: filled };
 }
 
+// Searches for a fill of words that have a grade, but for the best ones of lights that no such word matches; and returns how that ended.
+function fillAt(grade, least, most) {
+  if (grade > least) for (const { name, word } of forced({ least: grade, grade: least, words: {} }).lights) ask(`place ${name} ${word}`);
+  ask(`least ${grade}`);
+  let fill = 'limit';
+  for (let seed = 1; seed <= JUDGED_SEEDS && fill === 'limit'; seed++) fill = answers.outcomeOf(ask(`autofill ${most} ${seed}`)).answer;
+  ask(`least ${least}`);
+  return fill;
+}
+
+// The most words of a light that are weighed, and the most lights without a word that are asked for the reason.
+const MOST_WEIGHED = 8;
+
 // The most words that are tried in place of one that stands already.
 const MOST_TRIED = 20;
+
+// The most fills that a slice makes until the words of one are apart.
+const MOST_APART = 12;
 
 // From how many seeds a search tells whether a grid fills.
 const JUDGED_SEEDS = 2;
@@ -268,20 +315,66 @@ function takenLetters(cells) {
 // A slice of a search that raises the worst word, in a worker that helps: a fill of words that have this grade at least, and what is proved. With
 // a fill it has its letters; the grid is then without those of the given cells again. A quick slice takes any fill. A `least` of null is that of the
 // slice before.
-function best({ least, isQuick, limits, cells }) {
+function best({ least, isQuick, limits, cells, isApart }) {
   if (least !== null) ask(`least ${least}`);
-  if (isQuick) return anyFill(limits, cells);
+  const told = apart(isApart, cells, () => (isQuick ? anyFill(limits) : bestFill(limits)));
+  return told.answer === 'filled' ? { ...told, letters: takenLetters(cells) } : told;
+}
+
+function bestFill(limits) {
   const { answer, least: grade, bound } = answers.outcomeOf(ask(`best ${limits}`));
-  return answer === 'filled' ? { answer, grade, bound, letters: takenLetters(cells) } : { answer, bound };
+  return { answer, grade, bound };
+}
+
+// The lights that keep each fill below a grade, in a worker that helps: those that no word of this grade matches, each with the word of another grade that
+// leaves the best fills; or else `near`, the light that loses its words for the fewest letters; or neither. `words` has those of the fill, which are taken
+// where others are no better. The grid is as it was before.
+function forced({ least, grade, words }) {
+  ask(`least ${least}`);
+  const whole = new Set(asked(answers.lights()).filter(answers.isWhole).map(({ name }) => name));
+  const names = asked(answers.unmatched()).map(({ name }) => name).filter((name) => !whole.has(name));
+  const near = names.length ? null : nearestDead();
+  ask(`least ${grade}`);
+  const before = [];
+  const lights = names.map((name) => {
+    const cells = answers.cellsOf(asked(answers.lights()).find((light) => light.name === name));
+    const word = bestWord(name, cells, words[name]);
+    before.unshift(cells);
+    ask(`place ${name} ${word}`);
+    return { name, word };
+  });
+  before.forEach(putBack);
+  return { lights, near };
+}
+
+// The light without a word that the fewest letters leave none, of those with the most letters; or null.
+function nearestDead() {
+  const left = counts();
+  const known = ({ letters }) => letters.replaceAll('.', '').length;
+  const dead = asked(answers.lights()).filter((light, at) => left[at] === 0 && !answers.isWhole(light) && known(light)).sort((a, b) => known(b) - known(a));
+  const reasons = dead.slice(0, MOST_WEIGHED).map(({ name }) => ({ name, length: asked(answers.why(name)).length }));
+  return reasons.sort((a, b) => a.length - b.length)[0]?.name ?? null;
+}
+
+// The word of a light after which the bound of the best fill is the highest.
+function bestWord(name, cells, own) {
+  const others = asked(answers.words(name)).filter((word) => word !== own);
+  const words = [...(own ? [own] : []), ...others].slice(0, MOST_WEIGHED);
+  const bounds = words.map((word) => {
+    const { answer, bound } = isRefused(`place ${name} ${word}`) ? { answer: 'nofill', bound: 0 } : answers.outcomeOf(ask('best 0'));
+    putBack(cells);
+    return answer === 'nofill' ? 0 : bound ?? MOST + 1;
+  });
+  return words[bounds.indexOf(Math.max(...bounds))];
 }
 
 // Any fill of active words, with the grade of the worst new one.
-function anyFill(limits, cells) {
+function anyFill(limits) {
   const whole = new Set(asked(answers.lights()).filter(answers.isWhole).map(({ name }) => name));
   const { answer } = answers.outcomeOf(ask(`autofill ${limits}`));
   if (answer !== 'filled') return { answer, bound: null };
   const grades = asked(answers.grades()).filter(({ name }) => !whole.has(name)).map(({ grade }) => grade);
-  return { answer, grade: Math.min(MOST, ...grades), bound: null, letters: takenLetters(cells) };
+  return { answer, grade: Math.min(MOST, ...grades), bound: null };
 }
 
 const calls = {
@@ -290,8 +383,9 @@ const calls = {
   },
 
   // Opens a session over word lists, and replays a record. If it cannot, the session before stays.
-  open({ sources, personal, least, record }) {
-    const { words, scores: scoresRead, ...told } = joinLists(sources, personal);
+  open({ sources, personal, least, threes, record }) {
+    const { words: all, scores: scoresRead, ...told } = joinLists(sources, personal);
+    const words = threes ? all.filter((word) => word.length !== 3 || (scoresRead.get(word) ?? threes) >= threes) : all;
     if (sources.length && !words.length) throw Object.assign(new Error('no word'), { status: 'NoWord', answer: '' });
     const other = Xw.open(module, { list: graded(words, scoresRead, told.best), record });
     xw?.close();
@@ -356,7 +450,13 @@ const calls = {
   firstDead,
   orbit,
   search,
+  // Takes back what searches struck.
+  unstrike() {
+    if (struck.length) ask('least 0');
+    for (const word of struck.splice(0)) ask(`add ${word}`);
+  },
   best,
+  forced,
   grids,
   judge,
 

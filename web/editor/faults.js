@@ -14,11 +14,12 @@ export async function whyUnlisted(editor, words) {
   // a word that was added and is struck again is in no list
   const isHidden = (word) => struck.includes(word) && (regraded.has(word) || !added.includes(word));
   const { hidden } = readPersonal(list.personal);
-  const scores = list.grade && words.length ? await engine.call('grades', { words }) : [];
+  const scores = (list.grade || list.threes) && words.length ? await engine.call('grades', { words }) : [];
   return words.map((word, at) => {
     if (isHidden(word)) return `${word} is hidden in this puzzle`;
     const score = scores[at] ?? null;
     if (score !== null && gradeOf(score, list.best) < list.grade) return `${word} (${score}) is below your least score, ${list.least}`;
+    if (score !== null && word.length === 3 && score < list.threes) return `${word} (${score}) is below your least score for three letters, ${list.threes}`;
     return hidden.has(word) ? `${word} is hidden by your words` : `${word} is not in your lists`;
   });
 }

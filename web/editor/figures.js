@@ -7,6 +7,8 @@ import { titleOf } from './words.js';
 
 // how many of the weak words are marked as the worst
 const MOST_WORST = 10;
+// how many lights are named one by one
+const MOST_NAMED = 3;
 
 export class Figures {
   /** @type {import('./editor.js').Editor} */
@@ -19,8 +21,8 @@ export class Figures {
   #figures = null;
   /** @type {Map<string, number>} */
   #scores = new Map();
-  // what is proved: { bound, names, fixed, key }, a grade at which there is no fill of the lights with these names, or of all lights, around letters that
-  // were fixed, by coordinates
+  // what is proved: { bound, names, fixed, held, key }, a grade at which there is no fill of the lights with these names, or of all lights, around letters
+  // that were fixed, by coordinates; and the lights that were held while others were raised, stage by stage, each with those that force it
   #proof = null;
 
   // `elements` are the box, the text in it, and the button that goes to the worst word.
@@ -42,8 +44,10 @@ export class Figures {
   }
 
   // Takes over what is proved of the fill in the grid, and returns what is said of it. What was proved before stays if it says more.
-  async prove({ bound, names, fixed }) {
-    if (bound <= this.boundOf(names)) this.#proof = { bound, names, fixed, key: this.#key() };
+  async prove({ bound, names, fixed, held }) {
+    const before = this.boundOf(names);
+    const isSame = bound === before && bound <= MOST;
+    if (bound <= before) this.#proof = { bound, names, fixed, held: isSame && !held.length ? this.#proof.held : held, key: this.#key() };
     await this.#show();
     return this.text;
   }
@@ -106,14 +110,23 @@ export class Figures {
     const proof = this.#proof;
     if (!proof || proof.bound > MOST || !this.#isProved) return '';
     const isOwn = (light) => (!proof.names.length || proof.names.includes(light.name)) && light.cells.some((cell) => pencil.has(board.cells[cell].coordinates));
-    const own = board.lights.filter((light) => this.#scores.has(light.name) && isOwn(light)).map(({ name }) => this.#scores.get(name));
+    const own = board.lights.filter((light) => this.#scores.has(light.name) && isOwn(light));
     if (!own.length) return '';
-    const worst = Math.min(...own);
+    const worstOf = (lights) => Math.min(...lights.map(({ name }) => this.#scores.get(name)));
+    const worst = worstOf(own);
     const isBest = proof.bound <= gradeOf(worst, list.best) + 1;
     // a fill changes no letter in ink, but others in pencil might be other ones
     const isPart = [...proof.fixed.keys()].some((coordinates) => pencil.has(coordinates));
     const part = proof.names.length ? ' of these lights' : isPart ? ' of the cells that were empty' : '';
-    const text = `no fill${part} is better${isBest ? '' : ` than ${scoreOf(proof.bound, list.best) - 1}`}`;
+    const [first] = proof.held;
+    const forced = board.lights.filter(({ name }) => isBest && first?.forced.includes(name));
+    const cause = forced.length ? `: ${titlesOf(forced)} ${forced.length === 1 ? 'allows' : 'allow'} no more` : '';
+    // those of the first stage, and of later ones the weak ones
+    const held = new Set(proof.held.flatMap(({ names }, stage) => names.filter((name) => stage === 0 || this.#scores.get(name) < list.weak)));
+    const rest = worstOf(own.filter(({ name }) => !held.has(name)));
+    const weaker = own.filter(({ name }) => this.#scores.get(name) < rest);
+    const others = Number.isFinite(rest) && weaker.length ? `; all but ${titlesOf(weaker)} have ${rest} or more` : '';
+    const text = `no fill${part} is better${isBest ? cause : ` than ${scoreOf(proof.bound, list.best) - 1}`}${others}`;
     return worst > this.#figures.worst ? `; the fill’s worst ${worst}, and ${text}` : `; ${text}`;
   }
 
@@ -130,4 +143,11 @@ export class Figures {
     worst.title = `Go to the worst word, ${titleOf(light)}`;
     worst.onclick = () => this.go(board.byName.get(name) ?? light);
   }
+}
+
+// The names of lights, of many the first ones.
+function titlesOf(lights) {
+  const titles = lights.slice(0, MOST_NAMED).map(titleOf);
+  if (lights.length > MOST_NAMED) titles.push(`${lights.length - MOST_NAMED} more`);
+  return [titles.slice(0, -1).join(', '), ...titles.slice(-1)].filter(Boolean).join(' and ');
 }

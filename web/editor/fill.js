@@ -2,8 +2,10 @@
 // other workers too, each with a seed of its own; the first `filled` or `nofill` ends all. If the words have scores, the fill is raised then.
 import { grades, outcomeOf } from './answers.js';
 import { MOST, scoreOf } from './grades.js';
+import { closeNew } from './kin.js';
 import { refuse, say } from './messages.js';
 import { Raiser } from './raising.js';
+import { letterIn } from './record.js';
 import { titleOf } from './words.js';
 
 // The placements of a slice, for the first slices and for later ones, and the slices after which a search gives up.
@@ -21,6 +23,8 @@ const ENOUGH = 3;
 const OFFERED = 5000;
 const MOST_OFFERED_SLICES = 6;
 const OTHER_SEEDS = 7000003;
+// the most searches for a fill without words that are close to others
+const MOST_PARTED = 8;
 // the most words that are entered to see which light dies first
 const MOST_ENTERED = 60;
 const NEXT = 'another fill changes the letters in pencil (coloured), and keeps the others';
@@ -128,9 +132,25 @@ export class Filler {
     }
     for (const cell of filled) pencil.add(cell.coordinates);
     await editor.edit(letters, { pencil });
+    if (editor.list.apart) await this.#part(filled, record);
     this.fills.add();
     if (!editor.list.scored) say(`filled; ${NEXT}`, 'good');
     return filled;
+  }
+
+  // Puts a fill in the place of the one that is there, if that has new words that are close to others: one without such, if it is found.
+  async #part(filled, record) {
+    const editor = this.#editor;
+    const { board } = editor;
+    const own = new Set(filled.map(({ coordinates }) => coordinates));
+    const isNew = (light) => light.cells.some((cell) => own.has(board.cells[cell].coordinates));
+    const words = () => board.lights.filter((light) => board.isEntered(light)).map((light) => ({ word: board.spell(light), isNew: isNew(light), score: 0 }));
+    for (let slice = 1; slice <= MOST_PARTED && !this.#isStopped && closeNew(words()).length; slice++) {
+      const [begun] = this.#helpers.begin(record, 1);
+      const { letters } = await (await begun).call('search', { line: `autofill ${OFFERED} ${this.#seed + slice}${this.#names}`, cells: [...own], isApart: true });
+      const others = letters.filter((line) => board.at(letterIn(line)[0]).letter !== letterIn(line)[1]);
+      if (letters.length) await editor.edit(others, { only: editor.record });
+    }
   }
 
   // Says why there is no fill, around what is entered if something is.
@@ -165,21 +185,21 @@ export class Filler {
       say('filled; its worst word is raised … Esc ends this', 'busy');
       this.show({ isRaising: true });
     }
-    const { bound, isStopped, isChanged } = await raising;
+    const { proved: bound, held, isStopped, isChanged } = await raising;
     if (this.isRunning || this.isRaising) return;
     this.show(null);
     if (isChanged) return;
     const isBack = isAnother && !isStopped && (await this.#putBack(filled));
-    const text = await this.figures.prove({ bound, names, fixed });
+    const text = await this.figures.prove({ bound, names, fixed, held });
     say(`${isStopped ? 'stopped' : 'filled'}: ${text}${isBack ? '; it is the fill from before, since no better one was found' : ''}`, 'good');
   }
 
   // The running line of a raising, as in “worst 62, mean 81; no fill is better than 84; trying 66; 6 s”.
-  #showTried({ wanted, bound, seconds }) {
+  #showTried({ wanted, bound, isPart, seconds }) {
     const { list: { best } } = this.#editor;
     const proved = bound <= MOST ? `no fill is better than ${scoreOf(bound, best) - 1}; ` : '';
     const { worst } = this.figures;
-    say(`filled; its worst word is raised: ${worst ? `${worst}; ` : ''}${proved}trying ${scoreOf(wanted, best)}; ${seconds} s … Esc ends this`, 'busy');
+    say(`filled; its worst word is raised: ${worst ? `${worst}; ` : ''}${proved}trying ${scoreOf(wanted, best)}${isPart ? ' for the others' : ''}; ${seconds} s … Esc ends this`, 'busy');
   }
 
   // Puts the best fill that is known into the grid again, if it is better than the one that is there. Returns whether it is.
@@ -197,7 +217,8 @@ export class Filler {
     try {
       for (let slice = 1; slice <= MOST_OFFERED_SLICES && isDue() && this.fills.count < ENOUGH; slice++) {
         const [begun] = this.#helpers.begin(without(record, filled), 1);
-        const { letters } = await (await begun).call('search', { line: `${command} ${OFFERED} ${this.#seed + OTHER_SEEDS * slice}${names}` });
+        const line = `${command} ${OFFERED} ${this.#seed + OTHER_SEEDS * slice}${names}`;
+        const { letters } = await (await begun).call('search', { line, cells: filled.map(({ coordinates }) => coordinates), isApart: editor.list.apart });
         if (letters.length && isDue()) this.fills.offer(letters);
       }
     } catch (fault) {

@@ -47,14 +47,15 @@ export class Helpers {
 
   async #open(helper, record) {
     const { list, module } = this.#editor;
-    const { sources, personal, least, grade } = list;
-    const words = [sources, personal, wordsOf(record).join()];
+    const { sources, personal, least, threes, grade } = list;
+    const words = [sources, personal, threes, wordsOf(record).join()];
     if (words.every((part, at) => part === helper.words?.[at])) {
+      await helper.engine.call('unstrike');
       await helper.engine.call('edit', { lines: [`least ${grade}`, ...bodyOf(record)], isWhole: false });
       return helper.engine;
     }
     await helper.engine.call('load', { bytes: module });
-    await helper.engine.call('open', { sources, personal, least, record });
+    await helper.engine.call('open', { sources, personal, least, threes, record });
     helper.words = words;
     return helper.engine;
   }

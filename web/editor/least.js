@@ -17,12 +17,13 @@ export class LeastView {
   #isPointed = false;
 
   // `actions`: `mayChange` tells whether the words can change now, `use` has the engine take a least score, `kept` is told of the one that is chosen,
-  // `weak` of another score to mark words below, and `toGrid` goes back to the grid.
+  // `chosen` of another score to mark words below and of words that are to be apart, `threes` of a least score for words of three letters, and `toGrid`
+  // goes back to the grid.
   constructor(editor, elements, actions) {
     this.#editor = editor;
     this.#elements = elements;
     this.actions = actions;
-    const { row, slider, weak } = elements;
+    const { row, slider, weak, threes, apart } = elements;
     // on a phone the row is folded away, behind what it says
     const isNarrow = matchMedia('(max-width: 640px)');
     const fold = () => {
@@ -35,23 +36,25 @@ export class LeastView {
     });
     slider.addEventListener('input', () => this.#move());
     slider.addEventListener('change', () => this.#chosen());
-    weak.addEventListener('change', () => {
-      const score = Number(weak.value);
-      if (weak.value && score >= 0) actions.weak(score);
-      else this.show();
-    });
+    const take = (field, action) => field.addEventListener('change', () => (field.value && Number(field.value) >= 0 ? action(Number(field.value)) : this.show()));
+    take(weak, (score) => actions.chosen({ weak: score }));
+    take(threes, (score) => (actions.mayChange() ? actions.threes(score) : this.show()));
+    apart.addEventListener('change', () => actions.chosen({ apart: apart.checked }));
   }
 
   // Shows what the lists in use have.
   show() {
-    const { scored, best, grade, weak } = this.#editor.list;
+    const { scored, best, grade, weak, threes, apart } = this.#editor.list;
     const { row, slider } = this.#elements;
+    this.#elements.apart.checked = apart;
     row.hidden = !scored;
     if (!scored) return;
     slider.max = String(gradeOf(best, best));
     slider.value = String(grade);
     this.#elements.weak.max = String(best);
     this.#elements.weak.value = String(weak);
+    this.#elements.threes.max = String(best);
+    this.#elements.threes.value = String(threes);
     this.#elements.told.textContent = `${grade ? `Least score ${scoreOf(grade, best)}` : 'All scores'}, marks below ${weak}`;
     this.#showLeft(grade);
   }

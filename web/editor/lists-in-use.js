@@ -31,8 +31,11 @@ export class ListsInUse {
     this.actions = actions;
     this.#least = new LeastView(
       editor,
-      { row: $('least-row'), told: $('least-told'), slider: $('least'), shown: $('least-shown'), left: $('least-left'), weak: $('weak') },
-      { mayChange: actions.mayEdit, use: (least) => this.#useLeast(least), kept: () => this.#keepLeast(), weak: (score) => this.#markBelow(score), toGrid: actions.toGrid },
+      { row: $('least-row'), told: $('least-told'), slider: $('least'), shown: $('least-shown'), left: $('least-left'), weak: $('weak'), threes: $('threes'), apart: $('apart') },
+      {
+        mayChange: actions.mayEdit, use: (least) => this.#useLeast(least), kept: () => this.#keepLeast(), chosen: (chosen) => this.#choose(chosen),
+        threes: (score) => this.#useThrees(score), toGrid: actions.toGrid,
+      },
     );
     this.#view = new ListsView(
       {
@@ -165,10 +168,18 @@ export class ListsInUse {
     this.#store();
   }
 
-  #markBelow(score) {
-    this.#editor.markBelow(score);
-    this.#lists = this.#lists.markingBelow(score);
+  // Takes over another score to mark words below, or whether words are to be apart.
+  #choose(chosen) {
+    this.#editor.changeList(chosen);
+    this.#lists = this.#lists.choosing(chosen);
     this.#store();
+    this.actions.toGrid();
+  }
+
+  // Uses another least score of words of three letters.
+  async #useThrees(threes) {
+    const said = threes ? `words of three letters have ${threes} or more` : 'words of three letters have any score';
+    if (await this.change((now) => now.choosing({ threes }), 'the lists', new Uint8Array(), said)) this.actions.soon();
     this.actions.toGrid();
   }
 }

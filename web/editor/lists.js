@@ -2,16 +2,18 @@
 import { keepLists, keptLists } from './keep.js';
 
 export class Lists {
-  // { name, bytes, isOn, isBuiltIn }; the personal list as text; the least score of a word, and the score below which words are marked, or null for
-  // the usual one
+  // { name, bytes, isOn, isBuiltIn }; the personal list as text; the least score of a word, that of a word of three letters, and the score below which words
+  // are marked, or null for the usual one; and whether candidates and fills have no words that are close to others
   parts = [];
   personal = '';
   least = 0;
+  threes = 0;
+  apart = false;
   /** @type {number | null} */
   weak = null;
 
-  constructor({ parts, personal = '', least = 0, weak = null }) {
-    Object.assign(this, { parts, personal, least, weak });
+  constructor({ parts, personal = '', least = 0, weak = null, threes = 0, apart = false }) {
+    Object.assign(this, { parts, personal, least, weak, threes, apart });
   }
 
   // What the browser keeps, or the built-in list alone.
@@ -29,11 +31,11 @@ export class Lists {
   // Keeps them. The built-in list is in the page already.
   keep() {
     const parts = this.parts.map(({ name, bytes, isOn, isBuiltIn }) => (isBuiltIn ? { name, isOn, isBuiltIn } : { name, bytes, isOn }));
-    return keepLists({ parts, personal: this.personal, least: this.least, weak: this.weak });
+    return keepLists({ ...this, parts });
   }
 
   #with(changed) {
-    return new Lists({ parts: this.parts, personal: this.personal, least: this.least, weak: this.weak, ...changed });
+    return new Lists({ ...this, ...changed });
   }
 
   // With one more list, which is used in place of the others. These stay, off.
@@ -42,7 +44,7 @@ export class Lists {
     const isTaken = (wanted) => others.some((part) => part.name === wanted);
     let free = name;
     for (let count = 2; isTaken(free); count++) free = `${name} (${count})`;
-    return this.#with({ parts: [...others, { name: free, bytes, isOn: true }], least: 0, weak: null });
+    return this.#with({ parts: [...others, { name: free, bytes, isOn: true }], least: 0, weak: null, threes: 0 });
   }
 
   switching(name, isOn) {
@@ -51,7 +53,7 @@ export class Lists {
 
   // With the built-in list alone in use.
   onlyBuiltIn() {
-    return this.#with({ parts: this.parts.map((part) => ({ ...part, isOn: Boolean(part.isBuiltIn) })), least: 0, weak: null });
+    return this.#with({ parts: this.parts.map((part) => ({ ...part, isOn: Boolean(part.isBuiltIn) })), least: 0, weak: null, threes: 0 });
   }
 
   removing(name) {
@@ -62,8 +64,9 @@ export class Lists {
     return this.#with({ least });
   }
 
-  markingBelow(weak) {
-    return this.#with({ weak });
+  // With what is chosen otherwise: `weak`, `threes` or `apart`.
+  choosing(chosen) {
+    return this.#with(chosen);
   }
 
   withPersonal(personal) {
@@ -74,7 +77,7 @@ export class Lists {
   get chosen() {
     const on = this.parts.filter(({ isOn, bytes }) => isOn && bytes.length);
     const name = on.length === 1 ? on[0].name : on.length ? `${on.length} lists` : '';
-    return { name: name || (this.personal.trim() ? 'my words' : ''), sources: on.map(({ bytes }) => bytes), personal: this.personal, least: this.least, weak: this.weak };
+    return { name: name || (this.personal.trim() ? 'my words' : ''), sources: on.map(({ bytes }) => bytes), personal: this.personal, least: this.least, weak: this.weak, threes: this.threes, apart: this.apart };
   }
 }
 

@@ -1,12 +1,17 @@
-// The raising of a fill: its worst word gets better by `best` in slices, in workers beside the one of the session, each with a seed of its own. The
-// fill that is in the grid can be edited meanwhile, which ends the raising.
-import { MOST } from './grades.js';
+// The raising of a fill: its worst word gets better by `best` in slices, in workers beside the one of the session, each with a seed of its own. Where no
+// fill is better, the words that keep it from that are held, and the worst of the others is raised. The fill that is in the grid can be edited
+// meanwhile, which ends the raising.
+import { grades } from './answers.js';
+import { MOST, gradeOf } from './grades.js';
 import { letterIn } from './record.js';
 
 // The placements of a slice.
 const PLACEMENTS = 1000;
-// how long a raising takes at most, once it has words, and how long one worker is alone, in milliseconds
+// how long a raising takes at most, once it has words, and how much longer if its worst word is no more than so far above the weak ones by then; and how
+// long one worker is alone, in milliseconds
 const LONGEST = 2000;
+const FURTHER = 2000;
+const GOOD = 20;
 const ALONE = 300;
 // how often it tells what it looks for, in milliseconds
 const TOLD_EACH = 500;
@@ -24,7 +29,8 @@ const ANSWERS = new Set(['filled', 'nofill', 'limit']);
  * @typedef {{
  *   record: string, base: string, names: string, cells: string[], seed: number, grade: number, bound: number, isOver: boolean, isStopped: boolean,
  *   isChanged: boolean, isEntering: boolean, pencil: string, entered: Promise<void>, end: () => void, begun: number, told: number,
- * }} Race
+ *   proved: number, held: { names: string[], forced: string[] }[], lines: string[], holding: Promise<void> | null,
+ * }} Race `proved` is the bound of all lights; `held` has the lights whose words are held, stage by stage, with those that force it, and `lines` enter those words
  */
 
 // The grades that a worker looks for: some way ahead of the fill that is there, as long as fills are found so. After a leap that is given up comes a
@@ -65,7 +71,8 @@ export class Raiser {
   /** @type {Race | null} */
   #race = null;
 
-  // `raised` is told of each better fill in the grid, and `tried` what is looked for: { wanted, bound, seconds }.
+  // `raised` is told of each better fill in the grid, and `tried` what is looked for: { wanted, bound, isPart, seconds },
+  // where `isPart` says that the words of some lights are held.
   constructor(editor, helpers, raised, tried) {
     this.#editor = editor;
     this.#helpers = helpers;
@@ -101,7 +108,7 @@ export class Raiser {
     const editor = this.#editor;
     const race = {
       base, names, cells, seed, grade, bound, record: editor.record, pencil: String([...editor.pencil]), isOver: false, isStopped: false, isChanged: false,
-      isEntering: false, entered: Promise.resolve(), end: () => {}, begun: performance.now(), told: 0,
+      isEntering: false, entered: Promise.resolve(), end: () => {}, begun: performance.now(), told: 0, proved: bound, held: [], lines: [], holding: null,
     };
     const ended = new Promise((resolve) => {
       race.end = () => {
@@ -110,7 +117,7 @@ export class Raiser {
       };
     });
     this.#race = race;
-    if (grade >= MOST || bound <= grade + 1) race.end();
+    if (grade >= MOST) race.end();
     else this.#join(race, 0, 1);
     const joining = setTimeout(() => this.#join(race, 1, this.#helpers.most), ALONE);
     await ended;
@@ -130,21 +137,28 @@ export class Raiser {
   async #climb(race, begun, seed, isFirst, part) {
     try {
       const engine = await begun;
-      if (isFirst) setTimeout(race.end, LONGEST);
+      if (isFirst) setTimeout(() => this.#endInTime(race), LONGEST);
       // the first one begins with the best fill, which tells a bound
-      const leaps = new Leaps(part, isFirst);
-      let [least, isQuick] = [0, isFirst];
+      let leaps = new Leaps(part, isFirst);
+      let [least, isQuick, stage] = [0, isFirst, 0];
       while (!race.isOver) {
+        if (race.bound <= race.grade + 1) await (race.holding ??= this.#hold(race, engine).finally(() => (race.holding = null)));
+        if (race.isOver) break;
+        if (stage < race.held.length) {
+          await engine.call('edit', { lines: race.lines, isWhole: false });
+          [leaps, least, isQuick, stage] = [new Leaps(part, isFirst), 0, isFirst, race.held.length];
+        }
         const wanted = leaps.next(race);
         this.#tell(race, wanted);
         const isLeap = wanted > race.grade + 1;
         const isNew = wanted !== least;
         // any better fill is found soon; after one, and where there is none soon, the best one is looked for
         isQuick = isLeap || (isNew && !isQuick);
-        const told = await engine.call('best', { least: isNew ? wanted : null, isQuick, limits: `${PLACEMENTS} ${seed}${race.names}`, cells: race.cells });
+        const told = await engine.call('best', { least: isNew ? wanted : null, isQuick, limits: `${PLACEMENTS} ${seed}${race.names}`, cells: race.cells, isApart: this.#editor.list.apart });
         least = wanted;
         leaps.take(isLeap ? wanted : null, told.answer);
-        if (!race.isOver) await this.#take(race, told, wanted);
+        // what was found without the words that are held by now is none of this stage
+        if (!race.isOver && stage === race.held.length) await this.#take(race, told, wanted);
       }
     } catch (fault) {
       // a worker that fails leaves the race to the others; without the first there is none
@@ -153,25 +167,60 @@ export class Raiser {
     }
   }
 
+  // Ends a raising, unless its words are not good yet.
+  #endInTime(race) {
+    const { weak, best } = this.#editor.list;
+    if (race.grade < Math.min(MOST, gradeOf(weak, best) + GOOD)) setTimeout(race.end, FURTHER);
+    else race.end();
+  }
+
   // Tells what is looked for, now and then.
   #tell(race, wanted) {
     const now = performance.now();
     if (race.isOver || now - race.told < TOLD_EACH) return;
     race.told = now;
-    this.tried({ wanted, bound: race.bound, seconds: Math.floor((now - race.begun) / 1000) });
+    this.tried({ wanted, bound: race.proved, isPart: race.held.length > 0, seconds: Math.floor((now - race.begun) / 1000) });
   }
 
   // Takes what a slice tells that looked for a fill at a grade.
   async #take(race, told, wanted) {
     if (!ANSWERS.has(told.answer)) return race.end();
     race.bound = Math.min(race.bound, told.answer === 'nofill' ? wanted : told.bound ?? MOST + 1);
+    if (!race.held.length) race.proved = race.bound;
     if (told.answer === 'filled' && told.grade > race.grade) {
       race.grade = told.grade;
       // fills of several workers come into the grid one after another, the better one last
       race.entered = race.entered.then(() => this.#enter(race, told.letters));
       await race.entered;
     }
-    return race.bound <= race.grade + 1 ? race.end() : undefined;
+    return undefined;
+  }
+
+  // Where no fill is better: holds the words of the lights that keep it from that, or of the worst ones, and goes on with the worst of the others.
+  async #hold(race, engine) {
+    // a better fill may be on its way into the grid
+    await race.entered;
+    const editor = this.#editor;
+    const { board } = editor;
+    const open = new Set(race.cells);
+    const coordinatesOf = (light) => light.cells.map((cell) => board.cells[cell].coordinates);
+    const lights = board.lights.filter((light) => coordinatesOf(light).some((coordinates) => open.has(coordinates)));
+    const told = await editor.inOrder(() => editor.ask(grades(lights.map(({ name }) => name))));
+    if (race.isOver) return;
+    if (!told) return race.end();
+    const words = Object.fromEntries(lights.map((light) => [light.name, board.spell(light)]));
+    const forced = race.bound <= MOST ? await engine.call('forced', { least: race.bound, grade: race.grade, words }) : { lights: [], near: null };
+    const worst = told.filter(({ grade }) => grade <= race.grade).map(({ name }) => ({ name, word: words[name] }));
+    const held = forced.lights.length ? forced.lights : worst;
+    const names = new Set(held.map(({ name }) => name));
+    const lines = held.flatMap(({ name, word }) => coordinatesOf(board.byName.get(name)).map((coordinates, at) => `set ${coordinates} ${word[at]}`));
+    const entered = new Set(lines.map((line) => letterIn(line)[0]));
+    race.lines.push(...lines.filter((line) => open.has(letterIn(line)[0])));
+    race.cells = race.cells.filter((coordinates) => !entered.has(coordinates));
+    race.grade = Math.min(MOST, ...told.filter(({ name }) => !names.has(name)).map(({ grade }) => grade));
+    race.bound = MOST + 1;
+    race.held.push({ names: [...names], forced: forced.near ? [forced.near] : forced.lights.map(({ name }) => name) });
+    return !race.cells.length || race.grade >= MOST ? race.end() : undefined;
   }
 
   // Puts a better fill into the grid, in the step of the history that the first one made.

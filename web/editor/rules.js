@@ -3,6 +3,7 @@
 
 import { mostUnchecked } from './barred.js';
 import { enumeratedLength } from './enumeration.js';
+import { closeWords } from './kin.js';
 import { unescapeText } from './record.js';
 import { isBritishGrid } from './terms.js';
 
@@ -10,12 +11,6 @@ import { isBritishGrid } from './terms.js';
 const MOST_WORDS = { 15: 78, 21: 140 };
 // The most cells in a row of a light that no other light crosses, in a grid with blocks.
 const MOST_UNCHECKED = 2;
-// How many letters in a row two words may share.
-const MOST_SHARED = 4;
-// The letters that a root has at least.
-const LEAST_ROOT = 3;
-// Endings without which words have one root.
-const ENDING = /(S|ES|ED|ER|ERS|ING|INGS|LY)$/;
 
 // The parts of the grid that lights connect, each as a set of cells.
 export function partsOf(board) {
@@ -92,32 +87,12 @@ function barredWarnings(board) {
   return [{ text: `${titled(loose[0])} has ${uncheckedIn(loose[0])} unchecked letters of ${length}; ${mostUnchecked(length)} at most is usual${others}`, light: loose[0].name }];
 }
 
-// Of three letters nothing is left out, so that ERE and ERR are two words.
-const rootOf = (word) => {
-  const stem = word.replace(ENDING, '');
-  if (stem.length < LEAST_ROOT) return word;
-  const root = stem.replace(/(.)\1$/, '$1').replace(/E$/, '');
-  return root.length < LEAST_ROOT ? stem : root;
-};
-
-// Words that share a root, or more letters in a row than they may. Each part of a word leads to the first light that has it.
+// Words that are close to each other.
 function wordWarnings(board, answerOf) {
-  const [roots, parts, warnings] = [new Map(), new Map(), []];
-  for (const light of board.lights.filter((one) => board.isEntered(one))) {
-    const word = answerOf(light);
-    const root = rootOf(word);
-    const pieces = Array.from({ length: Math.max(0, word.length - MOST_SHARED) }, (_, at) => word.slice(at, at + MOST_SHARED + 1));
-    const related = roots.get(root);
-    const shared = pieces.find((piece) => parts.has(piece));
-    if (related && related.word !== word) warnings.push({ text: `${related.word} and ${word} have one root: ${titled(related.light)} and ${titled(light)}`, light: light.name });
-    else if (shared && parts.get(shared).word !== word) {
-      const { word: other, light: first } = parts.get(shared);
-      warnings.push({ text: `${other} and ${word} share ${shared}: ${titled(first)} and ${titled(light)}`, light: light.name });
-    }
-    if (!related) roots.set(root, { word, light });
-    for (const piece of pieces) if (!parts.has(piece)) parts.set(piece, { word, light });
-  }
-  return warnings;
+  const entered = board.lights.filter((light) => board.isEntered(light)).map((light) => [answerOf(light), light]);
+  return closeWords(entered).map(({ word, of, other, otherOf, shared }) => ({
+    text: `${other} and ${word} ${shared ? `share ${shared}` : 'have one root'}: ${titled(otherOf)} and ${titled(of)}`, light: of.name,
+  }));
 }
 
 // Clues whose enumeration counts other letters than their lights have. One that leads to other lights may count theirs too.

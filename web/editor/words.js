@@ -3,6 +3,7 @@ import { choices, match, tally, unpacked } from './answers.js';
 import { filtered } from './filter.js';
 import { UNSCORED, scoreOf } from './grades.js';
 import { onceIdle, whenIdle } from './idle.js';
+import { Kin } from './kin.js';
 import { refuse, refusalText } from './messages.js';
 import { Roving } from './roving.js';
 import { termed } from './terms.js';
@@ -233,12 +234,21 @@ export class WordsView {
     this.#isLate = false;
     if (!this.#isStanding) this.#needs = new Map();
     this.#listed = this.#light?.name ?? '';
-    this.#words = words;
+    this.#words = this.#apart(words);
     this.#scores = new Map(scores ? words.map((word, at) => [word, scores[at]]) : []);
     this.#at = -1;
     this.#elements.list.scrollTop = 0;
     this.#list();
     if (pointed) this.#pointAt(pointed);
+  }
+
+  // The words that are close to none of the other lights, if that is wanted.
+  #apart(words) {
+    const { board, list } = this.#editor;
+    if (!list.apart) return words;
+    const kin = new Kin();
+    for (const light of board.lights) if (light.name !== this.#light?.name && board.isEntered(light)) kin.add(this.#editor.answerOf(light), light);
+    return words.filter((word) => !kin.closeTo(word));
   }
 
   // Dead ends come last, but for the word that keys point at, which stays where it is.

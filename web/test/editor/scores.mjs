@@ -1,7 +1,7 @@
 // Cases of scores: raised fills and the least score.
 import { writeFileSync } from 'node:fs';
 import { join } from 'node:path';
-import { another, begin, beginBlank, menu, openFile, openGraded, pointedAt, scoredList, slideLeast, wordsOf } from '../doing.mjs';
+import { another, begin, beginBlank, menu, openFile, openGraded, openRecord, pointedAt, scoredList, slideLeast, wordsOf } from '../doing.mjs';
 import { holdFill, holdRaising, isDrafted, isHeld, raiseInTime, raiseToTheEnd } from '../holding.mjs';
 import { browser, expect, page, picture, reload, room, runAlone } from '../page.mjs';
 
@@ -32,9 +32,10 @@ export const CASES = {
     await beginBlank(2, 2);
     await raiseToTheEnd();
     await browser.press('Control+f');
-    await page.statusIs(/^filled: worst 65, mean 80; no fill is better$/);
+    const others = 'no fill is better; all but [13] (Across|Down) have 75 or more';
+    await page.statusIs(new RegExp(`^filled: worst 65, mean 80; ${others}$`));
     await raiseInTime();
-    await browser.until("document.getElementById('figures-text').textContent === 'worst 65, mean 80; no fill is better'");
+    await browser.until(`/^worst 65, mean 80; ${others}$/.test(document.getElementById('figures-text').textContent)`);
     expect(['EF,GH', 'EG,FH'].includes((await page.rows()).join()), `the grid is ${await page.rows()}`);
     // the words below a score are marked
     await browser.value("document.getElementById('weak').value = 70, document.getElementById('weak').dispatchEvent(new Event('change'))");
@@ -52,10 +53,10 @@ export const CASES = {
     await browser.until("/no fill is better/.test(document.getElementById('figures-text').textContent)");
     await browser.press('=');
     await page.statusIs(/locked/);
-    const isBest = () => browser.until("document.getElementById('figures-text').textContent === 'worst 65, mean 80, 1 under 70; no fill is better'");
+    const isBest = () => browser.until("/^worst 65, mean 80, 1 under 70; no fill is better/.test(document.getElementById('figures-text').textContent)");
     await isBest();
     await browser.press('Control+f');
-    await page.statusIs(/^filled: worst 65, mean 80, 1 under 70; no fill is better$/);
+    await page.statusIs(/^filled: worst 65, mean 80, 1 under 70; no fill is better/);
     // but not with other words
     await browser.click('#tab-puzzle');
     await browser.value("document.getElementById('word').focus()");
@@ -68,6 +69,67 @@ export const CASES = {
     await browser.until("document.getElementById('figures').hidden && document.getElementById('least-row').hidden");
   },
 
+  async 'a word that is forced, and the others'() {
+    // the theme word leaves 2 Down one bad word, and the light below has one of 90
+    writeFileSync(join(room, 'forced.txt'), 'toe;80\nox;3\nad;60\nbe;40\nat;90\nit;70\n');
+    await openFile(join(room, 'forced.txt'));
+    await page.factsAre(/forced.txt, 6 words/);
+    await openRecord('size 3 4\nblock 2 1\nblock 2 3\nblock 3 1\nblock 3 2\nblock 3 3\nblock 4 3\nset 1 1 T\nset 1 2 O\nset 1 3 E\n');
+    await raiseToTheEnd();
+    await browser.press('Control+f');
+    await page.statusIs(/^filled: worst 3, mean 58, 1 under 50; no fill is better: 2 Down allows no more; all but 2 Down have 90 or more$/);
+    await raiseInTime();
+    expect((await page.rows()).join() === 'TOE,#X#,###,AT#', `the grid is ${await page.rows()}`);
+    await picture('forced');
+    await menu('built-in');
+    await page.factsAre(/built-in list/);
+  },
+
+  async 'words of one root, and five letters in common'() {
+    writeFileSync(join(room, 'kin.txt'), 'walk;90\nwalks;90\nstone;80\nstoned;85\nmiles;70\nsingle;60\nwinter;50\n');
+    await openFile(join(room, 'kin.txt'));
+    await page.factsAre(/kin.txt, 7 words/);
+    await openRecord('size 6 3\nblock 1 6\nblock 2 1\nblock 2 2\nblock 2 3\nblock 2 4\nblock 2 5\nblock 2 6\nset 1 1 S\nset 1 2 T\nset 1 3 O\nset 1 4 N\nset 1 5 E\n');
+    await browser.click('#cell-3-1');
+    const listed = (words) => browser.until(`[...document.querySelectorAll('#candidates li')].map((row) => row.dataset.word).join() === '${words}'`);
+    await listed('STONED,SINGLE,WINTER');
+    await browser.press('Control+f');
+    await page.statusIs(/^filled: /);
+    expect((await page.row(3)) === 'STONED', `the row is ${await page.row(3)}`);
+    await browser.press('Control+z');
+    // the switch leaves it out of the candidates and of fills, and is kept
+    await browser.click('#apart');
+    await listed('SINGLE,WINTER');
+    await browser.press('Control+f');
+    await page.statusIs(/^filled: worst 60/);
+    expect((await page.row(3)) === 'SINGLE', `the row is ${await page.row(3)}`);
+    await browser.press('Control+z');
+    await reload();
+    await browser.until("document.getElementById('apart').checked");
+    await browser.click('#cell-3-1');
+    await listed('SINGLE,WINTER');
+    await browser.click('#apart');
+    await listed('STONED,SINGLE,WINTER');
+    await menu('built-in');
+    await page.factsAre(/built-in list/);
+  },
+
+  async 'a least score for words of three letters'() {
+    writeFileSync(join(room, 'threes.txt'), 'cat;10\ncot;90\ntea;40\ntoes;5\n');
+    await openFile(join(room, 'threes.txt'));
+    await page.factsAre(/threes.txt, 4 words/);
+    await openRecord('size 3 1\n');
+    await browser.value("document.getElementById('threes').value = 50, document.getElementById('threes').dispatchEvent(new Event('change'))");
+    await page.statusIs(/^words of three letters have 50 or more$/);
+    await page.factsAre(/threes.txt, 2 words/);
+    await browser.type('tea');
+    await browser.until("/TEA \\(40\\) is below your least score for three letters, 50/.test(document.getElementById('standing').textContent)");
+    await reload();
+    await page.factsAre(/threes.txt, 2 words/);
+    await menu('built-in');
+    await page.factsAre(/built-in list/);
+  },
+
   async 'another fill that is worse'() {
     writeFileSync(join(room, 'scored.txt'), 'cat;10\ncot;90\ncut;50\near;60\noar;20\ntea;40\ntoe;70\nare;30\ntar;80\nate;55\n');
     await openFile(join(room, 'scored.txt'));
@@ -75,7 +137,7 @@ export const CASES = {
     await beginBlank(3, 1);
     await raiseToTheEnd();
     await browser.press('Control+f');
-    await page.statusIs(/^filled: worst 90, mean 90; no fill is better$/);
+    await page.statusIs(/^filled: worst 90, mean 90; no fill is better: 1 Across allows no more$/);
     // another fill finds TAR, and raisings find nothing and end when they are told to
     await browser.value(`(() => {
       window.setTimeout = (action, time, ...more) => (time === 2000 ? ((window.endRaising = action), 0) : window.inTime(action, time, ...more));

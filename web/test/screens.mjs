@@ -1,0 +1,92 @@
+// Pictures of each screen of the editor with a puzzle in work, at four sizes, in light, dark and forced colours, to look at.
+//
+//   node --experimental-websocket web/test/screens.mjs DIR [SIZE..]
+//
+// It needs what page.mjs needs. A SIZE is the width of a window, such as 360. The pictures are DIR/WIDTH-COLOURS-SCREEN.png.
+import { mkdirSync, mkdtempSync, rmSync, writeFileSync } from 'node:fs';
+import { tmpdir } from 'node:os';
+import { join } from 'node:path';
+import { Browser } from './browser.mjs';
+
+const SIZES = [[360, 740], [768, 1024], [1280, 800], [1920, 1080]];
+const COLOURS = [['light', 'none'], ['dark', 'none'], ['light', 'active']];
+
+const [folder, ...chosen] = process.argv.slice(2);
+mkdirSync(folder, { recursive: true });
+const room = mkdtempSync(join(tmpdir(), 'xw-screens-'));
+const browser = await Browser.open();
+const $ = (id) => `document.getElementById('${id}')`;
+
+// What opens each screen, and closes it again by Esc.
+const menu = (name) => browser.value(`document.querySelector('[data-do=${name}]').click()`);
+const SCREENS = {
+  words: () => browser.value(`${$('tab-words')}.click()`),
+  clues: () => browser.value(`${$('tab-clues')}.click()`),
+  puzzle: () => browser.value(`${$('tab-puzzle')}.click()`),
+  menu: () => browser.value(`${$('tab-words')}.click(), ${$('file')}.click()`),
+  tools: () => browser.value(`${$('more')}.click(), document.querySelector('[data-tool=colour]').click()`),
+  new: () => menu('new'),
+  themes: async () => {
+    await menu('themes');
+    await browser.value(`${$('themes-entries')}.value = 'CONSTELLATION\\nASTRONOMERS\\nPLANETARIUM\\nINTERSTELLARS', ${$('themes-show')}.click()`);
+    await browser.until("document.querySelectorAll('#themes-grids[aria-busy=false] .pattern').length > 1");
+  },
+  library: () => menu('library'),
+  print: () => menu('print'),
+  lists: () => browser.value(`${$('tab-puzzle')}.click(), ${$('personal-edit')}.click()`),
+  help: () => menu('help'),
+};
+
+// A puzzle in work: some words, a corner that is filled, clues, circles and colours, over a list with scores.
+async function begin() {
+  const score = (word) => [...word].reduce((sum, letter) => (31 * sum + letter.charCodeAt(0)) % 10007, 7) % 101;
+  const { readFileSync } = await import('node:fs');
+  const words = readFileSync('/usr/share/dict/american-english', 'latin1').split('\n').filter((word) => /^[a-z]{3,}$/.test(word));
+  writeFileSync(join(room, 'scored.txt'), words.map((word) => `${word};${score(word)}`).join('\n'));
+  await browser.choose('#picker', join(room, 'scored.txt'));
+  await browser.until("/scored.txt, /.test(document.getElementById('facts').textContent)");
+  await browser.value(`${$('grid')}.focus()`);
+  await browser.press('Control+f');
+  await browser.until("/^filled: worst/.test(document.getElementById('status').textContent)");
+  await browser.press('F4');
+  await browser.insert('A puzzle in work');
+  await browser.press('Tab');
+  await browser.press('F3');
+  for (const clue of ['Was first in a long line of people who wait for their clues to be read aloud', 'See the <i>other</i> one (4)', 'Short']) {
+    await browser.insert(clue);
+    await browser.press('Enter');
+  }
+  await browser.press('Escape');
+  await browser.value(`${$('tab-words')}.click(), ${$('grid')}.focus()`);
+  await browser.click('#cell-13-11');
+  for (let count = 0; count < 5; count++) await browser.press('Delete');
+  await browser.click('#cell-5-1');
+  await browser.press('Delete');
+  await browser.press('*');
+  await browser.press('#');
+  await browser.until("document.querySelector('#candidates[aria-busy=false] li')");
+}
+
+async function show(width, height, [scheme, forced]) {
+  await browser.send('Emulation.setDeviceMetricsOverride', { width, height, deviceScaleFactor: 1, mobile: width < 700 });
+  await browser.send('Emulation.setTouchEmulationEnabled', { enabled: width < 700 });
+  await browser.send('Emulation.setEmulatedMedia', { features: [{ name: 'prefers-color-scheme', value: scheme }, { name: 'forced-colors', value: forced }] });
+  for (const [name, open] of Object.entries(SCREENS)) {
+    await open();
+    await browser.value('new Promise((resolve) => setTimeout(resolve, 300))');
+    writeFileSync(join(folder, `${width}-${forced === 'active' ? 'forced' : scheme}-${name}.png`), await browser.picture());
+    await browser.value("document.querySelector('dialog[open]')?.close(), document.querySelector('#file[aria-expanded=true]')?.click()");
+    if (name === 'tools') await browser.value(`document.querySelector('[data-do=end-mode]').click(), ${$('more')}.getAttribute('aria-expanded') === 'true' && ${$('more')}.click()`);
+  }
+}
+
+try {
+  await browser.view(1280, 800);
+  await browser.go(new URL('../dist/xw.html', import.meta.url).href);
+  await browser.until("/words$/.test(document.getElementById('facts').textContent)");
+  await begin();
+  for (const [width, height] of SIZES.filter(([one]) => !chosen.length || chosen.includes(String(one)))) for (const colours of COLOURS) await show(width, height, colours);
+} finally {
+  await browser.close();
+  rmSync(room, { recursive: true, force: true });
+}
