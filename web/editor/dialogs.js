@@ -4,6 +4,8 @@
 export function openDialog(dialog) {
   dialog.returnValue = '';
   dialog.showModal();
+  // a button at its end that has the focus would lead there
+  dialog.scrollTop = 0;
 }
 
 // Opens a dialog, and promises its answer: the value of the button that was pressed, or '' after Esc.

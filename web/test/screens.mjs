@@ -29,7 +29,7 @@ const SCREENS = {
   themes: async () => {
     await menu('themes');
     await browser.value(`${$('themes-entries')}.value = 'CONSTELLATION\\nASTRONOMERS\\nPLANETARIUM\\nINTERSTELLARS', ${$('themes-show')}.click()`);
-    await browser.until("document.querySelectorAll('#themes-grids[aria-busy=false] .pattern').length > 1");
+    await browser.until("document.querySelectorAll('#themes-grids .pattern').length > 2");
   },
   library: () => menu('library'),
   print: () => menu('print'),
