@@ -202,26 +202,43 @@ function search({ line, cells = [], isApart = false }) {
 let struck = [];
 
 // Has a search of some cells go on, if that is wanted, until it finds a fill whose new words are close to no others: the one with the lower score of two is
-// struck. What is proved without these words is not told.
+// struck, and what is near it is filled again. What is proved without these words is not told.
 function apart(isWanted, cells, find) {
-  for (let tries = 0; isWanted && tries < MOST_APART; tries++) {
-    const told = find();
-    const close = told.answer === 'filled' ? closeIn(cells) : [];
-    if (told.answer === 'filled' && close.length === 0) return { ...told, bound: struck.length ? null : told.bound };
-    if (told.answer !== 'filled') return struck.length ? { ...told, answer: 'limit', bound: null } : told;
-    for (const coordinates of cells) ask(`clear ${coordinates}`);
-    for (const word of close) ask(`strike ${word}`);
-    struck.push(...close);
+  let told = find();
+  for (let tries = 0; isWanted && told.answer === 'filled'; tries++) {
+    const close = closeIn(cells);
+    if (!close.length) return { ...told, bound: struck.length ? null : told.bound };
+    for (const { letters } of close) if (!isRefused(`strike ${letters}`)) struck.push(letters);
+    const isOver = tries === MOST_APART;
+    for (const coordinates of isOver ? cells : near(close, cells)) ask(`clear ${coordinates}`);
+    if (!isOver) told = find();
+    if (told.answer !== 'filled' || isOver) for (const coordinates of cells) ask(`clear ${coordinates}`);
+    if (isOver) return { answer: 'limit', bound: null };
+    if (told.answer !== 'filled') told = find();
   }
-  return isWanted ? { answer: 'limit', bound: null } : find();
+  return isWanted && struck.length ? { ...told, answer: 'limit', bound: null } : told;
 }
 
-// The words of the grid that are new with some cells, and close to others.
+// The lights that are new with some cells, and whose words are close to others.
 function closeIn(cells) {
-  const open = new Set(cells);
-  const isNew = (light) => answers.cellsOf(light).some(({ coordinates }) => open.has(coordinates));
   const whole = asked(answers.lights()).filter(answers.isWhole);
-  return closeNew(whole.map((light) => ({ word: light.letters, isNew: isNew(light), score: scores.get(light.letters) ?? 0 })));
+  const isNew = isNewWith(cells);
+  const close = new Set(closeNew(whole.map((light) => ({ word: light.letters, isNew: isNew(light), score: scores.get(light.letters) ?? 0 }))));
+  return whole.filter((light) => isNew(light) && close.has(light.letters));
+}
+
+// Tells whether a light has one of some cells.
+function isNewWith(cells) {
+  const open = new Set(cells);
+  return (light) => answers.cellsOf(light).some(({ coordinates }) => open.has(coordinates));
+}
+
+// Those of some cells that are in lights, in the lights that cross these, or in those that cross these again.
+function near(lights, cells) {
+  const all = asked(answers.lights()).map((light) => answers.cellsOf(light).map(({ coordinates }) => coordinates));
+  let found = new Set(lights.flatMap(answers.cellsOf).map(({ coordinates }) => coordinates));
+  for (let ring = 0; ring < 2; ring++) found = new Set(all.filter((own) => own.some((cell) => found.has(cell))).flat());
+  return cells.filter((cell) => found.has(cell));
 }
 
 // Grids from so many seeds, in a worker that helps: those whose crossing lights have words one by one, each with how many of these lights have none of the
@@ -273,7 +290,7 @@ const MOST_WEIGHED = 8;
 const MOST_TRIED = 20;
 
 // The most fills that a slice makes until the words of one are apart.
-const MOST_APART = 12;
+const MOST_APART = 30;
 
 // From how many seeds a search tells whether a grid fills.
 const JUDGED_SEEDS = 2;
@@ -318,7 +335,11 @@ function takenLetters(cells) {
 function best({ least, isQuick, limits, cells, isApart }) {
   if (least !== null) ask(`least ${least}`);
   const told = apart(isApart, cells, () => (isQuick ? anyFill(limits) : bestFill(limits)));
-  return told.answer === 'filled' ? { ...told, letters: takenLetters(cells) } : told;
+  if (told.answer !== 'filled') return told;
+  // of a fill in several parts all words count
+  const names = isApart ? asked(answers.lights()).filter(isNewWith(cells)).filter(answers.isWhole).map(({ name }) => name) : [];
+  const grade = names.length ? Math.min(...asked(answers.grades(names)).map((one) => one.grade)) : told.grade;
+  return { ...told, grade, letters: takenLetters(cells) };
 }
 
 function bestFill(limits) {

@@ -97,6 +97,7 @@ export const CASES = {
     await page.statusIs(/^filled: /);
     expect((await page.row(3)) === 'STONED', `the row is ${await page.row(3)}`);
     await browser.press('Control+z');
+    await page.factsAre(/· 5 of/);
     // the switch leaves it out of the candidates and of fills, and is kept
     await browser.click('#apart');
     await listed('SINGLE,WINTER');
@@ -104,6 +105,8 @@ export const CASES = {
     await page.statusIs(/^filled: worst 60/);
     expect((await page.row(3)) === 'SINGLE', `the row is ${await page.row(3)}`);
     await browser.press('Control+z');
+    await page.factsAre(/· 5 of/);
+    await browser.until("window.drafts().split('set ').length === 6");
     await reload();
     await browser.until("document.getElementById('apart').checked");
     await browser.click('#cell-3-1');

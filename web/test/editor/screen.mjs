@@ -160,6 +160,29 @@ export const CASES = {
     expect(gaps.length === 27 && !faults.length, `too close: ${faults.map(([size, letter, ...room]) => `${letter} at ${size}: ${room.map((one) => one.toFixed(1))}`).join('; ')}`);
   },
 
+  async 'a mode and the help on a phone'() {
+    await browser.view(360, 740, { isTouched: true });
+    try {
+      await begin(6);
+      await browser.click('#more');
+      await browser.click('[data-tool=colour]');
+      const outside = await browser.value(`[...document.querySelectorAll('#mode button')].map((button) => button.getBoundingClientRect())
+        .filter(({ width, left, right, bottom }) => !width || left < 0 || right > innerWidth || bottom > innerHeight / 3).length`);
+      expect(outside === 0, `${outside} buttons of the mode are out of sight`);
+      await picture('mode-phone');
+      await browser.click('#mode [data-do=end-mode]');
+      await browser.click('#more');
+      await browser.click('#tools [data-do=help]');
+      await browser.until("document.getElementById('help-dialog').open");
+      const top = await browser.value("document.getElementById('help-title').getBoundingClientRect().top");
+      expect(top > 0, `the help begins ${-top} above its first line`);
+      await browser.press('Escape');
+    } finally {
+      await browser.view(1400, 900);
+      await reload();
+    }
+  },
+
   async 'scores that fold away on a phone'() {
     writeFileSync(join(room, 'folded.txt'), 'cat;50\ncot;60\ncut;100\n');
     await openFile(join(room, 'folded.txt'));
