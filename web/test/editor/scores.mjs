@@ -229,7 +229,7 @@ export const CASES = {
     await browser.press('Control+f');
     await page.statusIs(/^filled; its worst word is raised/);
     // a line tells what is known and what is tried
-    await page.statusIs(/^filled; its worst word is raised: (worst \d+, mean \d+; )?(no fill is better than \d+; )?trying \d+; \d+ s … Esc ends this$/);
+    await page.statusIs(/^filled; its worst word is raised: (worst \d+, mean \d+(, \d+ under \d+)?; )?(no fill is better than \d+; )?trying \d+( for the others)?; \d+ s … Esc ends this$/);
     const told = await page.statusIs(/^filled: worst \d+/);
     const [, worst, better] = /worst (\d+),.*?(?:no fill is better than (\d+))?$/.exec(told);
     await picture('raised');

@@ -4,7 +4,10 @@ ghost use Rattle.std.specs.Prelude.{◌<◌, ◌≤◌};
 use crate::best::grades::NO_BOUND;
 use crate::best::probe::Probe;
 
-/// How many placements a grade gets first.
+/// How many placements a grade gets first, until there is a fill.
+const FIRST: u64 = 750;
+
+/// How many placements a grade gets first after a fill.
 const BUDGET: u64 = 2000;
 
 /// How many grades the second step up goes. The first one goes halfway to the bound.
@@ -66,7 +69,7 @@ impl Pace {
             direction: Direction::Up,
             spent: 0,
             step: NO_BOUND,
-            budget: BUDGET,
+            budget: FIRST,
             stride: 2,
             price: BUDGET,
             up: 0,
