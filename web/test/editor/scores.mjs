@@ -244,7 +244,7 @@ export const CASES = {
     expect(Number(/worst (\d+)/.exec(again)[1]) >= Number(worst), `it is worse: ${again}`);
     await another();
     await page.statusIs(/^filled: worst \d+/);
-    await browser.until("document.querySelectorAll('#fills-list .fill').length >= 3 && [...document.querySelectorAll('#fills-list small')].every(({ textContent }) => /worst \\d+, mean \\d+/.test(textContent))");
+    await browser.until("document.querySelectorAll('#fills-list .fill').length >= 2 && [...document.querySelectorAll('#fills-list small')].every(({ textContent }) => /worst \\d+, mean \\d+/.test(textContent))");
     // those with the best worst words come first
     const figures = (await browser.value("[...document.querySelectorAll('#fills-list small')].map(({ textContent }) => textContent)")).map((text) => /worst (\d+), mean (\d+)/.exec(text).slice(1).map(Number));
     expect(JSON.stringify(figures) === JSON.stringify([...figures].sort((a, b) => b[0] - a[0] || b[1] - a[1])), `the fills come as ${figures.join(' ')}`);
