@@ -117,7 +117,9 @@ const titleOfState = ({ texts, width, height }) => unescapeText(texts.get('title
 function factsOf({ letters, texts }, { at }) {
   const clues = [...texts].filter(([field, text]) => text && field.startsWith('clue ')).length;
   const count = `${letters.size} ${letters.size === 1 ? 'letter' : 'letters'}${clues ? `, ${clues} ${clues === 1 ? 'clue' : 'clues'}` : ''}`;
-  return at ? `${count}, ${new Date(at).toLocaleDateString(undefined, { day: 'numeric', month: 'short', hour: '2-digit', minute: '2-digit' })}` : count;
+  // the time is on one line
+  const time = at && new Date(at).toLocaleDateString(undefined, { day: 'numeric', month: 'short', hour: '2-digit', minute: '2-digit' }).replace(/\s/g, '\u00a0');
+  return at ? `${count}, ${time}` : count;
 }
 
 // the most cells of a grid whose letters are in its picture

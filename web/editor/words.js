@@ -317,7 +317,7 @@ export class WordsView {
   }
 
   get #numbersLegend() {
-    return this.#scores.size ? 'the numbers: its score, and the words left to the tightest light after it' : 'the number: words left to the tightest light after it';
+    return this.#scores.size ? 'the numbers: score, and words left to the tightest light after it' : 'the number: words left to the tightest light after it';
   }
 
   #summary(count) {

@@ -176,6 +176,8 @@ export const CASES = {
       await browser.until("document.getElementById('help-dialog').open");
       const top = await browser.value("document.getElementById('help-title').getBoundingClientRect().top");
       expect(top > 0, `the help begins ${-top} above its first line`);
+      const columns = await browser.value("[...new Set([...document.querySelectorAll('#help-dialog td')].map((cell) => Math.round(cell.getBoundingClientRect().left)))]");
+      expect(columns.length === 1, `what keys do begins at ${columns}`);
       await browser.press('Escape');
     } finally {
       await browser.view(1400, 900);
@@ -242,6 +244,9 @@ export const CASES = {
         const [one, two] = [await lookOf(chosen), await lookOf(other)];
         expect(one.backgroundColor !== two.backgroundColor && one.color !== one.backgroundColor, `${chosen} looks like ${other}: ${one.backgroundColor}`);
       }
+      // the number of the warnings
+      const count = await browser.value("(({ backgroundColor, color, forcedColorAdjust }) => ({ backgroundColor, color, forcedColorAdjust }))(getComputedStyle(document.querySelector('.tabs .count')))");
+      expect(count.forcedColorAdjust === 'none' && count.color !== count.backgroundColor, `the number of the warnings is not seen: ${count.color} on ${count.backgroundColor}`);
       // a word of the list that is pointed at, and a dead cell
       await browser.press('Escape');
       await browser.click('#tab-words');
