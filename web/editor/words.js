@@ -345,7 +345,7 @@ export class WordsView {
     setClass(row, [left === 0 ? 'dead' : '', needs ? 'needs' : ''].filter(Boolean).join(' '));
     const uncounted = this.#isDead ? '' : '·';
     // in a grid that is filled each word that fits fills it
-    const shown = { done: this.#isStanding ? '' : 'fills the grid', 0: 'dead end', undefined: uncounted };
+    const shown = { done: this.#isStanding ? '' : 'fills it', 0: 'dead end', undefined: uncounted };
     setText(row.parts.left, needs && left !== 0 ? needsText(needs) : shown[left] ?? left);
     setTitle(row.parts.left, needs ? `changes ${needsText(needs)}` : LEFT_TITLE);
   }

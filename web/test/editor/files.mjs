@@ -1,5 +1,5 @@
 // Cases of files that are opened and saved, and what is printed.
-import { mkdirSync, rmSync, writeFileSync } from 'node:fs';
+import { mkdirSync, readdirSync, rmSync, writeFileSync } from 'node:fs';
 import { join } from 'node:path';
 import { Xw } from '../../dist/xw.js';
 import { begin, hush, menu, openFile, openRecord, print, saved } from '../doing.mjs';
@@ -28,6 +28,20 @@ export const CASES = {
     await openFile(path);
     await page.statusIs(/checksum/);
     expect((await page.row(1)) === 'ABCD', 'a file that is refused has changed the grid');
+  },
+
+  async 'the finished puzzles of examples/puzzles'() {
+    const folder = new URL('../../../examples/puzzles/', import.meta.url).pathname;
+    const names = readdirSync(folder).filter((name) => name.endsWith('.ipuz'));
+    expect(names.length === 4, `the puzzles are ${names}`);
+    for (const name of names) {
+      await openFile(join(folder, name));
+      await page.statusIs(/^[a-z-]+.ipuz is open; undo/, 'good');
+      await browser.press('F4');
+      // no empty cell, no light without a clue or with a clue of another word, no fault and no warning
+      await browser.until("document.querySelectorAll('#checks li').length === 1 && document.querySelector('#checks li.good')");
+      expect(await browser.value("document.getElementById('title').value && document.getElementById('author').value === 'xw'"), `${name} has no title or another author`);
+    }
   },
 
   async 'text of version 2, and rows of letters'() {
