@@ -179,6 +179,10 @@ export const CASES = {
       const columns = await browser.value("[...new Set([...document.querySelectorAll('#help-dialog td')].map((cell) => Math.round(cell.getBoundingClientRect().left)))]");
       expect(columns.length === 1, `what keys do begins at ${columns}`);
       await browser.press('Escape');
+      await menu('new');
+      const width = await browser.value("(([one, two], dialog) => (two.right - one.left) / dialog)([...document.querySelectorAll('#patterns .pattern')].map((pattern) => pattern.getBoundingClientRect()), document.getElementById('patterns').closest('dialog').clientWidth)");
+      expect(width > 0.85, `two new puzzles take ${width} of the dialog`);
+      await browser.press('Escape');
     } finally {
       await browser.view(1400, 900);
       await reload();
