@@ -22,4 +22,7 @@ pub mod Elements
 pub mod PlacedLemmas
 pub mod WellFormedLemmas
 pub mod SnapshotLemmas
+pub mod Idle
 pub mod JudgeLemmas
+pub mod Noting
+pub mod ToldLemmas

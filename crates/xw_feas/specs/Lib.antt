@@ -23,5 +23,8 @@ pub mod Passes
 pub mod Snapshot
 pub mod PlacedWord
 pub mod Greatest
+pub mod Layout
 pub mod Pending
 pub mod Position
+pub mod Told
+pub mod Written

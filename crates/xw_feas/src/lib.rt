@@ -7,12 +7,16 @@ pub mod changed;
 pub mod edit;
 pub mod feasible;
 pub mod laws;
+pub mod noted;
 pub mod pending;
 pub mod place;
 pub mod position;
 pub mod searchable;
+pub mod told;
+mod turned;
 pub mod word_iter;
 pub mod write;
+pub mod written;
 
 pub use changed::Changed;
 pub use edit::{Edit, Found, Refusal};

@@ -1,5 +1,5 @@
 //! A grid with its lights and a dictionary. An edit is judged, which changes nothing; once there is
-//! room for what is pending, it is made, which cannot fail.
+//! room for what is pending, it is made, which cannot fail, and tells what it changed.
 ghost use Rattle.std.specs.Prelude.{◌≡◌, ◌<◌, length, true, IfOk, IfErr, OnOk, OnErr, IsOk, IsOkUnless, Ok, Err};
 ghost use Rattle.xw_words.specs.Bank.{has_room};
 ghost use Rattle.xw_words.specs.Dictionary.{IsDictionary, IsNew, add_answer, strike_answer};
@@ -14,8 +14,10 @@ ghost use Rattle.xw_feas.specs.State.{Action, after, grid_after, action_of, add_
 ghost use Rattle.xw_feas.specs.WellFormed.{IsWellFormed};
 
 use crate::edit::{Edit, EntryEdit, Refusal};
+use crate::noted::{Notes, make_noted};
 use crate::pending::{InPlace, Pending, ShapeEdit};
 use crate::place::{judge_place, place, place_known};
+use crate::told::Told;
 use crate::write::{judge_cell, judge_list, write};
 use std::alloc::Global;
 use xw_grid::cell::{Cell, Symmetry};
@@ -27,29 +29,38 @@ use xw_words::WordFault;
 use xw_words::bank::{Added, Bank};
 use xw_words::word::{LONGEST, spell};
 
-/// A grid, its lights, and a dictionary.
+/// A grid, its lights, and a dictionary, with the notes of what the last edit changed.
 #[derive(Drop)]
 pub struct Position {
     pub grid: Grid,
     pub lights: Lights,
     pub bank: Bank,
+    pub notes: Notes,
+    ghost room: { length notes.noted.items ≡ length grid.squares },
     ghost light_list: { lights ≡ lights_of grid },
     ghost formed: { IsWellFormed (record { grid = grid; words = bank.words }) } by { IsWellFormed-prop (record { grid = grid; words = bank.words }) },
 }
 
 impl Position {
     ghost use Rattle.xw_feas.specs.Position.{state_of};
+    ghost use Rattle.xw_feas.specs.Told.{IsTold};
 
-    /// The position of a grid and a dictionary. Returns `Memory` if the lights cannot be allocated.
+    /// The position of a grid and a dictionary. Returns `Memory` if an allocation fails.
     #[tactic(auto, using(crate::proofs::WellFormedLemmas::state_formed))]
     pub fn new(alloc: Global, grid: Grid, bank: Bank) -> Result<Position, GridFault>
         ensures state { IfOk result (λ position. state_of position ≡ record { grid = grid; words = bank.words }) }
         ensures memory { IsOkUnless result GridFault.Memory }
     {
         let lights = Lights::of(alloc, &grid)?;
+        let noted = make_noted(alloc, &grid)?;
         grid.well_formed();
         let _ = bank.known(0);
-        Ok(Position { grid, lights, bank })
+        Ok(Position {
+            grid,
+            lights,
+            bank,
+            notes: Notes::of(noted),
+        })
     }
 
     /// Which kind of edit this is, or the rule's refusal.
@@ -131,18 +142,63 @@ impl Position {
         Ok(Pending::InPlace(InPlace::Strike(word, index)))
     }
 
-    /// Makes an edit that needs no memory.
+    /// Makes an edit that needs no memory, and tells what it changed.
     #[tactic(auto, using(crate::proofs::WellFormedLemmas::state_formed))]
-    pub fn commit(&mut self, edit: &InPlace<'_>)
+    pub fn commit(&mut self, edit: &InPlace<'_>) -> Told
         requires { IsInPlace (state_of self.old) edit.now }
         ensures made { after (state_of self.old) (in_place_action edit.now) ≡ Ok (state_of self.new) }
+        ensures lights { self.new.lights ≡ self.old.lights }
         ensures shape { SameShape self.old.grid self.new.grid }
         ensures counts { SameCounts self.old.bank.words self.new.bank.words }
+        ensures told { IsTold (state_of self.old) self.new (in_place_action edit.now) result }
     {
-        make(&mut self.grid, &self.lights, &mut self.bank, edit);
+        let told = self
+            .notes
+            .foretell(&self.grid, &self.lights, &self.bank, edit);
+        change(&mut self.grid, &self.lights, &mut self.bank, edit);
+        self.grid.well_formed();
+        let _ = self.bank.known(0);
+        if told.is_list() {
+            return Told::List(self.notes.keep_changed(&self.grid));
+        }
+        told
     }
 
-    /// Judges and makes an edit of entries.
+    /// Makes an edit of the shape, with the grid and the lights after it, and tells what it changed.
+    #[tactic(auto, using(crate::proofs::WellFormedLemmas::state_formed))]
+    pub fn reshape(&mut self, edit: &ShapeEdit, grid: Grid, lights: Lights) -> Told
+        requires made { grid_after self.old.grid (shape_action edit.now) ≡ Ok grid }
+        requires lights { lights ≡ lights_of grid }
+        requires cells { length grid.squares ≡ length self.old.grid.squares }
+        ensures made { after (state_of self.old) (shape_action edit.now) ≡ Ok (state_of self.new) }
+        ensures state { state_of self.new ≡ record { grid = grid; words = self.old.bank.words } }
+        ensures lights { self.new.lights ≡ lights }
+        ensures result { result ≡ Told.Shape (lights_of self.old.grid) }
+        ensures told { IsTold (state_of self.old) self.new (shape_action edit.now) result }
+    {
+        self.notes.written.note_shape(&self.grid, edit);
+        grid.well_formed();
+        self.grid = grid;
+        Told::Shape(std::mem::replace(&mut self.lights, lights))
+    }
+
+    /// Adds a word that is not known, in reserved room, and tells what it changed.
+    #[tactic(auto, using(crate::proofs::WellFormedLemmas::state_formed))]
+    pub fn append(&mut self, word: &[u8], grade: Option<u8>, index: usize) -> Told
+        requires new { add_answer self.old.bank.words word.now ≡ Ok (Added.New index) }
+        requires room { has_room self.old.bank (length word.now) ≡ true }
+        ensures made { after (state_of self.old) (word_added word.now grade) ≡ Ok (state_of self.new) }
+        ensures grid { self.new.grid ≡ self.old.grid }
+        ensures lights { self.new.lights ≡ self.old.lights }
+        ensures counts { GrowsAt self.old.bank.words self.new.bank.words (length word.now) }
+        ensures result { result ≡ Told.Word (length word.now) index }
+        ensures told { IsTold (state_of self.old) self.new (word_added word.now grade) result }
+    {
+        add_in(&mut self.bank, word, grade);
+        Told::Word(word.len(), index)
+    }
+
+    /// Judges and makes an edit of entries, and notes the cells that it writes.
     #[tactic(auto, using(crate::proofs::WellFormedLemmas::state_formed))]
     pub fn enter(&mut self, edit: &EntryEdit<'_>) -> Result<(), Refusal>
         ensures made { OnOk result (after (state_of self.old) (entry_action edit.now) ≡ Ok (state_of self.new)) }
@@ -150,11 +206,15 @@ impl Position {
         ensures words { self.new.bank.words ≡ self.old.bank.words }
         ensures same { OnErr result (self.new.grid ≡ self.old.grid) }
         ensures shape { SameShape self.old.grid self.new.grid }
+        ensures told { IsTold (state_of self.old) self.new (entry_action edit.now) Told.Cells }
     {
+        self.notes
+            .written
+            .note_entries(&self.grid, &self.lights, edit);
         enter(&mut self.grid, &self.lights, edit)
     }
 
-    /// Places a known word in a light, both by index.
+    /// Places a known word in a light, both by index, and notes the cells that it writes.
     #[tactic(auto, using(crate::proofs::WellFormedLemmas::state_formed))]
     pub fn place_known(&mut self, light: usize, index: usize)
         requires light { light < length (lights_of self.old.grid) }
@@ -162,32 +222,39 @@ impl Position {
         ensures made { after (state_of self.old) (known_placed (state_of self.old) light index) ≡ Ok (state_of self.new) }
         ensures words { self.new.bank.words ≡ self.old.bank.words }
         ensures shape { SameShape self.old.grid self.new.grid }
+        ensures told { IsTold (state_of self.old) self.new (known_placed (state_of self.old) light index) Told.Cells }
     {
+        self.notes
+            .written
+            .note_index(&self.grid, &self.lights, light);
         place_known(&mut self.grid, &self.lights, &self.bank, light, index);
     }
 
-    /// A copy of the grid with an edit of its shape. Returns `Memory` if it cannot be allocated.
-    pub fn shaped(&self, edit: &ShapeEdit) -> Result<Grid, GridFault>
+    /// A copy of the grid with an edit of its shape, and its lights. Returns `Memory` if an allocation fails.
+    pub fn shaped(&self, alloc: Global, edit: &ShapeEdit) -> Result<(Grid, Lights), GridFault>
         requires { IsOk (grid_after self.now.grid (shape_action edit.now)) }
-        ensures ok { IfOk result (λ grid. grid_after self.now.grid (shape_action edit.now) ≡ Ok grid) }
+        ensures ok { IfOk result (λ shaped. grid_after self.now.grid (shape_action edit.now) ≡ Ok shaped.0) }
+        ensures lights { IfOk result (λ shaped. shaped.1 ≡ lights_of shaped.0) }
+        ensures cells { IfOk result (λ shaped. length shaped.0.squares ≡ length self.now.grid.squares) }
         ensures memory { IsOkUnless result GridFault.Memory }
-        ensures cells { IfOk result (λ grid. length grid.squares ≡ length self.now.grid.squares) }
     {
         let mut grid = self.grid.copy()?;
         reshape(&mut grid, edit);
-        Ok(grid)
+        let lights = Lights::of(alloc, &grid)?;
+        Ok((grid, lights))
     }
 
-    /// Replaces the grid and its lights, and returns the lights before.
+    /// Replaces the grid, its lights and the space for its entries.
     #[tactic(auto, using(crate::proofs::WellFormedLemmas::state_formed))]
-    pub fn replace(&mut self, grid: Grid, lights: Lights) -> Lights
-        requires { lights ≡ lights_of grid }
-        ensures state { state_of self.new ≡ record { grid = grid; words = self.old.bank.words } }
-        ensures before { result ≡ lights_of self.old.grid }
+    pub fn replace(&mut self, grid: Grid, lights: Lights, noted: Vec<(Cell, Option<Letter>)>)
+        requires lights { lights ≡ lights_of grid }
+        requires room { length noted.items ≡ length grid.squares }
+        ensures { state_of self.new ≡ record { grid = grid; words = self.old.bank.words } }
     {
         grid.well_formed();
         self.grid = grid;
-        std::mem::replace(&mut self.lights, lights)
+        self.lights = lights;
+        self.notes.noted = noted;
     }
 
     /// Exchanges the grid for one of the same shape.
@@ -222,18 +289,6 @@ impl Position {
     {
         let _ = self.bank.known(word.len());
         self.bank.reserve(word.len())
-    }
-
-    /// Adds a word that is not known, in reserved room.
-    #[tactic(auto, using(crate::proofs::WellFormedLemmas::state_formed))]
-    pub fn append(&mut self, word: &[u8], grade: Option<u8>, index: usize)
-        requires new { add_answer self.old.bank.words word.now ≡ Ok (Added.New index) }
-        requires room { has_room self.old.bank (length word.now) ≡ true }
-        ensures made { after (state_of self.old) (word_added word.now grade) ≡ Ok (state_of self.new) }
-        ensures grid { self.new.grid ≡ self.old.grid }
-        ensures counts { GrowsAt self.old.bank.words self.new.bank.words (length word.now) }
-    {
-        add_in(&mut self.bank, word, grade);
     }
 }
 
@@ -298,20 +353,6 @@ fn reshape(grid: &mut Grid, edit: &ShapeEdit)
 }
 
 /// Makes an edit that needs no memory.
-fn make(grid: &mut Grid, lights: &Lights, bank: &mut Bank, edit: &InPlace<'_>)
-    requires lights { lights.now ≡ lights_of grid.old }
-    requires edit { IsInPlace (record { grid = grid.old; words = bank.old.words }) edit.now }
-    ensures made { after (record { grid = grid.old; words = bank.old.words }) (in_place_action edit.now) ≡ Ok (record { grid = grid.new; words = bank.new.words }) }
-    ensures shape { SameShape grid.old grid.new }
-    ensures counts { SameCounts bank.old.words bank.new.words }
-    ensures grid { IsGrid grid.new }
-    ensures words { IsDictionary bank.new.words }
-{
-    change(grid, lights, bank, edit);
-    grid.well_formed();
-    let _ = bank.known(0);
-}
-
 fn change(grid: &mut Grid, lights: &Lights, bank: &mut Bank, edit: &InPlace<'_>)
     requires lights { lights.now ≡ lights_of grid.old }
     requires edit { IsInPlace (record { grid = grid.old; words = bank.old.words }) edit.now }

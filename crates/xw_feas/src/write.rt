@@ -1,11 +1,13 @@
 //! Writing a list of cells, each with a letter or empty.
-ghost use Rattle.std.specs.Prelude.{◌≡◌, ℕ, true, All, Option, IfErr, OnOk, OnErr, Ok, Err, Some, None};
+ghost use Rattle.std.specs.Prelude.{◌≡◌, ℕ, true, All, Option, IfErr, OnOk, OnErr, Ok, Err, Some, None, IsTrue};
 ghost use Rattle.xw_grid.specs.declared.cell.Cell.{Cell as CellOfGrid};
 ghost use Rattle.xw_grid.specs.Edit.{with_entry};
 ghost use Rattle.xw_grid.specs.EditLaws.{SameShape};
+ghost use Rattle.xw_feas.specs.Layout.{IsIdle};
 ghost use Rattle.xw_feas.specs.Shape.{fault_at};
-ghost use Rattle.xw_feas.specs.State.{write_list};
+ghost use Rattle.xw_feas.specs.State.{entry_action, write_list};
 
+use crate::edit::EntryEdit;
 use xw_grid::cell::Cell;
 use xw_grid::fault::GridFault;
 use xw_grid::grid::Grid;
@@ -70,4 +72,18 @@ pub(crate) fn write(grid: &mut Grid, list: &[(Cell, Option<Letter>)]) -> Result<
     judge_list(grid, list)?;
     enter_list(grid, list);
     Ok(())
+}
+
+/// Whether an edit keeps all entries, so that no answer changes.
+pub(crate) fn is_idle(grid: &Grid, edit: &EntryEdit<'_>) -> bool
+    ensures { IsTrue result → IsIdle grid.now (entry_action edit.now) }
+{
+    match *edit {
+        EntryEdit::Set(cell, letter) => match grid.entry(cell) {
+            Some(entered) => entered.byte() == letter.byte(),
+            None => false,
+        },
+        EntryEdit::Clear(cell) => grid.entry(cell).is_none(),
+        EntryEdit::Place(..) => false,
+    }
 }

@@ -1,5 +1,5 @@
 -- What an engine keeps from one edit to the next.
-use Rattle.std.proofs.Common.{◌≡◌, ℕ, ◌+◌, ◌*◌, ◌<◌, ◌≤◌, Bool, true, false, add-zero, List, length, Some, None, sym, ◌∙◌, ap, subst, arith}
+use Rattle.std.proofs.Common.{◌≡◌, ℕ, ◌+◌, ◌<◌, ◌≤◌, Bool, true, false, add-zero, List, length, Some, None, sym, ◌∙◌, ap, subst, arith}
 use Rattle.std.specs.Prelude.{Option, slice_get, is_some, if◌then◌else◌}
 use Rattle.std.proofs.lemmas.Bool.{false≢true}
 use Rattle.std.proofs.Math.Logic.{∥∥₁_elim}
@@ -9,7 +9,7 @@ use Rattle.std.specs.Coded.{Coded-set, coded_ℕ, le_prop}
 use Rattle.std.proofs.lemmas.List.{length-map}
 use Rattle.xw_letters.specs.LetterSet.{letters_in}
 use Rattle.xw_words.specs.Dictionary.{Dictionary}
-use Rattle.xw_grid.specs.Grid.{Grid, IsGrid, index_of}
+use Rattle.xw_grid.specs.Grid.{Grid, index_of}
 use Rattle.xw_grid.specs.declared.lights.Light.{Light}
 use Rattle.xw_grid.specs.Light.{lights_of, cells_of}
 use Rattle.xw_grid.proofs.LightLemmas.{length-line}
@@ -80,6 +80,11 @@ pub room_without : (lights after : List Light) (counts : ℕ → ℕ) (net : Net
 room_without lights after counts net None none same room = (same, room)
 room_without lights after counts net (Some spare) none same room = absurd (false≢true (sym none))
 
+-- room in the net itself, if no arrays are spare
+pub room_in_place : (lights : List Light) (counts : ℕ → ℕ) (net : Net) (waiting : Option Spare) → is_some waiting ≡ false → HasRoomIn lights counts net waiting → HasRoom lights counts net
+room_in_place lights counts net None none room = room
+room_in_place lights counts net (Some spare) none room = absurd (false≢true (sym none))
+
 -- room for other lights, in the spare arrays
 pub room_waiting : (before after : List Light) (counts : ℕ → ℕ) (net : Net) (waiting : Option Spare) → is_some waiting ≡ true → HasRoom before counts net → HasRoomIn after counts net waiting → HasRoomBetween before after counts net waiting
 room_waiting before after counts net (Some spare) waits room spare_room = (room, spare_room)
@@ -93,22 +98,14 @@ one_if false n = (omega arith, omega arith)
 pub room_for_none : (lights : List Light) (words : Dictionary) (net : Net) (waiting : Option Spare) → HasRoomIn lights (λ len. known_counts words len + (if grows None len then 1 else 0)) net waiting → HasRoomIn lights (known_counts words) net waiting
 room_for_none lights words net waiting room = subst (λ known. HasRoomIn lights known net waiting) (λ i len. add-zero (known_counts words len) i) room
 
--- if the number of known words stays, there is room for them
-pub room_for_same : (lights : List Light) (old new : Dictionary) (net : Net) → SameCounts old new → HasRoom lights (known_counts old) net → HasRoom lights (known_counts new) net
-room_for_same lights old new net same room = subst (λ known. HasRoom lights known net) (λ i len. sym (same len) i) room
-
--- if there is one more known word of a length, there is room for it
-pub room_for_grown : (lights : List Light) (old new : Dictionary) (grown : ℕ) (net : Net) → GrowsAt old new grown → HasRoom lights (λ len. known_counts old len + (if grows (Some grown) len then 1 else 0)) net → HasRoom lights (known_counts new) net
-room_for_grown lights old new grown net more room = subst (λ known. HasRoom lights known net) (λ i len. sym (more len) i) room
-
 -- ---- what a net was settled for
 
-near_same : (old new : Dictionary) (word : Option (ℕ × ℕ)) → SameCounts old new → (len : ℕ) → (known_counts old len ≤ known_counts new len) × (known_counts new len ≤ known_counts old len + lacking word len)
+pub near_same : (old new : Dictionary) (word : Option (ℕ × ℕ)) → SameCounts old new → (len : ℕ) → (known_counts old len ≤ known_counts new len) × (known_counts new len ≤ known_counts old len + lacking word len)
 near_same old new word same len =
     let is : known_counts new len ≡ known_counts old len = same len in
     (omega (arith, is), omega (arith, is))
 
-near_grown : (old new : Dictionary) (grown index : ℕ) → GrowsAt old new grown → (len : ℕ) → (known_counts old len ≤ known_counts new len) × (known_counts new len ≤ known_counts old len + lacking (Some (grown, index)) len)
+pub near_grown : (old new : Dictionary) (grown index : ℕ) → GrowsAt old new grown → (len : ℕ) → (known_counts old len ≤ known_counts new len) × (known_counts new len ≤ known_counts old len + lacking (Some (grown, index)) len)
 near_grown old new grown index more len =
     let is : known_counts new len ≡ known_counts old len + (if grows (Some grown) len then 1 else 0) = more len in
     let same : grows (Some grown) len ≡ is_long (Some (grown, index)) len = eqb_other_way len grown in
@@ -119,19 +116,9 @@ module _ (state : State) (net : Net) (lights : List Light) (are : lights ≡ lig
   abbrev pub stands_for : StandsFor lights net
   stands_for = record { state = state; are_lights = sym are; settled = known }
 
-  -- the number of known words stays
-  pub stood_same : (new : Dictionary) (word : Option (ℕ × ℕ)) → SameCounts state.words new → StoodFor lights word (known_counts new) net
-  stood_same new word same = record { stands = stands_for; near = near_same state.words new word same }
-
-  -- there is one more known word of a length
-  pub stood_grown : (new : Dictionary) (grown index : ℕ) → GrowsAt state.words new grown → StoodFor lights (Some (grown, index)) (known_counts new) net
-  stood_grown new grown index more = record { stands = stands_for; near = near_grown state.words new grown index more }
-
--- ---- cells
-
--- a grid of the same size has the same number of cells
-pub as_many_cells : (old new : Grid) → IsGrid old → IsGrid new → new.width ≡ old.width → new.height ≡ old.height → length old.squares ≡ length new.squares
-as_many_cells old new is is' width height = is.squares ∙ ap (λ w. w * old.height) (sym width) ∙ ap (λ h. new.width * h) (sym height) ∙ sym is'.squares
+  -- no word became known, except perhaps the changed one
+  pub stood_near : (counts : ℕ → ℕ) (word : Option (ℕ × ℕ)) → ((len : ℕ) → (known_counts state.words len ≤ counts len) × (counts len ≤ known_counts state.words len + lacking word len)) → StoodFor lights word counts net
+  stood_near counts word near = record { stands = stands_for; near = near }
 
 -- ---- the answers of an engine
 

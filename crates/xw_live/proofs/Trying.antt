@@ -17,10 +17,10 @@ use Rattle.xw_net.specs.Net.{known_counts}
 use Rattle.xw_net.proofs.Nets.CopiedNets.{settled_reusable, stopped_reusable}
 use Rattle.xw_live.specs.Engine.{IsKept}
 
-pub none_gives : {A : Type 0} (result : Option ℕ) → result ≡ None → IfNone result A → A
-none_gives {A} result none is = subst (λ r. IfNone r A) none is
+pub none_gives : {X A : Type 0} (result : Option X) → result ≡ None → IfNone result A → A
+none_gives {X} {A} result none is = subst (λ r. IfNone r A) none is
 
-pub some_gives : (P : ℕ → Type 0) (result : Option ℕ) (light : ℕ) → result ≡ Some light → IfSome result P → P light
+pub some_gives : {X : Type 0} (P : X → Type 0) (result : Option X) (light : X) → result ≡ Some light → IfSome result P → P light
 some_gives P result light some is = subst (λ r. IfSome r P) some is
 
 -- a light at which a net stopped has no feasible word

@@ -1,17 +1,17 @@
 -- The invariant of the engine between edits.
-use Rattle.std.specs.Prelude.{◌≡◌, false, List, is_some, length}
-use Rattle.xw_words.specs.Dictionary.{Dictionary}
-use Rattle.xw_grid.specs.declared.lights.Light.{Light}
-use Rattle.xw_grid.specs.Grid.{Grid}
+use Rattle.std.specs.Prelude.{◌≡◌, ℕ, ◌≤◌, false, is_some, length}
 use Rattle.xw_grid.specs.Light.{lights_of}
 use Rattle.xw_feas.specs.AnswersOf.{answers_of}
 use Rattle.xw_feas.specs.Board.{board_of}
 use Rattle.xw_feas.specs.Feasible.{Answers, AreAnswers}
 use Rattle.xw_feas.specs.Single.{AreAnswers-prop}
 use Rattle.xw_feas.specs.State.{State}
-use Rattle.xw_net.specs.declared.change.Change.{Change}
+use Rattle.xw_feas.specs.Written.{Fields}
+use Rattle.xw_feas.specs.declared.noted.Notes.{Notes}
+use Rattle.xw_feas.specs.declared.position.Position.{Position}
+use Rattle.xw_feas.specs.declared.told.Told.{Told}
+use Rattle.xw_feas.specs.declared.told.Told.TheVariants.{List as Listed}
 use Rattle.xw_net.specs.declared.net.Net.{Net}
-use Rattle.xw_net.specs.Change.{before_of, cells_of, word_of}
 use Rattle.xw_net.specs.Fit.{HasRoomBetween}
 use Rattle.xw_net.specs.Net.{flags_of, sets_of, known_counts, IsSettledFor, StoodFor}
 use Rattle.xw_net.specs.Update.{AreInside}
@@ -38,8 +38,12 @@ IsKept-prop state net x y = λ i. record {
 }
 
 -- the conditions of `Net::settle` that do not concern the words
-pub record CanFollow (grid : Grid) (lights : List Light) (words : Dictionary) (change : Change) (net : Net) : Type 0 where
-  pub inside : AreInside grid (cells_of change)
-  pub cells : length (sets_of net) ≡ length grid.squares
-  pub stood : StoodFor (before_of lights change) (word_of change) (known_counts words) net
-  pub room : HasRoomBetween (before_of lights change) lights (known_counts words) net net.spare
+pub record CanFollow (now : Position) (fields : Fields) (net : Net) : Type 0 where
+  pub inside : AreInside now.grid fields.cells
+  pub cells : length (sets_of net) ≡ length now.grid.squares
+  pub stood : StoodFor fields.before fields.word (known_counts now.bank.words) net
+  pub room : HasRoomBetween fields.before now.lights (known_counts now.bank.words) net net.spare
+
+-- the notes have as many cells of a list as are told
+abbrev pub IsNoted : Notes → Told → Type 0
+IsNoted notes told = (count : ℕ) → told ≡ Listed count → count ≤ length notes.noted.items

@@ -1,4 +1,3 @@
 pub mod Engine
-pub mod Idle
 pub mod Live
 pub mod Saved

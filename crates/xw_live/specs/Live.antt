@@ -4,11 +4,11 @@ use Rattle.xw_grid.specs.Light.{lights_of}
 use Rattle.xw_feas.specs.Engine.{IsEdited}
 use Rattle.xw_feas.specs.Feasible.{Answers}
 use Rattle.xw_feas.specs.State.{State, Action, after}
+use Rattle.xw_feas.specs.Told.{is_symmetry}
 use Rattle.xw_feas.specs.declared.edit.Refusal.{Refusal}
 use Rattle.xw_feas.specs.declared.changed.Changed.{Changed}
 use Rattle.xw_live.specs.declared.live.Live.{Live}
 use Rattle.xw_live.specs.Engine.{net_answers}
-use Rattle.xw_live.specs.Idle.{is_symmetry}
 use Rattle.xw_net.specs.Net.{flags_of, sets_of}
 use Rattle.xw_net.specs.Cost.{RoseWithinCost}
 

@@ -2,12 +2,8 @@
 #![tactic(auto)]
 
 pub mod live;
-mod noted;
-mod placing;
 pub mod searching;
 mod settling;
-mod turned;
-mod written;
 
 pub use live::Live;
 pub use searching::Saved;

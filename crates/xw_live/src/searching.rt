@@ -6,12 +6,10 @@ ghost use Rattle.xw_live.specs.Engine.{IsKept, IsKept-prop};
 
 use crate::live::Live;
 use crate::settling::{keep_letters, try_settle};
-use crate::written::{Written, one_cell};
 use std::alloc::AllocError;
 use std::snapshot::Snapshot;
 use xw_feas::edit::{EntryEdit, Refusal};
 use xw_feas::searchable::Searchable;
-use xw_grid::cell::Cell;
 use xw_grid::grid::Grid;
 use xw_letters::letter::Letter;
 use xw_net::change::Change;
@@ -38,15 +36,11 @@ fn is_letter(edit: &EntryEdit<'_>) -> bool {
 }
 
 impl Live {
-    ghost use Rattle.std.specs.Prelude.{◌≡◌, ◌≤◌, true, OnErr};
+    ghost use Rattle.std.specs.Prelude.{◌≡◌, true};
     ghost use Rattle.xw_grid.specs.Light.{lights_of};
     ghost use Rattle.xw_feas.specs.Board.{board_of};
-    ghost use Rattle.xw_feas.specs.State.{entry_action};
-    ghost use Rattle.xw_feas.specs.Trying.{IsTried};
     ghost use Rattle.xw_live.specs.Live.{state_of};
-    ghost use Rattle.xw_live.specs.Saved.{saved_state};
     ghost use Rattle.xw_net.specs.Brought.{IsBase};
-    ghost use Rattle.xw_net.specs.Change.{entries_written};
     ghost use Rattle.xw_net.specs.Copy.{CanCopy, IsCopy};
 
     /// Copies the net to another one, which stands for the grid `before`. If `same_words`, it stands for the same
@@ -69,78 +63,6 @@ impl Live {
             );
         } else {
             net.copy_all_from(&self.net, &position.grid, &position.lights);
-        }
-    }
-
-    /// Tries an edit of entries that writes these cells. Stops at the first watched light that dies, and then copies
-    /// the state back from `mark`.
-    fn try_cells(
-        &mut self,
-        edit: &EntryEdit<'_>,
-        cells: &[(Cell, Option<Letter>)],
-        watched: &[bool],
-        mark: &Saved,
-    ) -> Result<Option<usize>, Refusal>
-        requires marked { saved_state mark.now ≡ state_of self.old }
-        requires cells { cells.now ≡ entries_written (state_of self.old).grid (entry_action edit.now) }
-        ensures tried { IsTried (state_of self.old) (entry_action edit.now) watched.now result (state_of self.new) }
-        ensures risen { self.old.spent ≤ self.new.spent }
-        ensures refused { OnErr result (self.new.spent ≡ self.old.spent) }
-    {
-        self.position.enter(edit)?;
-        keep_letters(&mut self.before, &self.net);
-        let change = Change::Letters(cells);
-        let in_turn = is_letter(edit);
-        let (dead, spent) = try_settle(
-            &mut self.net,
-            self.spent,
-            &change,
-            &self.position,
-            watched,
-            in_turn,
-        );
-        self.spent = spent;
-        let Some(light) = dead else {
-            return Ok(None);
-        };
-        let position = &self.position;
-        self.net.copy_from(
-            &mark.net,
-            &position.grid,
-            &mark.grid,
-            &position.lights,
-            &position.bank,
-        );
-        self.position.copy_grid(&mark.grid);
-        Ok(Some(light))
-    }
-
-    /// Tries an edit of entries. Stops at the first watched light that dies, and then copies the state back from
-    /// `mark`.
-    fn try_entries(
-        &mut self,
-        edit: &EntryEdit<'_>,
-        watched: &[bool],
-        mark: &Saved,
-    ) -> Result<Option<usize>, Refusal>
-        requires { saved_state mark.now ≡ state_of self.old }
-        ensures tried { IsTried (state_of self.old) (entry_action edit.now) watched.now result (state_of self.new) }
-        ensures risen { self.old.spent ≤ self.new.spent }
-        ensures refused { OnErr result (self.new.spent ≡ self.old.spent) }
-    {
-        match *edit {
-            EntryEdit::Set(cell, _) => {
-                let cells = one_cell(&self.position.grid, cell);
-                self.try_cells(edit, &cells, watched, mark)
-            }
-            EntryEdit::Clear(cell) => {
-                let cells = one_cell(&self.position.grid, cell);
-                self.try_cells(edit, &cells, watched, mark)
-            }
-            EntryEdit::Place(name, _) => {
-                let cells = Written::of_name(&self.position, name);
-                self.try_cells(edit, cells.as_slice(), watched, mark)
-            }
         }
     }
 }
@@ -201,7 +123,32 @@ impl Searchable for Live {
         ensures risen { self.old.spent ≤ self.new.spent }
         ensures refused { OnErr result (self.new.spent ≡ self.old.spent) }
     {
-        self.try_entries(edit, watched, mark)
+        self.position.enter(edit)?;
+        keep_letters(&mut self.before, &self.net);
+        let position = &self.position;
+        let change = Change::Letters(position.notes.written.as_slice());
+        let in_turn = is_letter(edit);
+        let (dead, spent) = try_settle(
+            &mut self.net,
+            self.spent,
+            &change,
+            position,
+            watched,
+            in_turn,
+        );
+        self.spent = spent;
+        let Some(light) = dead else {
+            return Ok(None);
+        };
+        self.net.copy_from(
+            &mark.net,
+            &position.grid,
+            &mark.grid,
+            &position.lights,
+            &position.bank,
+        );
+        self.position.copy_grid(&mark.grid);
+        Ok(Some(light))
     }
 
     fn tally(&self, light: usize, position: usize, letter: Letter) -> usize {

@@ -1,34 +1,32 @@
 //! The steps of an edit that update the net.
-ghost use Rattle.std.specs.Prelude.{◌≡◌, ◌+◌, ◌<◌, ◌≤◌, ℕ, length, if◌then◌else◌, true, false, is_some, slice_index_or, IsTrue, Some, IfSome, IfNone, IfErr, OnOk, OnErr, Ok};
-ghost use Rattle.xw_words.specs.Bank.{has_room};
-ghost use Rattle.xw_words.specs.Dictionary.{add_answer};
+ghost use Rattle.std.specs.Prelude.{◌≡◌, ◌≢◌, ◌<◌, ◌≤◌, length, true, false, is_some, slice_index_or, IfSome, IfNone, IfOk, IfErr, OnOk, OnErr, Ok};
 ghost use Rattle.xw_feas.specs.Board.{board_of};
-ghost use Rattle.xw_feas.specs.Rows.{grows};
-ghost use Rattle.xw_feas.specs.State.{State, Action, entry_action};
+ghost use Rattle.xw_feas.specs.Pending.{pending_action, IsPending};
+ghost use Rattle.xw_feas.specs.Position.{state_of};
+ghost use Rattle.xw_feas.specs.State.{State, Action, after, IsRefused};
+ghost use Rattle.xw_feas.specs.Told.{told_by, IsTold};
 ghost use Rattle.xw_net.specs.Change.{fields_of, IsChange};
 ghost use Rattle.xw_net.specs.Cost.{RoseWithinCost};
 ghost use Rattle.xw_net.specs.Filled.{IsStoppedAt};
-ghost use Rattle.xw_live.specs.Engine.{CanFollow, IsKept};
-ghost use Rattle.xw_live.specs.Idle.{IsIdle};
-ghost use Rattle.xw_net.specs.Net.{StandsFor, IsSettledFor, IsAlike, known_counts, sets_of};
-ghost use Rattle.xw_net.specs.Room.{HasRoom};
+ghost use Rattle.xw_live.specs.Engine.{CanFollow, IsKept, IsNoted};
+ghost use Rattle.xw_net.specs.Net.{IsSettledFor, IsAlike, sets_of};
 
-use xw_feas::edit::{EntryEdit, Refusal};
+use std::alloc::Global;
+use xw_feas::edit::Refusal;
+use xw_feas::pending::Pending;
 use xw_feas::position::Position;
-use xw_grid::grid::Grid;
+use xw_feas::told::Told;
 use xw_letters::letter_set::LetterSet;
 use xw_net::change::Change;
 use xw_net::net::Net;
 use xw_net::trial::Trial;
-use xw_words::WordFault;
-use xw_words::bank::Added;
 use xw_words::counted::Counted;
 use xw_words::rows::Rows;
 
 /// Updates a net to the answers for a grid and a dictionary after a change. Returns the ticks so
 /// far.
 pub fn settle(net: &mut Net, spent: u64, change: &Change<'_>, position: &Position) -> u64
-    requires { CanFollow position.now.grid position.now.lights position.now.bank.words change.now net.old }
+    requires { CanFollow position.now (fields_of position.now.lights change.now) net.old }
     ensures risen { spent ≤ result }
     ensures kept { (before : State) (action : Action) →
         IsChange before (record { grid = position.now.grid; words = position.now.bank.words }) action (fields_of position.now.lights change.now) →
@@ -55,7 +53,7 @@ pub fn try_settle(
     watched: &[bool],
     in_turn: bool,
 ) -> (Option<usize>, u64)
-    requires { CanFollow position.now.grid position.now.lights position.now.bank.words change.now net.old }
+    requires { CanFollow position.now (fields_of position.now.lights change.now) net.old }
     ensures risen { spent ≤ result.1 }
     ensures none_waits { is_some net.new.spare ≡ false }
     ensures kept { IfNone result.0 ((before : State) (action : Action) →
@@ -88,40 +86,63 @@ pub fn keep_letters(before: &mut Vec<LetterSet>, net: &Net)
     before.as_mut_slice().copy_from_slice(net.letters());
 }
 
-/// Whether an edit keeps all entries, so that no answer changes.
-pub fn is_idle(grid: &Grid, edit: &EntryEdit<'_>) -> bool
-    ensures { IsTrue result → IsIdle grid.now (entry_action edit.now) }
+/// The change that a net is told of; none if no answer changed.
+pub fn change_of<'a>(position: &'a Position, told: &'a Told) -> Option<Change<'a>>
+    requires { IsNoted position.now.notes told.now }
+    ensures some { IfSome result (λ change. fields_of position.now.lights change ≡ told_by position.now told.now) }
+    ensures none { IfNone result (told.now ≡ Told.Nothing) }
+    ensures something { IfSome result (λ _. told.now ≢ Told.Nothing) }
 {
-    match *edit {
-        EntryEdit::Set(cell, letter) => match grid.entry(cell) {
-            Some(entered) => entered.byte() == letter.byte(),
-            None => false,
+    Some(match told {
+        Told::Nothing => return None,
+        Told::Cells => Change::Letters(position.notes.written.as_slice()),
+        Told::List(count) => Change::Letters(&position.notes.noted[..*count]),
+        Told::Shape(before) => Change::Shape {
+            before,
+            cells: position.notes.written.as_slice(),
         },
-        EntryEdit::Clear(cell) => grid.entry(cell).is_none(),
-        EntryEdit::Place(..) => false,
-    }
+        Told::Word(len, index) => Change::Word {
+            len: *len,
+            index: *index,
+        },
+        Told::Least(least) => Change::Words {
+            turned: &position.notes.turned,
+            back: position.bank.least() < *least,
+        },
+    })
 }
 
-/// Reserves room for a word that is not known, in the dictionary and in the net. Returns `Memory`
-/// if an allocation fails.
-pub fn make_room(
+/// Makes an edit that no rule refuses, and tells what it changed. It reserves first what the position and the net need.
+/// Returns `Memory` if an allocation fails, and then changes nothing.
+pub fn apply(
     net: &mut Net,
     position: &mut Position,
-    word: &[u8],
-    index: usize,
-) -> Result<(), Refusal>
-    requires stands { StandsFor position.old.lights net.old }
-    requires new { add_answer position.old.bank.words word.now ≡ Ok (Added.New index) }
-    ensures grid { position.new.grid ≡ position.old.grid }
-    ensures lights { position.new.lights ≡ position.old.lights }
-    ensures words { position.new.bank.words ≡ position.old.bank.words }
-    ensures same { IsAlike net.old net.new }
-    ensures bank_room { OnOk result (has_room position.new.bank (length word.now) ≡ true) }
-    ensures net_room { OnOk result (HasRoom position.new.lights (λ len. known_counts position.new.bank.words len + (if grows (Some (length word.now)) len then 1 else 0)) net.new) }
-    ensures none_waits { OnOk result (is_some net.new.spare ≡ false) }
+    alloc: Global,
+    edit: &Pending<'_>,
+) -> Result<Told, Refusal>
+    requires kept { IsKept (state_of position.old) net.old }
+    requires pending { IsPending (state_of position.old) edit.now }
+    ensures made { OnOk result (after (state_of position.old) (pending_action edit.now) ≡ Ok (state_of position.new)) }
+    ensures told { IfOk result (λ told. IsTold (state_of position.old) position.new (pending_action edit.now) told) }
+    ensures cells { OnOk result (length position.new.grid.squares ≡ length position.old.grid.squares) }
+    ensures follow { IfOk result (λ told. told ≢ Told.Nothing → CanFollow position.new (told_by position.new told) net.new) }
+    ensures refused { IfErr result (λ refusal. IsRefused (state_of position.old) (pending_action edit.now) refusal) }
+    ensures same { OnErr result (state_of position.new ≡ state_of position.old) }
+    ensures alike { IsAlike net.old net.new }
     ensures spare { OnErr result (net.new.spare ≡ net.old.spare) }
-    ensures memory { IfErr result (λ refusal. refusal ≡ Refusal.Word WordFault.Memory) }
+    ensures waits { IfOk result (λ told. told ≡ Told.Nothing → is_some net.new.spare ≡ false) }
 {
-    position.reserve(word, index)?;
-    net.reserve(&position.lights, &position.bank, Some(word.len()))
+    match edit {
+        Pending::InPlace(edit) => Ok(position.commit(edit)),
+        Pending::Shape(edit) => {
+            let (grid, lights) = position.shaped(alloc, edit)?;
+            net.reserve(&lights, &position.bank, None)?;
+            Ok(position.reshape(edit, grid, lights))
+        }
+        Pending::New(word, grade, index) => {
+            position.reserve(word, *index)?;
+            net.reserve(&position.lights, &position.bank, Some(word.len()))?;
+            Ok(position.append(word, *grade, *index))
+        }
+    }
 }

@@ -1,28 +1,16 @@
 -- What a net is told of an edit.
-use Rattle.std.specs.Prelude.{◌≡◌, ℕ, ◌<◌, Bool, true, false, not, nat_lt, List, [], map, length, Option, Some, None, Result, Ok, Err, slice_get, slice_index_or, Contains}
-use Rattle.xw_words.specs.declared.fault.WordFault.{WordFault}
-use Rattle.xw_words.specs.declared.bank.Added.{Added}
-use Rattle.xw_words.specs.declared.bank.Added.TheVariants.{New, Returned}
-use Rattle.xw_words.specs.Dictionary.{Entry, Dictionary, row, entry_at, add_answer, strike_answer, capped}
+use Rattle.std.specs.Prelude.{◌≡◌, ℕ, ◌<◌, Bool, true, false, List, [], map, length, Option, Some, None, Ok, slice_get, slice_index_or, Contains}
+use Rattle.xw_words.specs.Dictionary.{Entry, Dictionary, row, entry_at}
 use Rattle.xw_grid.specs.declared.cell.Cell.{Cell}
-use Rattle.xw_grid.specs.Grid.{Grid, entry, index_of}
+use Rattle.xw_grid.specs.Grid.{Grid, index_of}
 use Rattle.xw_grid.specs.declared.lights.Light.{Light}
 use Rattle.xw_grid.specs.Light.{lights_of}
-use Rattle.xw_feas.specs.State.{State, Action, after, word_added, word_struck, least_chosen}
+use Rattle.xw_feas.specs.State.{State, Action, after}
 use Rattle.xw_feas.specs.WellFormed.{IsWellFormed}
 use Rattle.xw_net.specs.declared.change.Change.{Change}
 use Rattle.xw_net.specs.declared.change.Change.TheVariants.{Letters, Shape, Word, Words}
-use Rattle.xw_net.specs.Region.{same_entry, cells_written, turns_words}
-
--- the fields of a change, as a view: the cells that were written, each with its entry before; the
--- lights before; the length and index of the word that was added or struck; for each length whether the least grade made a
--- word active or left one out; and whether it may have made some active
-pub record Fields : Type 0 where
-  pub cells : List (Cell × Option ℕ)
-  pub before : List Light
-  pub word : Option (ℕ × ℕ)
-  pub turned : ℕ → Bool
-  pub back : Bool
+use Rattle.xw_feas.specs.Written.{turns_words}
+pub use Rattle.xw_feas.specs.Written.{Fields, with_entry_of, is_changed, entries_written, index_added, index_struck, word_changed, brings_back}
 
 -- the cells of a change
 abbrev pub cells_of : Change → List (Cell × Option ℕ)
@@ -62,40 +50,6 @@ back_of (Words turned back) = back
 -- the fields of a change, given the lights after it
 abbrev pub fields_of : List Light → Change → Fields
 fields_of lights change = record { cells = cells_of change; before = before_of lights change; word = word_of change; turned = turned_of change; back = back_of change }
-
--- a cell with its entry
-abbrev pub with_entry_of : Grid → Cell → Cell × Option ℕ
-with_entry_of grid cell = (cell, entry grid cell)
-
--- whether the entry of a cell differs from the listed one
-abbrev pub is_changed : Grid → Cell × Option ℕ → Bool
-is_changed grid listed = not (same_entry listed.1 (entry grid listed.0))
-
--- the cells that an edit writes, each with its entry before the edit
-abbrev pub entries_written : Grid → Action → List (Cell × Option ℕ)
-entries_written grid action = map (with_entry_of grid) (cells_written grid action)
-
--- the length and index of an added word
-abbrev pub index_added : ℕ → Result Added WordFault → Option (ℕ × ℕ)
-index_added len (Ok (New index)) = Some (len, index)
-index_added len (Ok (Returned index)) = Some (len, index)
-index_added len (Err fault) = None
-
--- the length and index of a struck word
-abbrev pub index_struck : ℕ → Result ℕ WordFault → Option (ℕ × ℕ)
-index_struck len (Ok index) = Some (len, index)
-index_struck len (Err fault) = None
-
--- the length and index of the word that an edit adds or strikes
-abbrev pub word_changed : Dictionary → Action → Option (ℕ × ℕ)
-word_changed words (word_added word grade) = index_added (length word) (add_answer words word)
-word_changed words (word_struck word) = index_struck (length word) (strike_answer words word)
-word_changed words other = None
-
--- whether an edit chooses a lower least grade than before, which may bring words back
-abbrev pub brings_back : Dictionary → Action → Bool
-brings_back words (least_chosen grade) = nat_lt (capped grade) words.least
-brings_back words other = false
 
 -- the indices of the listed cells
 abbrev pub indices_listed : Grid → List (Cell × Option ℕ) → List ℕ

@@ -1,8 +1,6 @@
 //! An engine that computes all answers from scratch after each edit.
-ghost use Rattle.std.specs.Prelude.{◌≡◌, length, IfOk, IfErr, OnErr, IsOkUnless, OnOk, Ok, Err, IsOk};
-ghost use Rattle.xw_words.specs.Dictionary.{add_answer};
+ghost use Rattle.std.specs.Prelude.{◌≡◌, length, IfOk, IfErr, OnErr, IsOkUnless, OnOk, Ok, Err};
 ghost use Rattle.xw_grid.specs.EditLaws.{SameShape};
-ghost use Rattle.xw_grid.specs.Light.{lights_of};
 ghost use Rattle.xw_feas.specs.AnswersOf.{answers_of};
 ghost use Rattle.xw_feas.specs.Board.{board_of};
 ghost use Rattle.xw_feas.specs.Changed.{changes_left};
@@ -10,10 +8,11 @@ ghost use Rattle.xw_feas.specs.Changes.{changed_sets};
 ghost use Rattle.xw_feas.specs.Choices.{IsExact};
 ghost use Rattle.xw_feas.specs.Feasible.{AreAnswers};
 ghost use Rattle.xw_feas.specs.Flags.{flag_at, set_has};
-ghost use Rattle.xw_feas.specs.Pending.{in_place_action, shape_action, IsInPlace};
+ghost use Rattle.xw_feas.specs.Pending.{pending_action, IsPending};
+ghost use Rattle.xw_feas.specs.Position.{state_of as position_state};
 ghost use Rattle.xw_feas.specs.Single.{IsExact-prop};
 ghost use Rattle.xw_feas.specs.Standing.{HasRows};
-ghost use Rattle.xw_feas.specs.State.{action_of, grid_after, word_added};
+ghost use Rattle.xw_feas.specs.State.{action_of, after, IsRefused};
 ghost use Rattle.xw_plain.specs.Stands.{AreAnswered, AreAnswered-prop};
 
 use crate::flags::Flags;
@@ -24,13 +23,14 @@ use xw_feas::board::{Board, has_all_entries};
 use xw_feas::changed::{Changed, make_grid_sets};
 use xw_feas::edit::{Edit, Found, Refusal};
 use xw_feas::feasible::Feasible;
-use xw_feas::pending::{InPlace, Pending, ShapeEdit};
+use xw_feas::noted::make_noted;
+use xw_feas::pending::Pending;
 use xw_feas::position::Position;
 use xw_grid::fault::GridFault;
 use xw_grid::grid::Grid;
 use xw_grid::lights::Lights;
 use xw_letters::letter_set::LetterSet;
-use xw_words::bank::{Added, Bank};
+use xw_words::bank::Bank;
 
 /// Computes the feasible words and letters of a position, whatever the arrays held before.
 fn settle_position(position: &Position, words: &mut Vec<Flags>, letters: &mut Vec<LetterSet>)
@@ -64,6 +64,43 @@ fn settle_anew(
 {
     before.as_mut_slice().copy_from_slice(letters);
     settle_position(position, words, letters);
+}
+
+/// Makes an edit that no rule refuses, with rows of flags that fit after it. It allocates the rows first, so a failed
+/// allocation changes nothing. The letters tell the prover the number of cells.
+fn make(
+    alloc: Global,
+    position: &mut Position,
+    words: &mut Vec<Flags>,
+    letters: &Vec<LetterSet>,
+    edit: &Pending<'_>,
+) -> Result<(), Refusal>
+    requires rows { HasRows (board_of position.old.grid) position.old.bank.words words.old.items letters.now.items }
+    requires pending { IsPending (position_state position.old) edit.now }
+    ensures made { OnOk result (after (position_state position.old) (pending_action edit.now) ≡ Ok (position_state position.new)) }
+    ensures rows { OnOk result (HasRows (board_of position.new.grid) position.new.bank.words words.new.items letters.now.items) }
+    ensures refused { IfErr result (λ refusal. IsRefused (position_state position.old) (pending_action edit.now) refusal) }
+    ensures same { OnErr result (position_state position.new ≡ position_state position.old) }
+    ensures kept { OnErr result (words.new ≡ words.old) }
+{
+    let _ = letters;
+    match edit {
+        Pending::InPlace(edit) => {
+            let _ = position.commit(edit);
+        }
+        Pending::Shape(edit) => {
+            let (grid, lights) = position.shaped(alloc, edit)?;
+            *words = make_grid_rows(alloc, &grid, &lights, &position.bank)?;
+            let _ = position.reshape(edit, grid, lights);
+        }
+        Pending::New(word, grade, index) => {
+            let rows = make_grown_rows(alloc, position, word.len())?;
+            position.reserve(word, *index)?;
+            let _ = position.append(word, *grade, *index);
+            *words = rows;
+        }
+    }
+    Ok(())
 }
 
 /// An engine that computes all answers from scratch after each edit.
@@ -125,60 +162,17 @@ impl Plain {
     fn apply(&mut self, edit: &Edit<'_>) -> Result<(), Refusal>
         ensures { IsApplied self.old self.new (action_of edit.now) result }
     {
-        match self.position.judge(edit) {
-            Err(refusal) => Err(refusal),
-            Ok(Pending::Shape(edit)) => self.reshape(&edit),
-            Ok(Pending::New(word, grade, index)) => self.add(word, grade, index),
-            Ok(Pending::InPlace(edit)) => {
-                self.make(&edit);
-                Ok(())
-            }
-        }
-    }
-
-    /// Makes an edit that needs no memory.
-    fn make(&mut self, edit: &InPlace<'_>)
-        requires { IsInPlace (state_of self.old) edit.now }
-        ensures { IsDone self.old self.new (in_place_action edit.now) }
-    {
-        self.position.commit(edit);
-        settle_anew(
-            &self.position,
+        let pending = match self.position.judge(edit) {
+            Ok(pending) => pending,
+            Err(refusal) => return Err(refusal),
+        };
+        make(
+            self.alloc,
+            &mut self.position,
             &mut self.words,
-            &mut self.letters,
-            &mut self.before,
-        );
-    }
-
-    /// Makes an edit of the shape. It allocates the new grid and its rows first, so a failed
-    /// allocation changes nothing.
-    fn reshape(&mut self, edit: &ShapeEdit) -> Result<(), Refusal>
-        requires { IsOk (grid_after (state_of self.old).grid (shape_action edit.now)) }
-        ensures { IsApplied self.old self.new (shape_action edit.now) result }
-    {
-        let grid = self.position.shaped(edit)?;
-        let lights = Lights::of(self.alloc, &grid)?;
-        self.words = make_grid_rows(self.alloc, &grid, &lights, &self.position.bank)?;
-        let _ = self.position.replace(grid, lights);
-        settle_anew(
-            &self.position,
-            &mut self.words,
-            &mut self.letters,
-            &mut self.before,
-        );
-        Ok(())
-    }
-
-    /// Adds a word that is not known. It allocates the larger rows first, so a failed allocation
-    /// changes nothing.
-    fn add(&mut self, word: &[u8], grade: Option<u8>, index: usize) -> Result<(), Refusal>
-        requires { add_answer (state_of self.old).words word.now ≡ Ok (Added.New index) }
-        ensures { IsApplied self.old self.new (word_added word.now grade) result }
-    {
-        let words = make_grown_rows(self.alloc, &self.position, word.len())?;
-        self.position.reserve(word, index)?;
-        self.position.append(word, grade, index);
-        self.words = words;
+            &self.letters,
+            &pending,
+        )?;
         settle_anew(
             &self.position,
             &mut self.words,
@@ -199,39 +193,23 @@ impl Plain {
         )
     }
 
-    /// Replaces the grid, with new arrays for it.
+    /// Replaces the grid, with new arrays for it, and computes the answers.
     fn take_grid(&mut self, grid: Grid) -> Result<(), GridFault>
         ensures ok { OnOk result (state_of self.new ≡ record { grid = grid; words = (state_of self.old).words }) }
         ensures memory { IsOkUnless result GridFault.Memory }
         ensures unchanged { OnErr result (self.new ≡ self.old) }
     {
         let lights = Lights::of(self.alloc, &grid)?;
+        let noted = make_noted(self.alloc, &grid)?;
         let words = make_grid_rows(self.alloc, &grid, &lights, &self.position.bank)?;
         let letters = make_grid_sets(self.alloc, &grid)?;
         let before = make_grid_sets(self.alloc, &grid)?;
-        self.replace(grid, lights, words, letters, before);
-        Ok(())
-    }
-
-    /// Replaces the grid, its lights and their arrays, and computes the answers.
-    fn replace(
-        &mut self,
-        grid: Grid,
-        lights: Lights,
-        words: Vec<Flags>,
-        letters: Vec<LetterSet>,
-        before: Vec<LetterSet>,
-    )
-        requires lights { lights ≡ lights_of grid }
-        requires rows { HasRows (board_of grid) (state_of self.old).words words.items letters.items }
-        requires before { length before.items ≡ length letters.items }
-        ensures { state_of self.new ≡ record { grid = grid; words = (state_of self.old).words } }
-    {
-        let _ = self.position.replace(grid, lights);
+        self.position.replace(grid, lights, noted);
         self.words = words;
         self.letters = letters;
         self.before = before;
         settle_position(&self.position, &mut self.words, &mut self.letters);
+        Ok(())
     }
 
     /// Exchanges the grid for one of the same shape, and computes the answers.

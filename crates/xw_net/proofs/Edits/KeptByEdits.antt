@@ -1,16 +1,14 @@
 -- What an edit keeps: the squares of the cells it does not write, and the known words of other
 -- lengths.
 use Rattle.std.proofs.Common.{◌≡◌, ℕ, ◌*◌, Bool, true, false, cond, not, List, [], ◌∷◌, map, length, get_or, eqb, Some, None, refl, sym, ◌∙◌, ap, subst, arith, inl, inr}
-use Rattle.std.specs.Prelude.{Option, Result, Ok, Err, Contains, slice_get, position, filter}
+use Rattle.std.specs.Prelude.{Option, Ok, Err, Contains, slice_get, position, filter}
 use Rattle.std.proofs.lemmas.Bool.{cases_lt, cases_Bool, eqb-true, false≢true}
 use Rattle.std.proofs.lemmas.List.{get_or-map, length-map}
 use Rattle.std.proofs.lemmas.List.Elements.{Contains-get_or}
 use Rattle.std.proofs.lemmas.List.FromFn.{get_or-map-range_with_len}
 use Rattle.std.proofs.lemmas.Option.{slice_get-get_or, slice_get_past}
-use Rattle.xw_words.specs.declared.fault.WordFault.{WordFault}
 use Rattle.xw_letters.specs.Letter.{folded}
 use Rattle.xw_words.specs.Word.{is_bad_letter}
-use Rattle.xw_words.specs.Dictionary.{Dictionary, with_least}
 use Rattle.xw_grid.specs.declared.cell.Cell.{Cell}
 use Rattle.xw_grid.specs.declared.cell.Square.{Square}
 use Rattle.xw_grid.specs.declared.cell.Square.TheVariants.{Block, Open}
@@ -18,21 +16,20 @@ use Rattle.xw_grid.specs.declared.cell.LightName.{LightName}
 use Rattle.xw_grid.specs.declared.lights.Light.{Light}
 use Rattle.xw_grid.specs.declared.cell.Side.{Side}
 use Rattle.xw_grid.specs.declared.cell.Symmetry.{Symmetry}
-use Rattle.xw_grid.specs.declared.fault.GridFault.{GridFault}
 use Rattle.xw_grid.specs.declared.fault.GridFault.TheVariants as grids
 use Rattle.xw_grid.specs.Grid.{Grid, IsGrid, is_inside, is_block, is_barred, is_open_square, letter_in, entry as entry_of, index_of, cells, cell_at}
 use Rattle.xw_grid.specs.Light.{lights_of, cells_of, index_named, no_light}
 use Rattle.xw_grid.specs.Edit.{with_entry, set_entry, set_symmetry, toggle_block, toggle_bar, with_orbit, with_edges, turned, square_of}
 use Rattle.xw_grid.specs.Orbit.{is_in_orbit, orbit_of}
 use Rattle.xw_grid.proofs.GridLemmas.{index_of-cell_at, length-cells, cell_at-inside}
-use Rattle.xw_feas.specs.declared.edit.Refusal.{Refusal}
 use Rattle.xw_feas.specs.declared.edit.Refusal.TheVariants as refusals
 use Rattle.xw_feas.specs.Board.{board_of, entry, is_open}
-use Rattle.xw_feas.specs.State.{State, Action, letter_set, cell_cleared, word_placed, list_written, block_toggled, bar_toggled, symmetry_chosen, word_added, word_struck, least_chosen, after, grid_after, with_grid, with_words, by_fault, write_list, with_letters, place_word, placed_in, spelled_in, add_word, strike_word}
+use Rattle.xw_feas.specs.State.{Action, letter_set, cell_cleared, word_placed, list_written, block_toggled, bar_toggled, symmetry_chosen, word_added, word_struck, least_chosen, grid_after, by_fault, write_list, with_letters, place_word, placed_in, spelled_in}
 use Rattle.xw_feas.proofs.BoardLemmas.{is_open-square, entry-square}
 use Rattle.xw_feas.proofs.Elements.{contains_first, contains_later, contains_mapped, contains_filtered, slice_get-set_other}
 use Rattle.xw_net.specs.Region.{cells_named, same_entry, cells_changed, edited_cells}
 use Rattle.xw_net.proofs.Edits.WrittenCells.{StaysOrOpen, LeavesOpen, list_leaves}
+pub use Rattle.xw_feas.proofs.JudgeLemmas.{by_fault-Ok, with_grid-Ok, with_words-Ok, grid_of_after}
 
 -- ---- the grid
 
@@ -178,10 +175,6 @@ list_kept grid new list is ok = subst (λ r. IsWrittenAt grid new (map (index_of
         now ∙ ap (λ e. Some (Open e)) (sym same) ∙ sym old
   ]
 
-pub by_fault-Ok : (result : Result Grid GridFault) (new : Grid) → by_fault result ≡ Ok new → result ≡ Ok new
-by_fault-Ok (Ok grid) new h = cc
-by_fault-Ok (Err fault) new h = cc
-
 -- an edit writes its edited cells only
 pub written_after : (grid new : Grid) (action : Action) → IsGrid grid → grid_after grid action ≡ Ok new → IsWrittenAt grid new (edited_cells grid action)
 written_after grid new (letter_set cell letter) is h = entry_kept grid new cell (Some letter) (by_fault-Ok (set_entry grid cell (Some letter)) new h)
@@ -194,34 +187,6 @@ written_after grid new (symmetry_chosen kind) is h = symmetry_kept grid new kind
 written_after grid new (word_added word grade) is h = let is_new : grid ≡ new = cc in subst (λ g. IsWrittenAt grid g []) is_new (same_squares grid [])
 written_after grid new (word_struck word) is h = let is_new : grid ≡ new = cc in subst (λ g. IsWrittenAt grid g []) is_new (same_squares grid [])
 written_after grid new (least_chosen grade) is h = let is_new : grid ≡ new = cc in subst (λ g. IsWrittenAt grid g []) is_new (same_squares grid [])
-
--- ---- the two parts of a state
-
-pub with_grid-Ok : (state next : State) (result : Result Grid Refusal) → with_grid state result ≡ Ok next → (result ≡ Ok next.grid) × (next.words ≡ state.words)
-with_grid-Ok state next (Ok grid) h =
-    let is : record state { grid = grid } ≡ next = cc in
-    (ap (λ (s : State). Ok s.grid) is, sym (ap (λ (s : State). s.words) is))
-with_grid-Ok state next (Err refusal) h = cc
-
-pub with_words-Ok : (state next : State) (result : Result Dictionary WordFault) → with_words state result ≡ Ok next → (result ≡ Ok next.words) × (next.grid ≡ state.grid)
-with_words-Ok state next (Ok words) h =
-    let is : record state { words = words } ≡ next = cc in
-    (ap (λ (s : State). Ok s.words) is, sym (ap (λ (s : State). s.grid) is))
-with_words-Ok state next (Err fault) h = cc
-
-pub grid_of_after : (state next : State) (action : Action) → after state action ≡ Ok next → grid_after state.grid action ≡ Ok next.grid
-grid_of_after state next (letter_set cell letter) h = (with_grid-Ok state next (grid_after state.grid (letter_set cell letter)) h).0
-grid_of_after state next (cell_cleared cell) h = (with_grid-Ok state next (grid_after state.grid (cell_cleared cell)) h).0
-grid_of_after state next (word_placed name bytes) h = (with_grid-Ok state next (grid_after state.grid (word_placed name bytes)) h).0
-grid_of_after state next (list_written list) h = (with_grid-Ok state next (grid_after state.grid (list_written list)) h).0
-grid_of_after state next (block_toggled cell) h = (with_grid-Ok state next (grid_after state.grid (block_toggled cell)) h).0
-grid_of_after state next (bar_toggled cell side) h = (with_grid-Ok state next (grid_after state.grid (bar_toggled cell side)) h).0
-grid_of_after state next (symmetry_chosen kind) h = (with_grid-Ok state next (grid_after state.grid (symmetry_chosen kind)) h).0
-grid_of_after state next (word_added word grade) h = ap Ok (sym (with_words-Ok state next (add_word state.words word grade) h).1)
-grid_of_after state next (word_struck word) h = ap Ok (sym (with_words-Ok state next (strike_word state.words word) h).1)
-grid_of_after state next (least_chosen grade) h =
-    let is : record state { words = with_least grade state.words } ≡ next = cc in
-    ap (λ (s : State). Ok s.grid) is
 
 -- ---- the board
 

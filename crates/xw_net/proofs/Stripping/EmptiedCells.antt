@@ -7,7 +7,7 @@ use Rattle.xw_feas.specs.Board.{Board, light_at}
 use Rattle.xw_net.specs.Marks.{Marks, side_of, IsPositionIn, IsSlot, IsSetting, IsHeld, IsHolding, LeavesPending, cell_at}
 use Rattle.xw_net.specs.Marks.LeavesPending.{crossed, alone}
 use Rattle.xw_net.specs.Due.{Measure, IsUnderway, and_light}
-use Rattle.xw_net.specs.Nets.{marks_of, bits_for, word_stands, letter_stands, held_in, restart_in, pending_in, queued_in}
+use Rattle.xw_net.specs.Nets.{marks_of, bits_for, word_stands, letter_stands, pending_in, queued_in}
 use Rattle.xw_net.specs.declared.net.Net.{Net}
 use Rattle.xw_net.proofs.Stripping.RemovedLetters.{crossed_drops, alone_drops}
 use Rattle.xw_net.proofs.Stripping.EmptiedAtOnce.{emptied_under}

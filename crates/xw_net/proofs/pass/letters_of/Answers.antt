@@ -1,4 +1,4 @@
-use Rattle.std.proofs.Common.{◌≡◌, ◌<◌, ◌≤◌, ◌+◌, ◌||◌, ℕ, zero, suc, Bool, true, false, List, length, get_or, replicate, slice_get, sym, ap, ◌∙◌, inl, inr, arith, rules}
+use Rattle.std.proofs.Common.{◌≡◌, ◌<◌, ◌||◌, ℕ, zero, suc, Bool, true, false, List, length, get_or, replicate, slice_get, sym, ap, ◌∙◌, inl, inr, arith, rules}
 use Rattle.std.proofs.lemmas.Bool.{cases_lt, cases_eq, both_ways, or_cases, or_left, or_right}
 use Rattle.std.proofs.lemmas.List.{get_or_past}
 use Rattle.xw_letters.specs.LetterSet.{has}
@@ -6,7 +6,6 @@ use Rattle.xw_letters.proofs.LetterSetLemmas.{has-none}
 use Rattle.xw_words.specs.Columns.{letter_is, has_letter}
 use Rattle.xw_words.specs.Dictionary.{row as words_of}
 use Rattle.xw_feas.specs.Flags.{set_has}
-use Rattle.xw_net.specs.Support.{supports}
 use Rattle.xw_net.proofs.Stripping.FoundSupports.{supports-parts, supports-from}
 use Rattle.xw_net.proofs.pass.letters_of.Goals as goal
 

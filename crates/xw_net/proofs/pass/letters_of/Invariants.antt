@@ -1,4 +1,4 @@
-use Rattle.std.proofs.Common.{◌≡◌, ◌<◌, ◌-◌, ◌+◌, ℕ, true, length}
+use Rattle.std.proofs.Common.{◌≡◌, ◌<◌, ◌-◌, ℕ, true, length}
 use Rattle.xw_words.specs.Dictionary.{row as words_of}
 use Rattle.xw_feas.specs.Flags.{set_has}
 use Rattle.xw_net.specs.Support.{supports}

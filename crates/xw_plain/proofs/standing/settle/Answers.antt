@@ -1,5 +1,5 @@
 use Rattle.std.proofs.lemmas.Grind.{common_steps}
-use Rattle.std.proofs.Common.{rules, arith}
+use Rattle.std.proofs.Common.{arith}
 use Rattle.xw_feas.proofs.Support.{exact_when_none_unsupported}
 use Rattle.xw_feas.proofs.AnswersLemmas.{AreAnswers-rows}
 use Rattle.xw_plain.proofs.standing.settle.Goals as goal

@@ -1,6 +1,4 @@
-use Rattle.std.proofs.Common.{refl, ap, subst, sym}
-use Rattle.std.specs.Prelude.{IsOk}
-use Rattle.xw_feas.specs.State.{with_grid, by_fault}
+use Rattle.std.proofs.Common.{refl}
 use Rattle.xw_feas.specs.Position.{state_of}
 use Rattle.xw_feas.proofs.WriteLemmas.{list_taken}
 use Rattle.xw_feas.proofs.position.Position.judge_list.Goals as goal

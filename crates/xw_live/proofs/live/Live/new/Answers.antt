@@ -15,5 +15,4 @@ invariant_of-result c =
     record {
       kept = kept;
       same_cells = c.in_ok-before.ensures.ok ∙ sym (ap (λ (grid : Grid). length grid.squares) same) ∙ sym (kept_cells (state_of position) net kept);
-      same_room = c.in_ok-noted.ensures.ok ∙ sym c.in_ok-before.ensures.ok;
     }

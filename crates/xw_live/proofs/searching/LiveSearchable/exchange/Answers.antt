@@ -22,7 +22,6 @@ invariant_of-self c =
     record {
       kept = subst (λ (state : State). IsKept state c.swap.new.x) (sym c.exchange.ensures.now) (kept_moved refl c.swap.ensures.x_after (kept_same kept.grid kept.net (sym twin.words) kept.kept));
       same_cells = live.same_cells ∙ same_sets saved (state_of live) (CanSave-twin saved (state_of live) twin) live.net kept.net live.kept kept.kept ∙ sym (ap (λ (net : Net). length (sets_of net)) c.swap.ensures.x_after);
-      same_room = live.same_room;
     }
 
 pub invariant_of-snapshot : goal.invariant_of-snapshot

@@ -1,17 +1,17 @@
-use Rattle.std.proofs.Common.{◌≡◌, ◌<◌, ◌≤◌, ◌+◌, ℕ, List, true, false, length, get_or, refl, sym, ap, ◌∙◌, subst, inl, inr, arith}
-use Rattle.std.proofs.lemmas.Bool.{cases_lt, cases_eq}
+use Rattle.std.proofs.Common.{◌≡◌, ◌<◌, length, get_or, refl, sym, ap, ◌∙◌, subst, inl, inr, arith}
+use Rattle.std.proofs.lemmas.Bool.{cases_lt}
 use Rattle.std.proofs.lemmas.List.{get_or_default}
 use Rattle.std.proofs.lemmas.Option.{slice_get_read}
 use Rattle.xw_letters.specs.LetterSet.{has}
 use Rattle.xw_words.specs.Dictionary.{row as words_of}
 use Rattle.xw_feas.specs.Board.{light_at}
 use Rattle.xw_feas.specs.Flags.{set_has}
-use Rattle.xw_net.specs.Marks.{IsPositionIn, IsSetting, cell_at}
+use Rattle.xw_net.specs.Marks.{cell_at}
 use Rattle.xw_net.specs.Nets.{HasBits, marks_of, letter_stands}
 use Rattle.xw_net.specs.declared.net.Net.{Net}
 use Rattle.xw_net.proofs.Stripping.DroppedLetters.{struck_struck, words_struck, held_struck}
 use Rattle.xw_net.proofs.Stripping.HeldWords.{same_holding}
-use Rattle.xw_net.proofs.Stripping.LeftByStripping.{left_left, left_same}
+use Rattle.xw_net.proofs.Stripping.LeftByStripping.{left_left}
 use Rattle.xw_net.proofs.Stripping.PassedLights.{letters_at, has_word, is_supported}
 use Rattle.xw_net.proofs.Stripping.StepsKeepInvariant.{same_stays}
 use Rattle.xw_net.proofs.net.Net.pass_light.Goals as goal

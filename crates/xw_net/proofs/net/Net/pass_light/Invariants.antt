@@ -4,7 +4,7 @@ use Rattle.xw_feas.specs.Flags.{set_has}
 use Rattle.xw_net.specs.Marks.{IsSetting, cell_at}
 use Rattle.xw_net.specs.Due.{Measure, IsUnderway, and_light}
 use Rattle.xw_net.specs.Nets.{IsShaped, IsLeft, left_of, marks_of, letter_stands, queued_in}
-use Rattle.xw_net.specs.Steps.{IsStruckFrom, WaitMore, StandFewer, PendAtSlots}
+use Rattle.xw_net.specs.Steps.{IsStruckFrom, WaitMore, PendAtSlots}
 use Rattle.xw_net.proofs.net.Net.pass_light.Given as goal
 
 abbrev pub invariant-loop-position : goal.invariant-loop-position
