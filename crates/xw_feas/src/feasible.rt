@@ -140,7 +140,7 @@ pub trait Feasible: Drop {
         ensures { after (state self.old) (known_placed (state self.old) light index) ≡ Ok (state self.new) }
     {
         self.grid().well_formed();
-        let _ = self.bank().known(0);
+        self.bank().well_formed();
         let light = self.lights().at(light);
         let len = light.size as usize;
         let mut bytes = [0; LONGEST];

@@ -54,7 +54,7 @@ impl Position {
         let lights = Lights::of(alloc, &grid)?;
         let noted = make_noted(alloc, &grid)?;
         grid.well_formed();
-        let _ = bank.known(0);
+        bank.well_formed();
         Ok(Position {
             grid,
             lights,
@@ -157,7 +157,7 @@ impl Position {
             .foretell(&self.grid, &self.lights, &self.bank, edit);
         change(&mut self.grid, &self.lights, &mut self.bank, edit);
         self.grid.well_formed();
-        let _ = self.bank.known(0);
+        self.bank.well_formed();
         if told.is_list() {
             return Told::List(self.notes.keep_changed(&self.grid));
         }
@@ -287,7 +287,7 @@ impl Position {
         ensures room { OnOk result (has_room self.new.bank (length word.now) ≡ true) }
         ensures memory { IsOkUnless result WordFault.Memory }
     {
-        let _ = self.bank.known(word.len());
+        self.bank.well_formed();
         self.bank.reserve(word.len())
     }
 }
@@ -400,9 +400,9 @@ fn add_in(bank: &mut Bank, word: &[u8], grade: Option<u8>)
     ensures counts { GrowsAt bank.old.words bank.new.words (length word.now) }
     ensures distinct { IsDictionary bank.new.words }
 {
-    let _ = bank.known(word.len());
+    bank.well_formed();
     let mut letters = [Letter::first(); LONGEST];
     spell(&mut letters, word);
     let _ = bank.add_reserved(&letters[..word.len()], grade);
-    let _ = bank.known(0);
+    bank.well_formed();
 }

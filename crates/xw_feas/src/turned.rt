@@ -12,7 +12,7 @@ pub const LENGTHS: usize = 256;
 pub fn turned_lengths(bank: &Bank, grade: u8) -> [bool; LENGTHS]
     ensures { (len : ℕ) → slice_index_or result len false ≡ turns_words bank.now.words (least_chosen grade) len }
 {
-    let _ = bank.known(0);
+    bank.well_formed();
     let mut turned = [false; LENGTHS];
     for len in 0..LENGTHS {
         turned[len] = bank.turns(len, grade);

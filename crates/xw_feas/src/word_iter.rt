@@ -132,7 +132,7 @@ fn word_in<E: Feasible>(engine: &E, light: usize, index: usize) -> &[Letter]
     let board = Board::new(engine.grid(), engine.lights());
     let len = board.light(light).len();
     let bank = engine.bank();
-    let _ = bank.known(len);
+    bank.well_formed();
     bank.word(len, index)
 }
 

@@ -92,7 +92,7 @@ fn try_word<E: Searchable>(
     ensures dead { IfSome result (λ dead. (there : State) × IsWordPlaced light index (E.state engine.old) there × IsDead (flags watched.now) there dead) }
 {
     engine.grid().well_formed();
-    let _ = engine.bank().known(0);
+    engine.bank().well_formed();
     let found = light_at(engine, light);
     let len = found.size as usize;
     let mut bytes = [0; LONGEST];

@@ -37,7 +37,7 @@ pub fn settle(net: &mut Net, spent: u64, change: &Change<'_>, position: &Positio
         ∥ IsSettledFor before net.old ∥₁ →
         RoseWithinCost before (record { grid = position.now.grid; words = position.now.bank.words }) action spent result }
 {
-    let _ = position.bank.known(0);
+    position.bank.well_formed();
     let mut rows = Counted::new(&position.bank, spent);
     net.settle(&mut rows, change, &position.grid, &position.lights);
     rows.spent()
@@ -67,7 +67,7 @@ pub fn try_settle(
     ensures within { IfSome result.0 (λ light. light < length position.now.lights) }
     ensures watched { IfSome result.0 (λ light. slice_index_or watched.now light false ≡ true) }
 {
-    let _ = position.bank.known(0);
+    position.bank.well_formed();
     let mut reads = Counted::new(&position.bank, spent);
     let trial = Trial {
         watched,

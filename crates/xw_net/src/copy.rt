@@ -168,7 +168,7 @@ impl Net {
     {
         let mut net = Net::blank(alloc, grid, lights, bank)?;
         grid.well_formed();
-        let _ = bank.known(0);
+        bank.well_formed();
         net.copy_arrays(self, grid, grid, lights, false);
         Ok(net)
     }

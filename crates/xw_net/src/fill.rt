@@ -87,7 +87,7 @@ impl Net {
     {
         let mut net = Net::blank(alloc, grid, lights, bank)?;
         grid.well_formed();
-        let _ = bank.known(0);
+        bank.well_formed();
         let mut rows = Counted::new(bank, 0);
         net.fill(&mut rows, &Board::new(grid, lights));
         Ok(net)

@@ -36,6 +36,7 @@ fn known(bank: &Bank, len: usize) -> usize
     ensures words { result ≡ counts_of (words_of bank.now.words) len }
     ensures few { result ≤ 1048576 }
 {
+    bank.well_formed();
     bank.known(len)
 }
 

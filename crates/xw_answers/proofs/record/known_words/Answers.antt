@@ -5,7 +5,7 @@ use Rattle.xw_answers.proofs.record.known_words.Goals as goal
 pub loop-count-preserved : goal.loop-count-preserved
 loop-count-preserved c =
     record {
-      first = one_more_count c.args.bank.now.words c.loop-count.counts c.loop-count.count c.known.result (omega (arith, c.loop-count.invariant.long)) c.loop-count.invariant.first c.known.ensures.words;
+      first = one_more_count c.args.bank.now.words c.loop-count.counts c.loop-count.count c.known.result (omega (arith, c.loop-count.invariant.long)) c.loop-count.invariant.first c.known.ensures;
       long = rw length-set c.loop-count.invariant.long;
     }
 

@@ -16,7 +16,7 @@ loop-index-preserved g c =
     let entries = row c.args.bank.now.words c.args.count in
     let later = drop begun entries in
     let text : Entry → List ℕ = λ entry. command_line (add_command entry) in
-    let below : index < length entries = omega (arith, c.loop-index-test.true, c.known-index-end.ensures.words) in
+    let below : index < length entries = omega (arith, c.loop-index-test.true, c.known-index-end.ensures) in
     let within : index - begun < length later = omega (arith, below, c.loop-index.invariant.from, length-drop begun entries) in
     let at : begun + (index - begun) ≡ index = omega (arith, c.loop-index.invariant.from) in
     let is : get_or entries index no_entry ≡ get_or later (index - begun) no_entry = sym (get_or-drop begun entries (index - begun) no_entry ∙ ap (λ i. get_or entries i no_entry) at) in
@@ -41,7 +41,7 @@ returns-in_err-write_add g c =
     let entries = row c.args.bank.now.words c.args.count in
     let later = drop begun entries in
     let text : Entry → List ℕ = λ entry. command_line (add_command entry) in
-    let below : index < length entries = omega (arith, c.loop-index-test.true, c.known-index-end.ensures.words) in
+    let below : index < length entries = omega (arith, c.loop-index-test.true, c.known-index-end.ensures) in
     let within : index - begun < length later = omega (arith, below, c.loop-index.invariant.from, length-drop begun entries) in
     let at : begun + (index - begun) ≡ index = omega (arith, c.loop-index.invariant.from) in
     let is : get_or entries index no_entry ≡ get_or later (index - begun) no_entry = sym (get_or-drop begun entries (index - begun) no_entry ∙ ap (λ i. get_or entries i no_entry) at) in
@@ -59,6 +59,6 @@ returns g c =
     let entries = row c.args.bank.now.words c.args.count in
     let later = drop begun entries in
     let text : Entry → List ℕ = λ entry. command_line (add_command entry) in
-    let past : length later ≤ c.loop-index.index - begun = omega (arith, c.loop-index-test.false, c.known-index-end.ensures.words, length-drop begun entries, c.loop-index.invariant.from) in
+    let past : length later ≤ c.loop-index.index - begun = omega (arith, c.loop-index-test.false, c.known-index-end.ensures, length-drop begun entries, c.loop-index.invariant.from) in
     sent_as g.W.Sink.transcript g.W.Sink.failures _ _ _ _ (line_of_each add_command later)
     (each_all g.W.Sink.transcript g.W.Sink.failures text later _ _ (c.loop-index.index - begun) past (c.loop-index.invariant.transcript, c.loop-index.invariant.quiet))

@@ -10,7 +10,7 @@ pub loop-index-preserved : goal.loop-index-preserved
 loop-index-preserved g c =
     let entries = row c.args.bank.now.words c.args.count in
     let text : Entry → List ℕ = λ entry. command_lines (strike_commands entry) in
-    let within : c.loop-index.index < length entries = omega (arith, c.loop-index-test.true, c.known-index-end.ensures.words) in
+    let within : c.loop-index.index < length entries = omega (arith, c.loop-index-test.true, c.known-index-end.ensures) in
     let wrote = c.in_ok-write_struck_at.ensures in
     record {
       transcript = each_sent g.W.Sink.transcript g.W.Sink.failures text entries c.args.sink.now c.loop-index.sink c.write_struck_at.new.sink c.loop-index.index no_entry within c.loop-index.invariant.transcript wrote.0;
@@ -22,7 +22,7 @@ returns-in_err-write_struck_at g c =
     let e = err_from_is_err_and c.from_residual.result c.from_residual.ensures.1 in
     let entries = row c.args.bank.now.words c.args.count in
     let text : Entry → List ℕ = λ entry. command_lines (strike_commands entry) in
-    let within : c.loop-index.index < length entries = omega (arith, c.loop-index-test.true, c.known-index-end.ensures.words) in
+    let within : c.loop-index.index < length entries = omega (arith, c.loop-index-test.true, c.known-index-end.ensures) in
     rw e.1 (stops_as g.W.Sink.transcript g.W.Sink.failures _ _ _ _ (lines_of_each strike_commands entries)
     (each_stops g.W.Sink.transcript g.W.Sink.failures text entries c.args.sink.now c.loop-index.sink c.write_struck_at.new.sink c.loop-index.index no_entry within (c.loop-index.invariant.transcript, c.loop-index.invariant.quiet) c.in_err-write_struck_at.ensures))
 
@@ -31,4 +31,4 @@ returns g c =
     let entries = row c.args.bank.now.words c.args.count in
     let text : Entry → List ℕ = λ entry. command_lines (strike_commands entry) in
     sent_as g.W.Sink.transcript g.W.Sink.failures _ _ _ _ (lines_of_each strike_commands entries)
-    (each_all g.W.Sink.transcript g.W.Sink.failures text entries _ _ c.loop-index.index (omega (arith, c.loop-index-test.false, c.known-index-end.ensures.words)) (c.loop-index.invariant.transcript, c.loop-index.invariant.quiet))
+    (each_all g.W.Sink.transcript g.W.Sink.failures text entries _ _ c.loop-index.index (omega (arith, c.loop-index-test.false, c.known-index-end.ensures)) (c.loop-index.invariant.transcript, c.loop-index.invariant.quiet))

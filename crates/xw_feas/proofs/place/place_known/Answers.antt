@@ -21,5 +21,5 @@ returns-clause-placed c =
     let found : c.at-found.result ≡ light_of state c.args.light = c.at-found.ensures ∙ ap (λ lights. get_or lights c.args.light no_light) c.requires.lights in
     let word : c.word.result.now ≡ (entry_at (row words (light_of state c.args.light).size) c.args.index).word =
     c.word.ensures.word ∙ ap (λ (light : Light). (entry_at (row words light.size) c.args.index).word) found in
-    known_accepted state c.args.light c.args.index c.known.ensures.dictionary c.requires.light c.requires.index
+    known_accepted state c.args.light c.args.index c.well_formed-2.ensures c.requires.light c.requires.index
     ∙ ap Ok (sym (c.enter_letters.ensures.letters ∙ ap (λ (light : Light). with_letters grid (cells_of light) c.word.result.now) found ∙ ap (with_letters grid (cells_of (light_of state c.args.light))) word))

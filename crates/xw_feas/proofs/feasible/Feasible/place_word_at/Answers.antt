@@ -15,7 +15,7 @@ returns g c =
     let answers_now = g.Self.Feasible.answers c.edit.follows.lender-at-none in
     let light = c.at-light.result in
     let bytes = take light.size c.spell_bytes.new.bytes in
-    let is : IsDictionary before.words = subst (λ (words : Dictionary). IsDictionary words) c.bank.ensures c.known.ensures.dictionary in
+    let is : IsDictionary before.words = subst (λ (words : Dictionary). IsDictionary words) c.bank.ensures c.well_formed-3.ensures in
     let found : light ≡ light_of before c.args.light = c.at-light.ensures ∙ ap (λ lights. get_or lights c.args.light no_light) c.lights.ensures in
     let word : bytes ≡ (entry_at (row before.words (light_of before c.args.light).size) c.args.index).word =
     ap (λ n. take n c.spell_bytes.new.bytes) (sym c.word.ensures.long)

@@ -20,5 +20,5 @@ copy_arrays-requires-clause-can c =
       from = subst (λ l. IsReusable l (known_counts c.args.bank.now.words) (length c.args.grid.now.squares) c.args.self.now) (sym c.requires.lights)
           (settled_reusable record { grid = c.args.grid.now; words = c.args.bank.now.words } c.args.self.now c.requires.settled);
       to = subst (λ l. IsReusable l (known_counts c.args.bank.now.words) (length c.args.grid.now.squares) c.in_ok-net.net) (sym c.requires.lights)
-          (blank_reusable grid c.well_formed-2.ensures words c.known.ensures.dictionary net is_blank room);
+          (blank_reusable grid c.well_formed-2.ensures words c.well_formed-3.ensures net is_blank room);
     }

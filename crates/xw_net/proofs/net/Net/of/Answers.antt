@@ -20,7 +20,7 @@ fill-requires-clause-fresh c =
     let grid = c.args.grid.now in
     let is_blank = subst (λ l. IsBlank l (counts_of (row c.args.bank.now.words)) (length c.args.grid.now.squares) c.in_ok-net.net) c.requires c.in_ok-net.ensures.blank in
     let room = subst (λ l. HasRoom l (counts_of (row c.args.bank.now.words)) c.in_ok-net.net) c.requires c.in_ok-net.ensures.room in
-    let fresh = blank_fresh grid c.well_formed-2.ensures words c.known.ensures.dictionary net is_blank room in
+    let fresh = blank_fresh grid c.well_formed-2.ensures words c.well_formed-3.ensures net is_blank room in
     subst (λ (b : Board). IsFresh b (row c.new-rows.result.words) c.in_ok-net.net) (sym c.new.ensures)
     (subst (λ (d : Dictionary). IsFresh (board_of c.args.grid.now) (row d) c.in_ok-net.net) (sym c.new-rows.ensures.words) fresh)
 
@@ -31,7 +31,7 @@ returns-clause-settled c =
     let setting : IsSetting (board_of c.args.grid.now) (row c.new-rows.result.words) c.args.bank.now.words = record {
       laid_out = laid_out grid c.well_formed-2.ensures letters;
       apart = slots_apart grid;
-      words = c.known.ensures.dictionary;
+      words = c.well_formed-3.ensures;
       read = λ len. ap (λ (d : Dictionary). row d len) c.new-rows.ensures.words;
     } in
     filled_settled grid c.args.bank.now.words c.fill.new.self (subst (λ (b : Board). IsFilled b c.args.bank.now.words c.fill.new.self) c.new.ensures

@@ -21,7 +21,7 @@ returns-then-at c =
     let below : light < length engine.words.items = omega (arith, engine.rows.lights, c.requires, length-lights engine.position.grid) in
     let row_is : row ≡ get_or engine.words.items light [] = get_or_read engine.words.items light row below c.index-row.ensures [] in
     let entered : is_wholly_entered board (light_at board light) ≡ true = ap (is_wholly_entered board) (sym at) ∙ ap (λ b. is_wholly_entered b c.light-cells.result) (sym c.new-board.ensures) ∙ sym c.has_all_entries.ensures ∙ c.if-has_all_entries.true in
-    let known : c.known-known.result ≡ length (spellings engine.position.bank.words (length (light_at board light))) = c.known-known.ensures.words ∙ ap (λ n. length (known_words engine.position.bank.words n)) (c.len.ensures ∙ ap length at) ∙ sym (length-map (known_words engine.position.bank.words (length (light_at board light))) (λ (word : Entry). word.word)) in
+    let known : c.known-known.result ≡ length (spellings engine.position.bank.words (length (light_at board light))) = c.known-known.ensures ∙ ap (λ n. length (known_words engine.position.bank.words n)) (c.len.ensures ∙ ap length at) ∙ sym (length-map (known_words engine.position.bank.words (length (light_at board light))) (λ (word : Entry). word.word)) in
     let stands : flag_at engine.words.items light c.known-known.result ≡ true = ap (λ r. get_or r c.known-known.result false) (sym row_is) ∙ sym c.at.ensures ∙ c.if-at.true in
     next-entered board engine.position.bank.words (answers_of board engine.position.bank.words engine.words.items engine.letters.items) light c.args.from entered c.if-from-eq0.true
     (sym (entered_is board engine.position.bank.words engine.words.items engine.letters.items engine.exact engine.answered light c.known-known.result in_board known entered) ∙ stands)
@@ -37,7 +37,7 @@ returns-then-has_all_entries c =
     let below : light < length engine.words.items = omega (arith, engine.rows.lights, c.requires, length-lights engine.position.grid) in
     let row_is : row ≡ get_or engine.words.items light [] = get_or_read engine.words.items light row below c.index-row.ensures [] in
     let entered : is_wholly_entered board (light_at board light) ≡ true = ap (is_wholly_entered board) (sym at) ∙ ap (λ b. is_wholly_entered b c.light-cells.result) (sym c.new-board.ensures) ∙ sym c.has_all_entries.ensures ∙ c.if-has_all_entries.true in
-    let known : c.known-known.result ≡ length (spellings engine.position.bank.words (length (light_at board light))) = c.known-known.ensures.words ∙ ap (λ n. length (known_words engine.position.bank.words n)) (c.len.ensures ∙ ap length at) ∙ sym (length-map (known_words engine.position.bank.words (length (light_at board light))) (λ (word : Entry). word.word)) in
+    let known : c.known-known.result ≡ length (spellings engine.position.bank.words (length (light_at board light))) = c.known-known.ensures ∙ ap (λ n. length (known_words engine.position.bank.words n)) (c.len.ensures ∙ ap length at) ∙ sym (length-map (known_words engine.position.bank.words (length (light_at board light))) (λ (word : Entry). word.word)) in
     next-none_entered board engine.position.bank.words (answers_of board engine.position.bank.words engine.words.items engine.letters.items) light c.args.from entered
     (λ start. sym (entered_is board engine.position.bank.words engine.words.items engine.letters.items engine.exact engine.answered light c.known-known.result in_board known entered)
     ∙ elim c.else-from-eq0.branch [
@@ -56,7 +56,7 @@ returns-then-at-2 c =
     let below : light < length engine.words.items = omega (arith, engine.rows.lights, c.requires, length-lights engine.position.grid) in
     let row_is : row ≡ get_or engine.words.items light [] = get_or_read engine.words.items light row below c.index-row.ensures [] in
     let open_light : is_wholly_entered board (light_at board light) ≡ false = ap (is_wholly_entered board) (sym at) ∙ ap (λ b. is_wholly_entered b c.light-cells.result) (sym c.new-board.ensures) ∙ sym c.has_all_entries.ensures ∙ c.if-has_all_entries.false in
-    let known : c.known-known.result ≡ length (known_words engine.position.bank.words (length (light_at board light))) = c.known-known.ensures.words ∙ ap (λ n. length (known_words engine.position.bank.words n)) (c.len.ensures ∙ ap length at) in
+    let known : c.known-known.result ≡ length (known_words engine.position.bank.words (length (light_at board light))) = c.known-known.ensures ∙ ap (λ n. length (known_words engine.position.bank.words n)) (c.len.ensures ∙ ap length at) in
     let test : (k : ℕ) → k < length (known_words engine.position.bank.words (length (light_at board light))) → get_or row k false ≡ _ = λ k under. ap (λ r. get_or r k false) row_is ∙ listed_is board engine.position.bank.words engine.words.items engine.letters.items engine.exact engine.answered light k in_board under open_light in
     let under : c.loop-index.index < length (known_words engine.position.bank.words (length (light_at board light))) = omega (arith, known, c.loop-index-test.true) in
     next-listed board engine.position.bank.words (answers_of board engine.position.bank.words engine.words.items engine.letters.items) light c.args.from c.loop-index.index open_light c.loop-index.auto.index under
@@ -74,7 +74,7 @@ returns c =
     let below : light < length engine.words.items = omega (arith, engine.rows.lights, c.requires, length-lights engine.position.grid) in
     let row_is : row ≡ get_or engine.words.items light [] = get_or_read engine.words.items light row below c.index-row.ensures [] in
     let open_light : is_wholly_entered board (light_at board light) ≡ false = ap (is_wholly_entered board) (sym at) ∙ ap (λ b. is_wholly_entered b c.light-cells.result) (sym c.new-board.ensures) ∙ sym c.has_all_entries.ensures ∙ c.if-has_all_entries.false in
-    let known : c.known-known.result ≡ length (known_words engine.position.bank.words (length (light_at board light))) = c.known-known.ensures.words ∙ ap (λ n. length (known_words engine.position.bank.words n)) (c.len.ensures ∙ ap length at) in
+    let known : c.known-known.result ≡ length (known_words engine.position.bank.words (length (light_at board light))) = c.known-known.ensures ∙ ap (λ n. length (known_words engine.position.bank.words n)) (c.len.ensures ∙ ap length at) in
     let test : (k : ℕ) → k < length (known_words engine.position.bank.words (length (light_at board light))) → get_or row k false ≡ _ = λ k under. ap (λ r. get_or r k false) row_is ∙ listed_is board engine.position.bank.words engine.words.items engine.letters.items engine.exact engine.answered light k in_board under open_light in
     next-none_listed board engine.position.bank.words (answers_of board engine.position.bank.words engine.words.items engine.letters.items) light c.args.from open_light
     (λ k low high. sym (test k high) ∙ c.loop-index.invariant k low (omega (arith, known, c.loop-index-test.false)))
@@ -95,5 +95,5 @@ at-requires c =
     let row = c.index-row.result.now in
     let below : light < length engine.words.items = omega (arith, engine.rows.lights, c.requires, length-lights engine.position.grid) in
     let row_is : row ≡ get_or engine.words.items light [] = get_or_read engine.words.items light row below c.index-row.ensures [] in
-    let known : c.known-known.result ≡ length (spellings engine.position.bank.words (length (light_at board light))) = c.known-known.ensures.words ∙ ap (λ n. length (known_words engine.position.bank.words n)) (c.len.ensures ∙ ap length at) ∙ sym (length-map (known_words engine.position.bank.words (length (light_at board light))) (λ (word : Entry). word.word)) in
+    let known : c.known-known.result ≡ length (spellings engine.position.bank.words (length (light_at board light))) = c.known-known.ensures ∙ ap (λ n. length (known_words engine.position.bank.words n)) (c.len.ensures ∙ ap length at) ∙ sym (length-map (known_words engine.position.bank.words (length (light_at board light))) (λ (word : Entry). word.word)) in
     omega (arith, known, ap length row_is, engine.rows.choices light in_board)
