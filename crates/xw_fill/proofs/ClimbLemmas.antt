@@ -1,5 +1,5 @@
 -- The search for the best fill.
-use Rattle.std.proofs.Common.{◌≡◌, ℕ, ◌<◌, ◌≤◌, Bool, true, List, [], Option, Some, None, cond, refl, sym, ◌∙◌, ap, subst, arith}
+use Rattle.std.proofs.Common.{◌≡◌, ℕ, suc, length, ◌<◌, ◌≤◌, Bool, true, List, [], Option, Some, None, cond, refl, sym, ◌∙◌, ap, subst, arith, inl, inr}
 use Rattle.std.specs.Prelude.{replicate, IfSome, nat_le}
 use Rattle.std.proofs.lemmas.Bool.{le-leb}
 use Rattle.std.proofs.lemmas.List.{get_or-replicate}
@@ -13,7 +13,7 @@ use Rattle.xw_fill.specs.NamedFill.{flags, AreFlags, IsFillOf}
 use Rattle.xw_fill.specs.Best.{at_least, IsFillAt, HasNoneAt, IsBound, IsFilledAt, IsBest}
 use Rattle.xw_fill.specs.declared.best.Best.{Best}
 use Rattle.xw_fill.specs.declared.best.Best.TheVariants.{Filled, NoFill, Limit}
-use Rattle.xw_fill.specs.Inner.Climbing.{IsProber, IsClimbing, HasClimbed, IsAtLeast, IsTaken, grade_above, next_grade, work_left, best_of}
+use Rattle.xw_fill.specs.Inner.Climbing.{grade_sum, IsProber, IsProbed, IsBetter, IsClimbing, IsOffered, HasClimbed, IsAtLeast, IsTaken, grade_above, next_grade, work_left, best_of}
 use Rattle.xw_fill.specs.declared.allowance.Allowance.{Allowance}
 use Rattle.xw_fill.specs.declared.best.probe.Prober.{Prober}
 use Rattle.xw_fill.specs.declared.best.probe.Probe.{Probe}
@@ -38,13 +38,20 @@ none_left named state bound formed is below entries fill =
 pub filled_at_twin : (named : ℕ → Bool) (before after : State) (grade : ℕ) → IsFilledAt named before after grade → IsTwin before after
 filled_at_twin named before after grade is = subst (IsTwin before) (sym is.holds) (filled_twin before is.entries)
 
+-- what a prober found, as the search has it
+pub known_probed : {E S : Type 0} (saved : S → State) (climb : Climb E S) (prober : Prober E S) (start after : State) (probe : Probe) → IsClimbing saved climb start → prober.plan ≡ climb.prober.plan → IsProbed (flags climb.prober.plan.named.items) start climb.prober.least after probe → IsProbed (flags prober.plan.named.items) (saved climb.start) climb.prober.least after probe
+known_probed saved climb prober start after probe is plan found =
+    subst (λ (s : State). IsProbed (flags prober.plan.named.items) s climb.prober.least after probe) (sym is.began)
+    (subst (λ (p : Plan). IsProbed (flags p.named.items) start climb.prober.least after probe) (sym plan) found)
+
 -- the same climb with a prober that has served one more probe
-pub probed : {E S : Type 0} (saved : S → State) (climb : Climb E S) (prober : Prober E S) (start : State) → IsClimbing saved climb start → IsProber saved prober start → prober.plan ≡ climb.prober.plan → IsClimbing saved (record climb { prober = prober }) start
-probed saved climb prober start is served same = record {
+pub probed : {E S : Type 0} (saved : S → State) (climb : Climb E S) (prober : Prober E S) (start : State) → IsClimbing saved climb start → IsProber saved prober start → prober.plan ≡ climb.prober.plan → prober.fresh ≡ climb.prober.fresh → IsClimbing saved (record climb { prober = prober }) start
+probed saved climb prober start is served same fresh = record {
   prober = served;
   began = is.began;
   best = is.best;
   found = subst (λ (plan : Plan). IfSome climb.found (IsFilledAt (flags plan.named.items) start (saved climb.best))) (sym same) is.found;
+  sum = subst (λ (list : List Bool). IfSome climb.found (λ grade. climb.sum ≡ grade_sum (flags list) (saved climb.best))) (sym (ap (λ vec. vec.items) fresh)) is.sum;
   bound = subst (λ (plan : Plan). IsBound (flags plan.named.items) start climb.bound) (sym same) is.bound;
 }
 
@@ -55,33 +62,69 @@ bounded saved climb grade start is within none = record {
   began = is.began;
   best = is.best;
   found = is.found;
+  sum = is.sum;
   bound = record { within = omega (arith, within); none = λ below. none };
 }
 
 -- another fill
-pub found_more : {E S : Type 0} (saved : S → State) (climb : Climb E S) (start_now best_now : S) (grade : ℕ) (start filled : State) → IsClimbing saved climb start → IsFilledAt (flags climb.prober.plan.named.items) start filled grade → saved start_now ≡ start → saved best_now ≡ filled
-    → IsClimbing saved (record climb { start = start_now; best = best_now; found = Some grade }) start
-found_more saved climb start_now best_now grade start filled is fill start_is best_is = record {
+pub found_more : {E S : Type 0} (saved : S → State) (climb : Climb E S) (best_now : S) (grade sum : ℕ) (start filled : State) → IsClimbing saved climb start → IsFilledAt (flags climb.prober.plan.named.items) start filled grade → sum ≡ grade_sum (flags climb.prober.fresh.items) filled → saved best_now ≡ filled
+    → IsClimbing saved (record climb { best = best_now; found = Some grade; sum = sum }) start
+found_more saved climb best_now grade sum start filled is fill total best_is = record {
   prober = is.prober;
-  began = start_is;
+  began = is.began;
   best = subst (λ s. IsTwin s start) (sym best_is) (IsTwin-turned start filled (filled_at_twin (flags climb.prober.plan.named.items) start filled grade fill));
   found = subst (λ s. IsFilledAt (flags climb.prober.plan.named.items) start s grade) (sym best_is) fill;
+  sum = subst (λ s. sum ≡ grade_sum (flags climb.prober.fresh.items) s) (sym best_is) total;
   bound = is.bound;
 }
+
+-- another snapshot of the start
+pub restarted : {E S : Type 0} (saved : S → State) (climb : Climb E S) (start_now : S) (start : State) → IsClimbing saved climb start → saved start_now ≡ saved climb.start → IsClimbing saved (record climb { start = start_now }) start
+restarted saved climb start_now start is same = record { prober = is.prober; began = same ∙ is.began; best = is.best; found = is.found; sum = is.sum; bound = is.bound }
+
+-- a fill has as many lights as the start
+pub filled_lights : (before after : State) → IsTwin before after → light_count (position_of after) ≡ light_count (position_of before)
+filled_lights before after twin = length-lights after.grid ∙ ap length twin.shape.lights ∙ sym (length-lights before.grid)
+
+-- ---- better fills
+
+-- a fill that is new has no word below the least grade
+pub next_above : (named : ℕ → Bool) (start best : State) (found : Option ℕ) (least : ℕ) → least ≡ start.words.least → IfSome found (IsFilledAt named start best) → least ≤ grade_above found least
+next_above named start best None least same is = omega arith
+next_above named start best (Some grade) least same is = omega (arith, is.left, same)
+
+-- a fill whose worst word is better
+better_above : (found : Option ℕ) (was least worst sum : ℕ) → grade_above found least ≤ worst → IsBetter found was worst sum
+better_above None was least worst sum above = tt
+better_above (Some grade) was least worst sum above = inl (omega (arith, above))
+
+-- a fill whose worst word is better is kept
+pub offered_found : {E S : Type 0} (saved : S → State) (before now : Climb E S) (filled : State) (worst sum : ℕ) → IsOffered saved before now filled worst sum → next_grade before ≤ worst → now.found ≡ Some worst
+offered_found saved before now filled worst sum offered above = elim offered [
+  | inl kept ↦ kept.1
+  | inr left ↦ absurd (left.0 (better_above before.found before.sum before.prober.least worst sum above))
+]
+
+-- a better fill has no worse word, and no smaller sum if its worst word has the same grade
+gets_better : (found : Option ℕ) (was least worst sum : ℕ) → IsBetter found was worst sum → least ≤ worst → (grade_above found least ≤ suc worst) × (suc worst ≡ grade_above found least → was ≤ sum)
+gets_better None was least worst sum better above = (omega (arith, above), λ same. absurd (omega (arith, above, same)))
+gets_better (Some grade) was least worst sum (inl over) above = (omega (arith, over), λ same. absurd (omega (arith, over, same)))
+gets_better (Some grade) was least worst sum (inr even) above = (omega (arith, even.0), λ same. omega (arith, even.1))
 
 -- ---- what a step keeps
 
 -- a step that found nothing
-pub climbed_same : {E S : Type 0} (saved : S → State) (climb : Climb E S) (prober : Prober E S) (from to : Allowance) → prober.plan ≡ climb.prober.plan → prober.least ≡ climb.prober.least → from.made ≤ to.made → to.limit ≡ from.limit
-    → HasClimbed saved climb (record climb { prober = prober }) from to
-climbed_same saved climb prober from to plan least made limit = record {
+pub climbed_same : {E S : Type 0} (saved : S → State) (before now : Climb E S) (from to : Allowance) → now.prober.plan ≡ before.prober.plan → now.prober.least ≡ before.prober.least → now.found ≡ before.found → now.sum ≡ before.sum → now.bound ≡ before.bound
+    → saved now.best ≡ saved before.best → saved now.start ≡ saved before.start → from.made ≤ to.made → to.limit ≡ from.limit → HasClimbed saved before now from to
+climbed_same saved before now from to plan least found sum bound best start made limit = record {
   plan = plan;
   least = least;
-  found = omega (arith, ap (grade_above climb.found) least);
-  bound = omega arith;
+  found = omega (arith, ap (λ f. grade_above f now.prober.least) found, ap (grade_above before.found) least);
+  sum = λ same. omega (arith, sum);
+  bound = omega (arith, bound);
   made = made;
   limit = limit;
-  idle = λ none was. was;
+  idle = λ none was. subst (λ f. IfSome f (λ grade. saved now.best ≡ saved now.start)) (sym found) (subst (λ s. IfSome before.found (λ grade. s ≡ saved now.start)) (sym best) (subst (λ s. IfSome before.found (λ grade. saved before.best ≡ s)) (sym start) was));
 }
 
 -- a step that found a better bound
@@ -90,24 +133,32 @@ climbed_bound saved climb grade from to below made limit = record {
   plan = refl;
   least = refl;
   found = omega arith;
+  sum = λ same. omega arith;
   bound = omega (arith, below);
   made = made;
   limit = limit;
   idle = λ none was. was;
 }
 
--- a step that found a better fill
-pub climbed_found : {E S : Type 0} (saved : S → State) (before now : Climb E S) (grade : ℕ) (from to : Allowance) → now.prober ≡ before.prober → now.bound ≡ before.bound → now.found ≡ Some grade → next_grade before ≤ grade
-    → from.made ≤ to.made → to.limit ≡ from.limit → (to.made ≡ from.made → saved now.best ≡ saved now.start) → HasClimbed saved before now from to
-climbed_found {E} {S} saved before now grade from to prober bound found better made limit idle = record {
-  plan = ap (λ (p : Prober E S). p.plan) prober;
-  least = ap (λ (p : Prober E S). p.least) prober;
-  found = omega (arith, better, ap (λ f. grade_above f now.prober.least) found);
-  bound = omega (arith, bound);
-  made = made;
-  limit = limit;
-  idle = λ none was. subst (λ f. IfSome f (λ n. saved now.best ≡ saved now.start)) (sym found) (idle none);
-}
+-- a step that found a fill, which is kept if it is better
+pub climbed_offered : {E S : Type 0} (saved : S → State) (before now : Climb E S) (filled : State) (worst sum : ℕ) (from to : Allowance) → IsOffered saved before now filled worst sum → before.prober.least ≤ worst → now.prober ≡ before.prober → now.bound ≡ before.bound
+    → saved now.start ≡ saved before.start → from.made ≤ to.made → to.limit ≡ from.limit → (to.made ≡ from.made → filled ≡ saved before.start) → HasClimbed saved before now from to
+climbed_offered {E} {S} saved before now filled worst sum from to offered above prober bound start made limit idle = elim offered [
+  | inl kept ↦
+      let better = gets_better before.found before.sum before.prober.least worst sum kept.0 above in
+      let next : next_grade now ≡ suc worst = ap (λ f. grade_above f now.prober.least) kept.1 in
+      record {
+        plan = ap (λ (p : Prober E S). p.plan) prober;
+        least = ap (λ (p : Prober E S). p.least) prober;
+        found = omega (arith, better.0, next);
+        sum = λ same. omega (arith, better.1 (sym next ∙ same), kept.2);
+        bound = omega (arith, bound);
+        made = made;
+        limit = limit;
+        idle = λ none was. subst (λ f. IfSome f (λ n. saved now.best ≡ saved now.start)) (sym kept.1) (kept.3 ∙ idle none ∙ sym start);
+      }
+  | inr left ↦ climbed_same saved before now from to (ap (λ (p : Prober E S). p.plan) prober) (ap (λ (p : Prober E S). p.least) prober) left.1 left.2 bound left.3 start made limit
+]
 
 -- one step after another
 pub climbed-then : {E S : Type 0} (saved : S → State) (before between now : Climb E S) (from through to : Allowance) → HasClimbed saved before between from through → HasClimbed saved between now through to → HasClimbed saved before now from to
@@ -115,10 +166,24 @@ climbed-then saved before between now from through to first next = record {
   plan = next.plan ∙ first.plan;
   least = next.least ∙ first.least;
   found = omega (arith, first.found, next.found);
+  sum = λ same. omega (arith, first.sum (omega (arith, first.found, next.found, same)), next.sum (omega (arith, first.found, next.found, same)));
   bound = omega (arith, first.bound, next.bound);
   made = omega (arith, first.made, next.made);
   limit = next.limit ∙ first.limit;
   idle = λ none was. next.idle (omega (arith, first.made, next.made, none)) (first.idle (omega (arith, first.made, next.made, none)) was);
+}
+
+-- a step after another one, where placements were made before
+pub climbed_on : {E S : Type 0} (saved : S → State) (before between now : Climb E S) (from through to : Allowance) → HasClimbed saved before between through to → HasClimbed saved between now from to → from.made < through.made → HasClimbed saved before now from to
+climbed_on saved before between now from through to first next more = record {
+  plan = next.plan ∙ first.plan;
+  least = next.least ∙ first.least;
+  found = omega (arith, first.found, next.found);
+  sum = λ same. omega (arith, first.sum (omega (arith, first.found, next.found, same)), next.sum (omega (arith, first.found, next.found, same)));
+  bound = omega (arith, first.bound, next.bound);
+  made = next.made;
+  limit = next.limit;
+  idle = λ none was. absurd (omega (arith, first.made, more, none));
 }
 
 -- ---- how much is left
@@ -126,6 +191,10 @@ climbed-then saved before between now from through to first next = record {
 -- no step leaves more to do
 pub work_kept : {E S : Type 0} (saved : S → State) (before now : Climb E S) (from to : Allowance) → HasClimbed saved before now from to → work_left now to ≤ work_left before from
 work_kept saved before now from to climbed = omega (arith, climbed.found, climbed.bound, climbed.made, climbed.limit)
+
+-- a step that makes a placement leaves less to do
+pub work_made : {E S : Type 0} (saved : S → State) (before now : Climb E S) (from to : Allowance) → HasClimbed saved before now from to → from.made < to.made → work_left now to < work_left before from
+work_made saved before now from to climbed more = omega (arith, climbed.found, climbed.bound, climbed.made, climbed.limit, more, to.within, to.shared)
 
 -- a step that may make a placement leaves less to do
 pub work_done : {E S : Type 0} (saved : S → State) (before now : Climb E S) (from to : Allowance) (grade : ℕ) (probe : Probe) → HasClimbed saved before now from to → next_grade before ≤ grade → grade < before.bound → from.made < to.until → IsAtLeast grade probe → IsTaken grade before now to probe

@@ -1,6 +1,6 @@
 -- Fills with the words of a grade and better.
 use Rattle.std.proofs.Common.{◌≡◌, ◌≢◌, ℕ, suc, ◌<◌, ◌≤◌, Bool, true, false, not, List, get_or, Option, Some, None, refl, sym, ◌∙◌, ap, subst, arith, inl, inr}
-use Rattle.std.specs.Prelude.{◌⊎◌, is_none, Result, Ok, IfOk}
+use Rattle.std.specs.Prelude.{◌⊎◌, is_none, Result, Ok, Err, IfOk, OnErr}
 use Rattle.std.proofs.lemmas.Bool.{cases_Bool, and_from, or_left, or_right, true≢false, false≢true}
 use Rattle.xw_words.specs.Dictionary.{Dictionary, best_grade, with_least}
 use Rattle.xw_feas.specs.Board.{Board, light_at, is_wholly_entered}
@@ -27,7 +27,11 @@ use Rattle.xw_fill.proofs.SearchLemmas.{open_base}
 use Rattle.xw_fill.proofs.FillLemmas.{active_base, entered_base, has_words}
 use Rattle.xw_fill.proofs.NamedFills.{entered_only, in_board, has_word, any_at, entered_start, watched_changes}
 use Rattle.xw_fill.proofs.LetterSearch.{refuted_has_none, position_at}
-use Rattle.xw_feas.proofs.SnapshotLemmas.{with_least-again}
+use Rattle.xw_grid.specs.EditLaws.{SameShape}
+use Rattle.xw_feas.specs.Snapshot.{IsTwin, CanSave}
+use Rattle.xw_feas.proofs.ShapeLemmas.{SameShape-then}
+use Rattle.xw_feas.proofs.SnapshotLemmas.{with_least-again, with_least-same, IsTwin-itself, IsTwin-turned, CanSave-twin, CanSave-then, CanSave-least, CanSave-back}
+use Rattle.xw_fill.proofs.MarksLemmas.{IsTwin-entries}
 use Rattle.xw_fill.proofs.LeastLemmas.{active_down, at_least-again, at_least-same}
 
 -- the position with the words of a grade and better
@@ -194,6 +198,15 @@ module _ (named fresh watched : List Bool) (before now : State) (grade : ℕ) (i
 pub served : {E S : Type 0} (saved : S → State) (prober : Prober E S) (stack : Stack E Frame S) (start : State) → IsProber saved prober start → IsReady saved stack start → IsProber saved (record prober { stack = stack }) start
 served saved prober stack start is ready = record { plan = is.plan; fresh = is.fresh; least = is.least; ready = ready }
 
+-- a prober that has served one more search, with another stack
+pub served_more : {E S : Type 0} (saved : S → State) (before now : Prober E S) (start : State) → IsProber saved before start → now.plan ≡ before.plan → now.fresh ≡ before.fresh → now.least ≡ before.least → IsReady saved now.stack start → IsProber saved now start
+served_more saved before now start is plan fresh least ready = record {
+  plan = subst (IsPlan (position_of start)) (sym plan) is.plan;
+  fresh = subst (AreFresh (position_of start)) (sym (ap (λ vec. vec.items) fresh)) is.fresh;
+  least = least ∙ is.least;
+  ready = ready;
+}
+
 -- the same facts about an equal prober
 pub same_prober : {E S : Type 0} (saved : S → State) (start : State) {one other : Prober E S} → one ≡ other → IsProber saved other start → IsProber saved one start
 same_prober {E} {S} saved start same is = subst (λ (prober : Prober E S). IsProber saved prober start) (sym same) is
@@ -231,3 +244,26 @@ limit_at {Fault} named before made now grade result made_is result_is is =
 pub back_at : (before now after : State) (grade least : ℕ) → IsWellFormed before → least ≡ before.words.least → now ≡ at_least before grade → after ≡ at_least now least → after ≡ before
 back_at before now after grade least formed least_is now_is after_is =
     after_is ∙ ap (λ s. at_least s least) now_is ∙ at_least-again before least grade ∙ ap (λ n. at_least before n) least_is ∙ at_least-same before formed
+
+-- ---- parts
+
+-- a search changes only entries, whatever it found
+pub filling_twin : {Fault : Type 0} (named : ℕ → Bool) (before now : State) (result : Result Filling Fault) → IfOk result (HasEntered named before now) → IfOk result (IsAutofilled named before now) → OnErr result (now ≡ before) → IsTwin before now
+filling_twin named before now (Ok Filled) has is same = IsTwin-entries before now has.1
+filling_twin named before now (Ok NoFill) has is same = subst (IsTwin before) (sym is.1) (IsTwin-itself before)
+filling_twin named before now (Ok Limit) has is same = subst (IsTwin before) (sym is) (IsTwin-itself before)
+filling_twin named before now (Err failed) has is same = subst (IsTwin before) (sym same) (IsTwin-itself before)
+
+-- entries that were written and filled with words of a grade, and then the least grade that there was
+pub twin_back : (before written filled after : State) (grade least : ℕ) → IsWellFormed before → least ≡ before.words.least → IsTwin before written → IsTwin (at_least written grade) filled → after ≡ at_least filled least → IsTwin before after
+twin_back before written filled after grade least formed least_is first second after_is = record {
+  shape = subst (λ (s : State). SameShape before.grid s.grid) (sym after_is) (SameShape-then before.grid written.grid filled.grid first.shape second.shape);
+  words = ap (λ (s : State). s.words) after_is ∙ ap (with_least least) second.words ∙ with_least-again written.words least grade ∙ ap (with_least least) first.words ∙ ap (λ n. with_least n before.words) least_is ∙ with_least-same before formed;
+}
+
+-- snapshots of a state can save the state with entries written and another least grade, and the other way round
+pub can_save_part : (before written now : State) (grade : ℕ) → IsTwin before written → now ≡ at_least written grade → CanSave before now × CanSave now before
+can_save_part before written now grade twin is = (
+  subst (CanSave before) (sym is) (CanSave-then before written (at_least written grade) (CanSave-twin before written twin) (CanSave-least written grade)),
+  subst (λ s. CanSave s before) (sym is) (CanSave-then (at_least written grade) written before (CanSave-back written grade) (CanSave-twin written before (IsTwin-turned before written twin))),
+)

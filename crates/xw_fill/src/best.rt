@@ -4,6 +4,7 @@ mod climb;
 mod course;
 mod grades;
 mod pace;
+mod parts;
 mod probe;
 
 ghost use Rattle.std.specs.Prelude.{◌≡◌, ℕ, replicate, true, OnErr, IfOk, IfErr};
@@ -128,9 +129,7 @@ fn best_flagged<E: Searchable>(
     let plan = Plan::of(alloc, engine, named)?;
     let mut climb = Climb::new(alloc, engine, plan)?;
     climb.run(alloc, engine, course, allowance)?;
-    let best = climb.finish(engine);
-    course.note(engine, best);
-    Ok(best)
+    Ok(climb.finish(engine))
 }
 
 /// Finds the best fill of the named lights.

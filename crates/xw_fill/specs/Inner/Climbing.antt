@@ -1,10 +1,12 @@
 -- What a search for the best fill has found so far.
-use Rattle.std.specs.Prelude.{◌≡◌, ℕ, suc, ◌+◌, ◌-◌, ◌<◌, ◌≤◌, nat_le, not, Bool, true, cond, List, length, Option, Some, None, IfSome}
+use Rattle.std.specs.Prelude.{◌≡◌, ℕ, suc, ◌+◌, ◌-◌, ◌<◌, ◌≤◌, nat_le, not, Bool, true, cond, List, length, Option, Some, None, IfSome, unwrap_or, ◌⊎◌}
 use Rattle.xw_words.specs.Dictionary.{best_grade, with_least}
 use Rattle.xw_feas.specs.State.{State}
 use Rattle.xw_feas.specs.Snapshot.{IsTwin}
 use Rattle.xw_fill.specs.Position.{Position, position_of}
+use Rattle.xw_fill.specs.Below.{sum_below}
 use Rattle.xw_fill.specs.Search.{light_count, is_entered, spelling}
+use Rattle.xw_fill.specs.Listing.{grade_of}
 use Rattle.xw_fill.specs.Fill.{IsActive}
 use Rattle.xw_fill.specs.NamedFill.{flags}
 use Rattle.xw_fill.specs.Best.{at_least, HasNoneAt, IsBound, IsFilledAt}
@@ -38,6 +40,14 @@ IsActiveAt state grade word = IsActive (with_least grade state.words) word
 abbrev pub AreActiveAt : (ℕ → Bool) → State → ℕ → Type 0
 AreActiveAt flagged state grade = (light : ℕ) → light < light_count (position_of state) → flagged light ≡ true → is_entered (position_of state) light ≡ true → IsActiveAt state grade (spelling (position_of state) light)
 
+-- the grade of the word that a flagged light spells; 0 if the light has no flag, and if the word is not known
+abbrev pub new_grade : (ℕ → Bool) → State → ℕ → ℕ
+new_grade flagged state light = cond (flagged light) (unwrap_or (grade_of (position_of state) light) 0) 0
+
+-- the sum of the grades of the words that the flagged lights spell
+abbrev pub grade_sum : (ℕ → Bool) → State → ℕ
+grade_sum flagged state = sum_below (new_grade flagged state) (light_count (position_of state))
+
 -- there is a flag for each light: whether it is not wholly entered
 pub record AreFresh (start : Position) (fresh : List Bool) : Type 0 where
   pub long : length fresh ≡ light_count start
@@ -62,12 +72,19 @@ abbrev pub IsAtLeast : ℕ → Probe → Type 0
 IsAtLeast grade (Filled least) = (grade ≤ least) × (least ≤ best_grade)
 IsAtLeast grade other = Unit {0}
 
--- the search began at this state, and knows a bound and the best fill that was found
+-- A fill with this worst grade and this sum of grades is better than the one that was found, if there is one: its worst
+-- word is better, or it has the same grade and the sum is greater.
+abbrev pub IsBetter : Option ℕ → ℕ → ℕ → ℕ → Type 0
+IsBetter None was worst sum = Unit {0}
+IsBetter (Some found) was worst sum = (found < worst) ⊎ ((found ≡ worst) × (was < sum))
+
+-- the search began at this state, and knows a bound and the best fill that was found, with the sum of its new grades
 pub record IsClimbing {E S : Type 0} (saved : S → State) (climb : Climb E S) (start : State) : Type 0 where
   pub prober : IsProber saved climb.prober start
   pub began : saved climb.start ≡ start
   pub best : IsTwin (saved climb.best) start
   pub found : IfSome climb.found (IsFilledAt (flags climb.prober.plan.named.items) start (saved climb.best))
+  pub sum : IfSome climb.found (λ grade. climb.sum ≡ grade_sum (flags climb.prober.fresh.items) (saved climb.best))
   pub bound : IsBound (flags climb.prober.plan.named.items) start climb.bound
 
 -- the least grade at which a fill would be new, after one of this grade was found, or none
@@ -82,13 +99,20 @@ next_grade climb = grade_above climb.found climb.prober.least
 abbrev pub IsIdle : {E S : Type 0} → (S → State) → Climb E S → Type 0
 IsIdle saved climb = IfSome climb.found (λ grade. saved climb.best ≡ saved climb.start)
 
--- What every step of a search for the best fill keeps, whichever grades it tries: the fill that it holds gets better or
--- stays, and so does its bound. It takes no placement back and keeps their limit. A fill that it found without a
+-- what a search holds after a fill was offered: this fill if it is better than the one before, and otherwise that one
+abbrev pub IsOffered : {E S : Type 0} → (S → State) → Climb E S → Climb E S → State → ℕ → ℕ → Type 0
+IsOffered saved before now filled worst sum =
+    (IsBetter before.found before.sum worst sum × (now.found ≡ Some worst) × (now.sum ≡ sum) × (saved now.best ≡ filled))
+    ⊎ ((IsBetter before.found before.sum worst sum → ⊥) × (now.found ≡ before.found) × (now.sum ≡ before.sum) × (saved now.best ≡ saved before.best))
+
+-- What every step of a search for the best fill keeps, whichever grades and parts it tries: the fill that it holds gets
+-- better or stays, by its worst grade and then by the sum of its grades, and its bound gets lower or stays. It takes no placement back and keeps their limit. A fill that it found without a
 -- placement has the entries of the start.
 pub record HasClimbed {E S : Type 0} (saved : S → State) (before now : Climb E S) (from to : Allowance) : Type 0 where
   pub plan : now.prober.plan ≡ before.prober.plan
   pub least : now.prober.least ≡ before.prober.least
   pub found : next_grade before ≤ next_grade now
+  pub sum : next_grade now ≡ next_grade before → before.sum ≤ now.sum
   pub bound : now.bound ≤ before.bound
   pub made : from.made ≤ to.made
   pub limit : to.limit ≡ from.limit

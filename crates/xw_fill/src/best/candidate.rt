@@ -36,7 +36,7 @@ fn entry_of(entries: &[Option<Letter>], cell: usize) -> Option<Letter>
 }
 
 /// The cells to fill, each with its entry in a list.
-fn written_of<E: Feasible>(
+pub fn written_of<E: Feasible>(
     alloc: Global,
     engine: &E,
     plan: &Plan,

@@ -1,24 +1,31 @@
 //! The search for the best fill: what it keeps of the grades that it tries.
-ghost use Rattle.std.specs.Prelude.{◌≡◌, ◌<◌, ◌≤◌, ◌⊎◌, true, IfOk, OnOk, IfSome};
+ghost use Rattle.std.specs.Prelude.{◌≡◌, ◌+◌, ◌<◌, ◌≤◌, ◌⊎◌, true, false, IfOk, OnOk, IfSome};
 ghost use Rattle.xw_words.specs.Dictionary.{best_grade};
 ghost use Rattle.xw_fill.specs.Inner.OfState.{IsPlan};
 ghost use Rattle.xw_fill.specs.NamedFill.{flags};
 ghost use Rattle.xw_fill.specs.Best.{IsBest, IsFilledAt};
-ghost use Rattle.xw_fill.specs.Inner.Climbing.{IsAtLeast, IsClimbing, HasClimbed, IsTaken, IsIdle, next_grade, work_left, best_of};
+ghost use Rattle.xw_feas.specs.Snapshot.{IsTwin};
+ghost use Rattle.xw_feas.specs.State.{State};
+ghost use Rattle.xw_fill.specs.declared.allowance.Allowance.{Allowance as AllowanceOf};
+ghost use Rattle.xw_fill.specs.Inner.Climbing.{IsAtLeast, IsBetter, IsClimbing, IsOffered, IsProbed, HasClimbed, IsTaken, IsIdle, grade_sum, next_grade, work_left, best_of};
 
 use crate::allowance::Allowance;
 use crate::best::Best;
 use crate::best::course::Course;
+use crate::best::grades::grade_sum;
+use crate::best::pace::Turn;
+use crate::best::parts::{FEE, Goal, PLACEMENTS};
 use crate::best::probe::{Probe, Prober, bound_of};
 use crate::named_lights::plan::Plan;
-use crate::named_lights::run::Effort;
+use crate::search::Filling;
 use std::alloc::{AllocError, Global};
 use xw_feas::searchable::Searchable;
 use xw_letters::letter::Letter;
 
 /// A search for the best fill.
 /// - `start`, `best`: the state where it began, and the best fill that was found.
-/// - `found`: the greatest grade at which `best` is a fill, if one was found.
+/// - `found`: the greatest grade at which `best` is a fill, if one was found. `sum`: the sum of the grades of its new
+///   words.
 /// - `bound`: a grade at which no fill exists.
 #[derive(Drop)]
 pub struct Climb<E: Searchable> {
@@ -26,6 +33,7 @@ pub struct Climb<E: Searchable> {
     start: E::Snapshot,
     best: E::Snapshot,
     found: Option<u8>,
+    sum: u64,
     bound: u8,
 }
 
@@ -47,6 +55,7 @@ impl<E: Searchable> Climb<E> {
             start,
             best,
             found: None,
+            sum: 0,
             bound,
         })
     }
@@ -62,22 +71,73 @@ impl<E: Searchable> Climb<E> {
         }
     }
 
+    /// Whether a fill of this grade whose new words have this sum of grades is better than the best one: its worst word
+    /// is better, or it has the same grade and the sum is greater.
+    fn is_better(&self, grade: u8, sum: u64) -> bool
+        ensures better { result ≡ true → IsBetter self.now.found self.now.sum grade sum }
+        ensures no_better { result ≡ false → IsBetter self.now.found self.now.sum grade sum → ⊥ }
+    {
+        match self.found {
+            Some(found) => found < grade || (found == grade && self.sum < sum),
+            None => true,
+        }
+    }
+
+    /// Returns to the start.
+    fn go_back(&mut self, engine: &mut E)
+        requires twin { IsTwin (E.saved self.old.start) (E.state engine.old) }
+        ensures back { E.state engine.new ≡ E.saved self.old.start }
+        ensures climbing { (start : State) → IsClimbing E.saved self.old start → IsClimbing E.saved self.new start }
+        ensures start { E.saved self.new.start ≡ E.saved self.old.start }
+        ensures best { self.new.best ≡ self.old.best }
+        ensures found { self.new.found ≡ self.old.found }
+        ensures sum { self.new.sum ≡ self.old.sum }
+        ensures prober { self.new.prober ≡ self.old.prober }
+        ensures bound { self.new.bound ≡ self.old.bound }
+    {
+        engine.exchange(&mut self.start);
+        engine.save(&mut self.start);
+    }
+
     /// Keeps the fill that the grid holds, which is better than the one before, and returns to the start.
-    fn keep(&mut self, engine: &mut E, grade: u8)
+    fn keep(&mut self, engine: &mut E, grade: u8, sum: u64)
         requires climbing { IsClimbing E.saved self.old (E.saved self.old.start) }
-        requires better { next_grade self.old ≤ grade }
+        requires better { IsBetter self.old.found self.old.sum grade sum }
         requires filled { IsFilledAt (flags self.old.prober.plan.named.items) (E.saved self.old.start) (E.state engine.old) grade }
+        requires sum { sum ≡ grade_sum (flags self.old.prober.fresh.items) (E.state engine.old) }
         ensures climbing { IsClimbing E.saved self.new (E.state engine.new) }
         ensures back { E.state engine.new ≡ E.saved self.old.start }
         ensures found { self.new.found ≡ Some grade }
+        ensures sum { self.new.sum ≡ sum }
         ensures best { E.saved self.new.best ≡ E.state engine.old }
         ensures prober { self.new.prober ≡ self.old.prober }
         ensures bound { self.new.bound ≡ self.old.bound }
     {
         engine.save(&mut self.best);
-        engine.exchange(&mut self.start);
-        engine.save(&mut self.start);
         self.found = Some(grade);
+        self.sum = sum;
+        self.go_back(engine);
+    }
+
+    /// Keeps the fill that the grid holds if it is better than the one before, and returns to the start. Returns whether it
+    /// kept it.
+    fn offer(&mut self, engine: &mut E, grade: u8) -> bool
+        requires climbing { IsClimbing E.saved self.old (E.saved self.old.start) }
+        requires filled { IsFilledAt (flags self.old.prober.plan.named.items) (E.saved self.old.start) (E.state engine.old) grade }
+        ensures climbing { IsClimbing E.saved self.new (E.state engine.new) }
+        ensures back { E.state engine.new ≡ E.saved self.old.start }
+        ensures offered { IsOffered E.saved self.old self.new (E.state engine.old) grade (grade_sum (flags self.old.prober.fresh.items) (E.state engine.old)) }
+        ensures prober { self.new.prober ≡ self.old.prober }
+        ensures bound { self.new.bound ≡ self.old.bound }
+    {
+        let sum = grade_sum(engine, &self.prober.fresh);
+        let is_better = self.is_better(grade, sum);
+        if is_better {
+            self.keep(engine, grade, sum);
+        } else {
+            self.go_back(engine);
+        }
+        is_better
     }
 
     /// Looks for a fill with the words of a grade and better, within the share of the placements that is granted, and
@@ -87,7 +147,7 @@ impl<E: Searchable> Climb<E> {
         alloc: Global,
         engine: &mut E,
         grade: u8,
-        effort: &mut Effort,
+        course: &mut Course,
         allowance: &mut Allowance,
     ) -> Result<Probe, AllocError>
         requires climbing { IsClimbing E.saved self.old (E.state engine.old) }
@@ -100,9 +160,14 @@ impl<E: Searchable> Climb<E> {
         ensures found { IfOk result (IsAtLeast grade) }
         ensures taken { IfOk result (IsTaken grade self.old self.new allowance.new) }
     {
-        let probe = self.prober.probe(alloc, engine, grade, effort, allowance)?;
+        let probe = self
+            .prober
+            .probe(alloc, engine, grade, course.effort(), allowance)?;
         match probe {
-            Probe::Filled(found) => self.keep(engine, found),
+            Probe::Filled(found) => {
+                course.parts.note_best(engine, &self.prober.fresh);
+                let _ = self.offer(engine, found);
+            }
             Probe::NoFill => self.bound = grade,
             Probe::Limit => {}
         }
@@ -110,7 +175,7 @@ impl<E: Searchable> Climb<E> {
     }
 
     /// Tries the next grade, upwards or downwards. It decides a grade or makes a placement.
-    fn advance(
+    fn try_grade(
         &mut self,
         alloc: Global,
         engine: &mut E,
@@ -119,15 +184,17 @@ impl<E: Searchable> Climb<E> {
     ) -> Result<(), AllocError>
         requires climbing { IsClimbing E.saved self.old (E.state engine.old) }
         requires below { next_grade self.old < self.old.bound }
+        requires left { allowance.old.made < allowance.old.limit }
         ensures climbing { IsClimbing E.saved self.new (E.state engine.new) }
         ensures unchanged { E.state engine.new ≡ E.state engine.old }
         ensures climbed { HasClimbed E.saved self.old self.new allowance.old allowance.new }
-        ensures moved { OnOk result (allowance.old.made < allowance.old.limit → work_left self.new allowance.new < work_left self.old allowance.old) }
+        ensures moved { OnOk result (work_left self.new allowance.new < work_left self.old allowance.old) }
     {
         let left = allowance.left();
         let grade = course.pace.grade(self.next_grade(), self.bound);
-        allowance.grant(course.pace.share().min(left));
-        let probe = self.step(alloc, engine, grade, course.effort(), allowance)?;
+        let spare = course.pace.spare(self.may_raise(course), left).max(1);
+        allowance.grant(course.pace.share().min(spare));
+        let probe = self.step(alloc, engine, grade, course, allowance)?;
         course
             .pace
             .note(grade, probe, left.saturating_sub(allowance.left()));
@@ -139,7 +206,7 @@ impl<E: Searchable> Climb<E> {
         &mut self,
         alloc: Global,
         engine: &mut E,
-        effort: &mut Effort,
+        course: &mut Course,
         allowance: &mut Allowance,
     ) -> Result<(), AllocError>
         requires climbing { IsClimbing E.saved self.old (E.state engine.old) }
@@ -149,17 +216,38 @@ impl<E: Searchable> Climb<E> {
     {
         let grade = self.next_grade();
         if grade < self.bound {
-            let _ = self.step(alloc, engine, grade, effort, allowance)?;
+            let _ = self.step(alloc, engine, grade, course, allowance)?;
         }
         Ok(())
     }
 
-    /// Tries the entries of a fill that is known, as one placement, if a placement is left.
+    /// Keeps the fill that has these entries in the cells to fill, if they are one and it is better than the best one.
+    /// Returns whether it kept it.
     fn try_known(
         &mut self,
         alloc: Global,
         engine: &mut E,
         entries: &[Option<Letter>],
+    ) -> Result<bool, AllocError>
+        requires climbing { IsClimbing E.saved self.old (E.state engine.old) }
+        ensures climbing { IsClimbing E.saved self.new (E.state engine.new) }
+        ensures unchanged { E.state engine.new ≡ E.state engine.old }
+        ensures climbed { (from to : AllowanceOf) → from.made < to.made → to.limit ≡ from.limit → HasClimbed E.saved self.old self.new from to }
+    {
+        let probe = self.prober.try_known(alloc, engine, entries)?;
+        Ok(match probe {
+            Probe::Filled(grade) => self.offer(engine, grade),
+            Probe::NoFill => false,
+            Probe::Limit => false,
+        })
+    }
+
+    /// Tries the best fill that is known, as one placement.
+    fn try_best(
+        &mut self,
+        alloc: Global,
+        engine: &mut E,
+        course: &Course,
         allowance: &mut Allowance,
     ) -> Result<(), AllocError>
         requires climbing { IsClimbing E.saved self.old (E.state engine.old) }
@@ -167,21 +255,128 @@ impl<E: Searchable> Climb<E> {
         ensures unchanged { E.state engine.new ≡ E.state engine.old }
         ensures climbed { HasClimbed E.saved self.old self.new allowance.old allowance.new }
     {
+        let entries = course.parts.best.entries.as_slice();
         if entries.is_empty() || allowance.left() == 0 {
-            return Ok(());
-        }
-        if self.found.is_some() {
             return Ok(());
         }
         allowance.grant(1);
         allowance.count();
-        let probe = self.prober.try_known(alloc, engine, entries)?;
-        match probe {
-            Probe::Filled(least) => self.keep(engine, least),
-            Probe::NoFill => (),
-            Probe::Limit => (),
+        let _ = self.try_known(alloc, engine, entries)?;
+        Ok(())
+    }
+
+    /// Fills a part again, and returns to the start. Returns whether the fill seems to be better than the best one.
+    fn fill_part(
+        &mut self,
+        alloc: Global,
+        engine: &mut E,
+        goal: Goal,
+        course: &mut Course,
+        allowance: &mut Allowance,
+    ) -> Result<bool, AllocError>
+        requires climbing { IsClimbing E.saved self.old (E.state engine.old) }
+        ensures climbing { IsClimbing E.saved self.new (E.state engine.new) }
+        ensures unchanged { E.state engine.new ≡ E.state engine.old }
+        ensures climbed { HasClimbed E.saved self.old self.new allowance.old allowance.new }
+    {
+        let left = allowance.left();
+        allowance.grant(PLACEMENTS.min(left));
+        let parts = &mut course.parts;
+        let filling = self.prober.fill_part(alloc, engine, parts, allowance);
+        let is_better = match filling {
+            Ok(filling) => Ok(parts.note(engine, &self.prober.fresh, goal, filling)),
+            Err(failed) => Err(failed),
+        };
+        let made = left.saturating_sub(allowance.left());
+        course.pace.count_part(goal, made.saturating_add(FEE));
+        self.go_back(engine);
+        is_better
+    }
+
+    /// Fills a part again, and keeps the fill if it is better than the best one.
+    fn refill(
+        &mut self,
+        alloc: Global,
+        engine: &mut E,
+        goal: Goal,
+        course: &mut Course,
+        allowance: &mut Allowance,
+    ) -> Result<(), AllocError>
+        requires climbing { IsClimbing E.saved self.old (E.state engine.old) }
+        ensures climbing { IsClimbing E.saved self.new (E.state engine.new) }
+        ensures unchanged { E.state engine.new ≡ E.state engine.old }
+        ensures made { allowance.old.made ≤ allowance.new.made }
+        ensures limit { allowance.new.limit ≡ allowance.old.limit }
+        ensures climbed { (from : AllowanceOf) → from.made < allowance.old.made → allowance.old.limit ≡ from.limit → HasClimbed E.saved self.old self.new from allowance.new }
+    {
+        let is_better = self.fill_part(alloc, engine, goal, course, allowance)?;
+        if !is_better {
+            return Ok(());
+        }
+        let is_kept = self.try_known(alloc, engine, &course.parts.current.entries)?;
+        if is_kept {
+            course.parts.keep_current();
         }
         Ok(())
+    }
+
+    /// Empties a part of a fill and fills it again. The part counts some placements besides those of its search.
+    fn try_part(
+        &mut self,
+        alloc: Global,
+        engine: &mut E,
+        goal: Goal,
+        course: &mut Course,
+        allowance: &mut Allowance,
+    ) -> Result<(), AllocError>
+        requires climbing { IsClimbing E.saved self.old (E.state engine.old) }
+        requires left { allowance.old.made < allowance.old.limit }
+        ensures climbing { IsClimbing E.saved self.new (E.state engine.new) }
+        ensures unchanged { E.state engine.new ≡ E.state engine.old }
+        ensures climbed { HasClimbed E.saved self.old self.new allowance.old allowance.new }
+        ensures fee { (allowance.old.made + 20 ≤ allowance.new.made) ⊎ (allowance.new.made ≡ allowance.new.limit) }
+    {
+        allowance.grant(FEE.min(allowance.left()));
+        allowance.count_all();
+        let is_part = course.parts.empty_next(alloc, engine, goal, self.bound)?;
+        if !is_part {
+            return Ok(());
+        }
+        self.refill(alloc, engine, goal, course, allowance)
+    }
+
+    /// Whether parts can still raise the mean of the best fill.
+    fn may_raise(&self, course: &Course) -> bool {
+        self.found.is_some() && !self.prober.plan.targets.is_empty() && !course.parts.is_tired()
+    }
+
+    /// Tries the next grade or the next part.
+    fn advance(
+        &mut self,
+        alloc: Global,
+        engine: &mut E,
+        course: &mut Course,
+        allowance: &mut Allowance,
+    ) -> Result<(), AllocError>
+        requires climbing { IsClimbing E.saved self.old (E.state engine.old) }
+        requires left { allowance.old.made < allowance.old.limit }
+        ensures climbing { IsClimbing E.saved self.new (E.state engine.new) }
+        ensures unchanged { E.state engine.new ≡ E.state engine.old }
+        ensures climbed { HasClimbed E.saved self.old self.new allowance.old allowance.new }
+        ensures moved { OnOk result (work_left self.new allowance.new < work_left self.old allowance.old) }
+    {
+        let is_open = self.next_grade() < self.bound;
+        let turn = if is_open {
+            course
+                .pace
+                .next_turn(self.may_raise(course), allowance.left())
+        } else {
+            Turn::Part(Goal::Mean)
+        };
+        match turn {
+            Turn::Grade => self.try_grade(alloc, engine, course, allowance),
+            Turn::Part(goal) => self.try_part(alloc, engine, goal, course, allowance),
+        }
     }
 
     /// Tries the fill that is known. If no cell is to be filled, it decides all grades, which needs no placement: the first
@@ -199,10 +394,10 @@ impl<E: Searchable> Climb<E> {
         ensures climbed { HasClimbed E.saved self.old self.new allowance.old allowance.new }
     {
         if !self.prober.plan.targets.is_empty() {
-            return self.try_known(alloc, engine, &course.fill, allowance);
+            return self.try_best(alloc, engine, course, allowance);
         }
-        self.try_next(alloc, engine, course.effort(), allowance)?;
-        self.try_next(alloc, engine, course.effort(), allowance)
+        self.try_next(alloc, engine, course, allowance)?;
+        self.try_next(alloc, engine, course, allowance)
     }
 
     /// Searches until no fill can be better than the best one that was found, or no placement is left.
@@ -219,8 +414,9 @@ impl<E: Searchable> Climb<E> {
         ensures climbed { HasClimbed E.saved self.old self.new allowance.old allowance.new }
         ensures ended { OnOk result ((allowance.new.made ≡ allowance.new.limit) ⊎ (self.new.bound ≤ next_grade self.new)) }
     {
+        course.begin(allowance.left());
         self.begin(alloc, engine, course, allowance)?;
-        while allowance.left() > 0 && self.next_grade() < self.bound {
+        while allowance.left() > 0 && (self.next_grade() < self.bound || self.may_raise(course)) {
             self.advance(alloc, engine, course, allowance)?;
         }
         Ok(())

@@ -1,21 +1,16 @@
 //! What a search for the best fill learns from grade to grade.
-use crate::best::Best;
 use crate::best::pace::{Direction, Pace};
+use crate::best::parts::Parts;
 use crate::named_lights::run::Effort;
-use crate::scan::board;
 use std::alloc::{AllocError, Global};
-use xw_feas::feasible::Feasible;
-use xw_letters::letter::Letter;
 
-/// The pace of a search, and what it learned.
+/// The pace of a search, the parts that it empties, and what it learned.
 /// - `efforts`: what it learned of the lights: other lights fail when it looks for fills, which is the first one, than
 ///   when it looks for bounds.
-/// - `fill`: the entry of each cell in the best fill that an earlier search found; empty if none did. Nothing is promised
-///   of them, so a search checks them.
 #[derive(Drop)]
 pub struct Course {
     pub pace: Pace,
-    pub fill: Vec<Option<Letter>>,
+    pub parts: Parts,
     efforts: [Effort; 2],
 }
 
@@ -29,9 +24,10 @@ impl Course {
     ) -> Result<Course, AllocError> {
         let up = Effort::new(alloc, lights, seed, graded)?;
         let down = Effort::new(alloc, lights, seed, graded)?;
+        let parts = Parts::new(alloc, lights, seed, graded)?;
         Ok(Course {
             pace: Pace::new(),
-            fill: Vec::new(alloc),
+            parts,
             efforts: [up, down],
         })
     }
@@ -41,17 +37,10 @@ impl Course {
         self.efforts[0].seed
     }
 
-    /// Keeps the entries of the grid if it holds the best fill that was found. Keeps none if an allocation fails.
-    pub fn note<E: Feasible>(&mut self, engine: &E, best: Best) {
-        if let Best::Filled { .. } = best {
-            self.fill.clear();
-            for cell in 0..board(engine).cell_count() {
-                if self.fill.push(board(engine).entry(cell)).is_err() {
-                    self.fill.clear();
-                    return;
-                }
-            }
-        }
+    /// Begins a search with so many placements.
+    pub fn begin(&mut self, left: u64) {
+        self.pace.begin(left);
+        self.parts.begin_search();
     }
 
     /// The effort for the grade that is tried now. Upwards, a new grade begins with the cut of a first run; downwards each

@@ -5,9 +5,9 @@ ghost use Rattle.xw_fill.specs.OfState.{light_count, spelling};
 ghost use Rattle.xw_fill.specs.Inner.OfState.{AreFresh};
 ghost use Rattle.xw_fill.specs.NamedFill.{flags};
 ghost use Rattle.xw_fill.specs.Best.{at_least};
-ghost use Rattle.xw_fill.specs.Inner.Climbing.{DiffersInLeast, IsDeadAt, AreAliveAt, IsActiveAt, AreActiveAt};
+ghost use Rattle.xw_fill.specs.Inner.Climbing.{DiffersInLeast, IsDeadAt, AreAliveAt, IsActiveAt, AreActiveAt, new_grade, grade_sum};
 
-use crate::listing::{size_of, word_index};
+use crate::listing::{grade, size_of, word_index};
 use crate::named_lights::checks::first_dead;
 use crate::scan::{is_entered, light_count};
 use std::alloc::{AllocError, Global};
@@ -89,6 +89,30 @@ pub fn worst_grade<E: Feasible>(engine: &E, flagged: &[bool]) -> u8
         }
     }
     worst
+}
+
+/// The grade of the word that a flagged light spells; 0 if the light has no flag, and if the word is not known.
+fn new_grade<E: Feasible>(engine: &E, flagged: &[bool], light: usize) -> u8
+    requires long { length flagged.now ≡ light_count (E.state engine.now) }
+    requires light { light < light_count (E.state engine.now) }
+    ensures { result ≡ new_grade (flags flagged.now) (E.state engine.now) light }
+{
+    if !flagged[light] {
+        return 0;
+    }
+    grade(engine, light).unwrap_or(0)
+}
+
+/// The sum of the grades of the words that the flagged lights spell.
+pub fn grade_sum<E: Feasible>(engine: &E, flagged: &[bool]) -> u64
+    requires long { length flagged.now ≡ light_count (E.state engine.now) }
+    ensures { result ≡ grade_sum (flags flagged.now) (E.state engine.now) }
+{
+    let mut sum = 0;
+    for light in 0..light_count(engine) {
+        sum += u64::from(new_grade(engine, flagged, light));
+    }
+    sum
 }
 
 /// A flag for each light: whether it is not wholly entered.

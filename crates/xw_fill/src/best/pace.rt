@@ -2,6 +2,7 @@
 ghost use Rattle.std.specs.Prelude.{◌<◌, ◌≤◌};
 
 use crate::best::grades::NO_BOUND;
+use crate::best::parts::Goal;
 use crate::best::probe::Probe;
 
 /// How many placements a grade gets first, until there is a fill.
@@ -28,6 +29,22 @@ const FAIR: u64 = 800;
 /// How many times the placements of the last bound the next one gets.
 const DEARER: u64 = 4;
 
+/// How many placements grades get before parts around a worst word are tried.
+const LATE: u64 = 20_000;
+
+/// For each hundred later placements of grades, how many those parts get.
+const PARTS: u64 = 15;
+
+/// The last of so many equal shares of the placements is for the mean.
+const SHARES: u64 = 12;
+
+/// What a search does next: it tries a grade, or a part with a goal.
+#[derive(Clone, Copy, Debug, PartialEq, Eq)]
+pub enum Turn {
+    Grade,
+    Part(Goal),
+}
+
 /// Whether a search looks for a better fill or for a better bound.
 #[derive(Clone, Copy, Debug, PartialEq, Eq)]
 pub enum Direction {
@@ -43,7 +60,8 @@ pub enum Direction {
 /// - `spent`: how many placements this grade has used.
 /// - `step`, `budget`: how far the next step up goes, and its placements.
 /// - `stride`, `price`: how far the next step down goes beyond one grade, and its placements.
-/// - `up`, `down`: the placements that were made in each direction.
+/// - `up`, `down`, `parts`: the placements that were made in each direction, and for parts around a worst word.
+/// - `reserve`: how many placements are left for the mean.
 /// - `floor`: one more than the best grade at which this search, or one that it continues, found a fill. Grades below
 ///   it are tried only if there is no fill at it.
 /// - `ceiling`: the least grade at which it found that there is no fill. Grades from it on are tried only if no grade
@@ -58,6 +76,8 @@ pub struct Pace {
     price: u64,
     up: u64,
     down: u64,
+    parts: u64,
+    reserve: u64,
     floor: u8,
     ceiling: u8,
 }
@@ -74,8 +94,46 @@ impl Pace {
             price: BUDGET,
             up: 0,
             down: 0,
+            parts: 0,
+            reserve: 0,
             floor: 0,
             ceiling: NO_BOUND,
+        }
+    }
+
+    /// Begins a search with so many placements.
+    pub fn begin(&mut self, left: u64) {
+        self.reserve = left / SHARES;
+    }
+
+    /// How many of the placements that are left are not for the mean.
+    pub fn spare(&self, may_raise: bool, left: u64) -> u64
+        ensures { result ≤ left }
+    {
+        if may_raise {
+            left.saturating_sub(self.reserve)
+        } else {
+            left
+        }
+    }
+
+    /// What a search does next with the placements that are left, while its best fill is not proved to be the best.
+    /// `may_raise` says whether parts can raise the mean of a fill.
+    pub fn next_turn(&self, may_raise: bool, left: u64) -> Turn {
+        if self.spare(may_raise, left) == 0 {
+            return Turn::Part(Goal::Mean);
+        }
+        let late = self.up.saturating_add(self.down).saturating_sub(LATE);
+        if self.floor > 0 && self.spent == 0 && self.parts < late / 100 * PARTS {
+            return Turn::Part(Goal::Worst);
+        }
+        Turn::Grade
+    }
+
+    /// Counts the placements of a part.
+    pub fn count_part(&mut self, goal: Goal, made: u64) {
+        if goal == Goal::Worst {
+            self.parts = self.parts.saturating_add(made);
         }
     }
 

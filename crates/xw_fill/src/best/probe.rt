@@ -6,17 +6,21 @@ ghost use Rattle.xw_fill.specs.OfState.{light_count};
 ghost use Rattle.xw_fill.specs.Inner.OfState.{IsPlan};
 ghost use Rattle.xw_fill.specs.NamedFill.{flags};
 ghost use Rattle.xw_fill.specs.Best.{IsBound};
+ghost use Rattle.xw_feas.specs.Snapshot.{IsTwin};
+ghost use Rattle.xw_fill.specs.Inner.Stack.{IsReady};
 ghost use Rattle.xw_fill.specs.Inner.Climbing.{DiffersInLeast, IsDeadAt, AreAliveAt, AreActiveAt, IsProber, IsProbed};
 
 use crate::allowance::Allowance;
-use crate::best::candidate::enter;
+use crate::best::candidate::{enter, written_of};
 use crate::best::grades::{NO_BOUND, choose_least, first_deadly, fresh_lights, worst_grade};
+use crate::best::parts::Parts;
 use crate::named_lights::frame::Frame;
 use crate::named_lights::plan::Plan;
 use crate::named_lights::run::Effort;
 use crate::named_lights::{fill_planned, stack_for};
 use crate::search::Filling;
 use crate::stack::Stack;
+use crate::why::entries::write;
 use std::alloc::{AllocError, Global};
 use xw_feas::feasible::Feasible;
 use xw_feas::searchable::Searchable;
@@ -72,7 +76,7 @@ fn greatest_grade<E: Feasible>(engine: &mut E, watched: &[bool], fresh: &[bool],
 #[derive(Drop)]
 pub struct Prober<E: Searchable> {
     pub plan: Plan,
-    fresh: Vec<bool>,
+    pub fresh: Vec<bool>,
     pub least: u8,
     stack: Stack<E, Frame>,
 }
@@ -108,6 +112,7 @@ impl<E: Searchable> Prober<E> {
         requires graded { grade ≤ best_grade }
         ensures prober { IsProber E.saved self.new (E.state engine.old) }
         ensures plan { self.new.plan ≡ self.old.plan }
+        ensures fresh { self.new.fresh ≡ self.old.fresh }
         ensures least { self.new.least ≡ self.old.least }
         ensures counted { IsCounted allowance.old allowance.new (E.state engine.old) (E.state engine.new) }
         ensures until { allowance.new.until ≡ allowance.old.until }
@@ -142,6 +147,7 @@ impl<E: Searchable> Prober<E> {
         requires prober { IsProber E.saved self.old (E.state engine.old) }
         ensures prober { IsProber E.saved self.new (E.state engine.old) }
         ensures plan { self.new.plan ≡ self.old.plan }
+        ensures fresh { self.new.fresh ≡ self.old.fresh }
         ensures least { self.new.least ≡ self.old.least }
         ensures ok { IfOk result (IsProbed (flags self.old.plan.named.items) (E.state engine.old) self.old.least (E.state engine.new)) }
         ensures unchanged { OnErr result (E.state engine.new ≡ E.state engine.old) }
@@ -157,5 +163,54 @@ impl<E: Searchable> Prober<E> {
         let grade = greatest_grade(engine, watched, fresh, least);
         choose_least(engine, least);
         Ok(Probe::Filled(grade))
+    }
+
+    /// Fills the cells of the named lights that are empty now. Only entries change.
+    fn fill_empty(
+        &mut self,
+        alloc: Global,
+        engine: &mut E,
+        effort: &mut Effort,
+        allowance: &mut Allowance,
+    ) -> Result<Filling, AllocError>
+        requires ready { IsReady E.saved self.old.stack (E.state engine.old) }
+        ensures ready { IsReady E.saved self.new.stack (E.state engine.old) }
+        ensures plan { self.new.plan ≡ self.old.plan }
+        ensures fresh { self.new.fresh ≡ self.old.fresh }
+        ensures least { self.new.least ≡ self.old.least }
+        ensures made { allowance.old.made ≤ allowance.new.made }
+        ensures limit { allowance.new.limit ≡ allowance.old.limit }
+        ensures twin { IsTwin (E.state engine.old) (E.state engine.new) }
+    {
+        let named = Vec::from_slice(alloc, &self.plan.named)?;
+        let plan = Plan::of(alloc, engine, named)?;
+        fill_planned(alloc, engine, &mut self.stack, &plan, effort, allowance)
+    }
+
+    /// Enters the fill of which a part is emptied, and fills the part with the words of its grade and better. Only
+    /// entries change, and nothing is promised of them: the caller goes back to the start.
+    pub fn fill_part(
+        &mut self,
+        alloc: Global,
+        engine: &mut E,
+        parts: &mut Parts,
+        allowance: &mut Allowance,
+    ) -> Result<Filling, AllocError>
+        requires prober { IsProber E.saved self.old (E.state engine.old) }
+        ensures prober { IsProber E.saved self.new (E.state engine.old) }
+        ensures plan { self.new.plan ≡ self.old.plan }
+        ensures fresh { self.new.fresh ≡ self.old.fresh }
+        ensures least { self.new.least ≡ self.old.least }
+        ensures made { allowance.old.made ≤ allowance.new.made }
+        ensures limit { allowance.new.limit ≡ allowance.old.limit }
+        ensures twin { IsTwin (E.state engine.old) (E.state engine.new) }
+    {
+        let list = written_of(alloc, engine, &self.plan, &parts.entries)?;
+        write(engine, &list);
+        let least = self.least;
+        choose_least(engine, parts.grade);
+        let filling = self.fill_empty(alloc, engine, &mut parts.effort, allowance);
+        choose_least(engine, least);
+        filling
     }
 }

@@ -10,11 +10,11 @@ use Rattle.xw_fill.proofs.best.best_flagged.Goals as goal
 
 pub returns-clause-ok : goal.returns-clause-ok
 returns-clause-ok g c =
-    let after = g.E.Feasible.state c.finish-best.new.engine in
+    let after = g.E.Feasible.state c.finish.new.engine in
     let same = c.in_ok-run.ensures.unchanged ∙ c.in_ok-climb.ensures.unchanged in
     let named = ap (λ plan. plan.named) (c.in_ok-run.ensures.climbed.plan ∙ c.in_ok-climb.ensures.plan) ∙ c.in_ok-plan.ensures.named in
-    subst (λ vec. IsBest (flags vec.items) (g.E.Feasible.state c.args.engine.now) after c.finish-best.result) named
-    (subst (λ (s : State). IsBest (flags c.run.new.self.prober.plan.named.items) s after c.finish-best.result) same c.finish-best.ensures.best)
+    subst (λ vec. IsBest (flags vec.items) (g.E.Feasible.state c.args.engine.now) after c.finish.result) named
+    (subst (λ (s : State). IsBest (flags c.run.new.self.prober.plan.named.items) s after c.finish.result) same c.finish.ensures.best)
 
 pub returns-clause-counted : goal.returns-clause-counted
 returns-clause-counted g c =
@@ -26,14 +26,14 @@ returns-clause-counted g c =
       limit = climbed.limit;
       idle = λ none.
           let began : IsIdle saved climb = subst (λ f. IfSome f (λ grade. saved climb.best ≡ saved climb.start)) (sym c.in_ok-climb.ensures.none) tt in
-          c.finish-best.ensures.idle (climbed.idle none began) ∙ c.in_ok-run.ensures.unchanged ∙ c.in_ok-climb.ensures.unchanged;
+          c.finish.ensures.idle (climbed.idle none began) ∙ c.in_ok-run.ensures.unchanged ∙ c.in_ok-climb.ensures.unchanged;
     }
 
 pub returns-clause-limit : goal.returns-clause-limit
 returns-clause-limit g c bound is =
     let climb = c.run.new.self in
-    let told : c.finish-best.result ≡ Limit bound = cc in
+    let told : c.finish.result ≡ Limit bound = cc in
     elim c.in_ok-run.ensures.ended [
       | inl spent ↦ spent
-      | inr over ↦ absurd (no_limit climb.found climb.prober.least climb.bound bound over (sym c.finish-best.ensures.found ∙ told))
+      | inr over ↦ absurd (no_limit climb.found climb.prober.least climb.bound bound over (sym c.finish.ensures.found ∙ told))
     ]
