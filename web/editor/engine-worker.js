@@ -330,11 +330,11 @@ function takenLetters(cells) {
 }
 
 // A slice of a search that raises the worst word, in a worker that helps: a fill of words that have this grade at least, and what is proved. With
-// a fill it has its letters; the grid is then without those of the given cells again. A quick slice takes any fill. A `least` of null is that of the
-// slice before.
-function best({ least, isQuick, limits, cells, isApart }) {
-  if (least !== null) ask(`least ${least}`);
-  const told = apart(isApart, cells, () => (isQuick ? anyFill(limits) : bestFill(limits)));
+// a fill it has its letters; the grid is then without those of the given cells again, so that the next slice goes on with what this one learned. Words that
+// are struck, for fills without words that are close to others, have it begin anew.
+function best({ least, limits, cells, isApart }) {
+  ask(`least ${least}`);
+  const told = apart(isApart, cells, () => bestFill(limits));
   if (told.answer !== 'filled') return told;
   // of a fill in several parts all words count
   const names = isApart ? asked(answers.lights()).filter(isNewWith(cells)).filter(answers.isWhole).map(({ name }) => name) : [];
@@ -387,15 +387,6 @@ function bestWord(name, cells, own) {
     return answer === 'nofill' ? 0 : bound ?? MOST + 1;
   });
   return words[bounds.indexOf(Math.max(...bounds))];
-}
-
-// Any fill of active words, with the grade of the worst new one.
-function anyFill(limits) {
-  const whole = new Set(asked(answers.lights()).filter(answers.isWhole).map(({ name }) => name));
-  const { answer } = answers.outcomeOf(ask(`autofill ${limits}`));
-  if (answer !== 'filled') return { answer, bound: null };
-  const grades = asked(answers.grades()).filter(({ name }) => !whole.has(name)).map(({ grade }) => grade);
-  return { answer, grade: Math.min(MOST, ...grades), bound: null };
 }
 
 const calls = {

@@ -194,12 +194,12 @@ export class Filler {
     say(`${isStopped ? 'stopped' : 'filled'}: ${text}${isBack ? '; it is the fill from before, since no better one was found' : ''}`, 'good');
   }
 
-  // The running line of a raising, as in “worst 62, mean 81; no fill is better than 84; trying 66; 6 s”.
-  #showTried({ wanted, bound, isPart, seconds }) {
+  // The running line of a raising, as in “worst 62, mean 81; no fill is better than 84; looking for 63 or more; 6 s”.
+  #showTried({ least, bound, isPart, seconds }) {
     const { list: { best } } = this.#editor;
     const proved = bound <= MOST ? `no fill is better than ${scoreOf(bound, best) - 1}; ` : '';
     const { worst } = this.figures;
-    say(`filled; its worst word is raised: ${worst ? `${worst}; ` : ''}${proved}trying ${scoreOf(wanted, best)}${isPart ? ' for the others' : ''}; ${seconds} s … Esc ends this`, 'busy');
+    say(`filled; its worst word is raised: ${worst ? `${worst}; ` : ''}${proved}looking for ${scoreOf(least, best)} or more${isPart ? ' for the others' : ''}; ${seconds} s … Esc ends this`, 'busy');
   }
 
   // Puts the best fill that is known into the grid again, if it is better than the one that is there. Returns whether it is.

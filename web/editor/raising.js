@@ -1,12 +1,12 @@
-// The raising of a fill: its worst word gets better by `best` in slices, in workers beside the one of the session, each with a seed of its own. Where no
-// fill is better, the words that keep it from that are held, and the worst of the others is raised. The fill that is in the grid can be edited
-// meanwhile, which ends the raising.
+// The raising of a fill: its worst word gets better by `best` in slices, in workers beside the one of the session, each with a seed of its own. A slice
+// goes on with what the slices of its worker learned. Where no fill is better, the words that keep it from that are held, and the worst of the others is
+// raised. The fill that is in the grid can be edited meanwhile, which ends the raising.
 import { grades } from './answers.js';
 import { MOST, gradeOf } from './grades.js';
 import { letterIn } from './record.js';
 
 // The placements of a slice.
-const PLACEMENTS = 1000;
+const PLACEMENTS = 2000;
 // how long a raising takes at most, once it has words, and how much longer if its worst word is no more than so far above the weak ones by then; and how
 // long one worker is alone, in milliseconds
 const LONGEST = 2000;
@@ -17,10 +17,6 @@ const ALONE = 300;
 const TOLD_EACH = 500;
 // the seed of one worker lies so far from that of the next
 const SEEDS = 1000003;
-
-// The parts of the way to a grade without a fill that workers leap ahead, and how many slices a leap may take.
-const PARTS = [1 / 4, 1 / 2];
-const MOST_TRIES = 2;
 
 // what a search tells that was not refused
 const ANSWERS = new Set(['filled', 'nofill', 'limit']);
@@ -33,37 +29,6 @@ const ANSWERS = new Set(['filled', 'nofill', 'limit']);
  * }} Race `proved` is the bound of all lights; `held` has the lights whose words are held, stage by stage, with those that force it, and `lines` enter those words
  */
 
-// The grades that a worker looks for: some way ahead of the fill that is there, as long as fills are found so. After a leap that is given up comes a
-// slice for the next grade, and then a shorter leap.
-class Leaps {
-  // the least grade that was given up, the slices that the leap has taken, and whether a slice for the next grade is due
-  #given = MOST + 1;
-  #tries = 0;
-  #isNextDue;
-
-  constructor(part, isNextDue) {
-    this.part = part;
-    this.#isNextDue = isNextDue;
-  }
-
-  // The grade to look for, where there is a fill of one grade and none of another.
-  next({ grade, bound }) {
-    // what another worker has found was given up too soon
-    if (grade >= this.#given) this.#given = MOST + 1;
-    const ahead = Math.floor(grade + this.part * (Math.min(this.#given, bound) - grade));
-    return this.#isNextDue ? grade + 1 : Math.max(grade + 1, ahead);
-  }
-
-  // Takes the answer of a slice, for a leap to a grade or null for the next grade.
-  take(leap, answer) {
-    this.#tries = leap && answer === 'limit' ? this.#tries + 1 : 0;
-    this.#isNextDue = this.#tries >= MOST_TRIES;
-    if (!this.#isNextDue) return;
-    this.#given = leap;
-    this.#tries = 0;
-  }
-}
-
 export class Raiser {
   /** @type {import('./editor.js').Editor} */
   #editor;
@@ -71,8 +36,8 @@ export class Raiser {
   /** @type {Race | null} */
   #race = null;
 
-  // `raised` is told of each better fill in the grid, and `tried` what is looked for: { wanted, bound, isPart, seconds },
-  // where `isPart` says that the words of some lights are held.
+  // `raised` is told of each better fill in the grid, and `tried` what is looked for: { least, bound, isPart, seconds }: fills of words that have the grade
+  // `least`, and `isPart` says that the words of some lights are held.
   constructor(editor, helpers, raised, tried) {
     this.#editor = editor;
     this.#helpers = helpers;
@@ -131,34 +96,25 @@ export class Raiser {
   // Has workers join, from one number to another.
   #join(race, from, to) {
     if (race.isOver || to <= from) return;
-    this.#helpers.begin(race.base, to, from).forEach((begun, at) => this.#climb(race, begun, race.seed + SEEDS * (from + at), from + at === 0, PARTS[(from + at) % PARTS.length]));
+    this.#helpers.begin(race.base, to, from).forEach((begun, at) => this.#climb(race, begun, race.seed + SEEDS * (from + at), from + at === 0));
   }
 
-  async #climb(race, begun, seed, isFirst, part) {
+  // Has a worker look for better fills than the one that is there.
+  async #climb(race, begun, seed, isFirst) {
     try {
       const engine = await begun;
       if (isFirst) setTimeout(() => this.#endInTime(race), LONGEST);
-      // the first one begins with the best fill, which tells a bound
-      let leaps = new Leaps(part, isFirst);
-      let [least, isQuick, stage] = [0, isFirst, 0];
+      let stage = 0;
       while (!race.isOver) {
         if (race.bound <= race.grade + 1) await (race.holding ??= this.#hold(race, engine).finally(() => (race.holding = null)));
         if (race.isOver) break;
-        if (stage < race.held.length) {
-          await engine.call('edit', { lines: race.lines, isWhole: false });
-          [leaps, least, isQuick, stage] = [new Leaps(part, isFirst), 0, isFirst, race.held.length];
-        }
-        const wanted = leaps.next(race);
-        this.#tell(race, wanted);
-        const isLeap = wanted > race.grade + 1;
-        const isNew = wanted !== least;
-        // any better fill is found soon; after one, and where there is none soon, the best one is looked for
-        isQuick = isLeap || (isNew && !isQuick);
-        const told = await engine.call('best', { least: isNew ? wanted : null, isQuick, limits: `${PLACEMENTS} ${seed}${race.names}`, cells: race.cells, isApart: this.#editor.list.apart });
-        least = wanted;
-        leaps.take(isLeap ? wanted : null, told.answer);
+        if (stage < race.held.length) await engine.call('edit', { lines: race.lines, isWhole: false });
+        stage = race.held.length;
+        this.#tell(race);
+        const least = race.grade + 1;
+        const told = await engine.call('best', { least, limits: `${PLACEMENTS} ${seed}${race.names}`, cells: race.cells, isApart: this.#editor.list.apart });
         // what was found without the words that are held by now is none of this stage
-        if (!race.isOver && stage === race.held.length) await this.#take(race, told, wanted);
+        if (!race.isOver && stage === race.held.length) await this.#take(race, told, least);
       }
     } catch (fault) {
       // a worker that fails leaves the race to the others; without the first there is none
@@ -175,17 +131,17 @@ export class Raiser {
   }
 
   // Tells what is looked for, now and then.
-  #tell(race, wanted) {
+  #tell(race) {
     const now = performance.now();
     if (race.isOver || now - race.told < TOLD_EACH) return;
     race.told = now;
-    this.tried({ wanted, bound: race.proved, isPart: race.held.length > 0, seconds: Math.floor((now - race.begun) / 1000) });
+    this.tried({ least: race.grade + 1, bound: race.proved, isPart: race.held.length > 0, seconds: Math.floor((now - race.begun) / 1000) });
   }
 
-  // Takes what a slice tells that looked for a fill at a grade.
-  async #take(race, told, wanted) {
+  // Takes what a slice tells that looked for fills with a least grade.
+  async #take(race, told, least) {
     if (!ANSWERS.has(told.answer)) return race.end();
-    race.bound = Math.min(race.bound, told.answer === 'nofill' ? wanted : told.bound ?? MOST + 1);
+    race.bound = Math.min(race.bound, told.answer === 'nofill' ? least : told.bound ?? MOST + 1);
     if (!race.held.length) race.proved = race.bound;
     if (told.answer === 'filled' && told.grade > race.grade) {
       race.grade = told.grade;

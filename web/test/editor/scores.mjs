@@ -182,10 +182,10 @@ export const CASES = {
     await page.factsAre(/built-in list/);
   },
 
-  async 'a raising that leaps ahead'() {
-    writeFileSync(join(room, 'leaps.txt'), 'cat;10\ncot;11\ncut;12\near;13\noar;14\ntea;15\ntoe;16\nare;17\ntar;18\nate;19\n');
-    await openFile(join(room, 'leaps.txt'));
-    await page.factsAre(/leaps.txt, 10 words/);
+  async 'a raising by slices that go on'() {
+    writeFileSync(join(room, 'slices.txt'), 'cat;10\ncot;11\ncut;12\near;13\noar;14\ntea;15\ntoe;16\nare;17\ntar;18\nate;19\n');
+    await openFile(join(room, 'slices.txt'));
+    await page.factsAre(/slices.txt, 10 words/);
     await beginBlank(3, 1);
     await raiseToTheEnd();
     // the one worker is answered for
@@ -194,9 +194,12 @@ export const CASES = {
       window.asked = [];
       const post = Worker.prototype.postMessage;
       Worker.prototype.postMessage = function (message, transfer) {
+        // what the worker of the raising is sent after its first slice
+        if (this === window.raiser && message.call !== 'best') window.asked.push(message.call);
         if (message.call !== 'best') return post.call(this, message, transfer);
+        window.raiser = this;
         window.answer = (value) => this.dispatchEvent(new MessageEvent('message', { data: { id: message.id, value } }));
-        window.asked.push([message.sent.least, message.sent.isQuick]);
+        window.asked.push([message.sent.least, message.sent.limits]);
       };
     })()`);
     await browser.press('Control+f');
@@ -204,17 +207,16 @@ export const CASES = {
       await browser.until(`window.asked.length === ${count}`);
       await browser.value(`window.answer(${JSON.stringify(value)})`);
     };
+    // each slice is sent right after the one before, and looks for fills that are better than the best one
     await answered(1, { answer: 'limit', bound: 97 });
-    // a leap that finds nothing in two slices is given up, and after a slice for the next grade comes a shorter one
-    await answered(2, { answer: 'limit', bound: null });
-    await answered(3, { answer: 'limit', bound: null });
-    await answered(4, { answer: 'limit', bound: 97 });
-    await answered(5, { answer: 'nofill', bound: null });
-    await browser.until('window.asked.length === 6');
-    const asked = await browser.value('window.asked');
-    const grade = asked[0][0] - 1;
-    const leap = (to) => Math.floor(grade + (to - grade) / 4);
-    const wanted = [[grade + 1, false], [leap(97), true], [null, true], [grade + 1, false], [leap(leap(97)), true], [grade + 1, false]];
+    await answered(2, { answer: 'filled', grade: 80, bound: 101, letters: ['set 1 1 T', 'set 1 2 A', 'set 1 3 R'] });
+    await answered(3, { answer: 'limit', bound: 90 });
+    await page.statusIs(/raised: worst \d+, mean \d+, 1 under 50; no fill is better than \d+; looking for \d+ or more; \d+ s/);
+    await answered(4, { answer: 'nofill', bound: null });
+    await browser.until("window.asked.length > 4");
+    const asked = await browser.value('window.asked.slice(0, 4)');
+    const [[grade, limits]] = asked;
+    const wanted = [[grade, limits], [grade, limits], [81, limits], [81, limits]];
     expect(JSON.stringify(asked) === JSON.stringify(wanted), `asked for ${JSON.stringify(asked)}, and not ${JSON.stringify(wanted)}`);
     await browser.press('Escape');
     await page.statusIs(/^stopped: worst \d+/);
@@ -229,7 +231,7 @@ export const CASES = {
     await browser.press('Control+f');
     await page.statusIs(/^filled; its worst word is raised/);
     // a line tells what is known and what is tried
-    await page.statusIs(/^filled; its worst word is raised: (worst \d+, mean \d+(, \d+ under \d+)?; )?(no fill is better than \d+; )?trying \d+( for the others)?; \d+ s … Esc ends this$/);
+    await page.statusIs(/^filled; its worst word is raised: (worst \d+, mean \d+(, \d+ under \d+)?; )?(no fill is better than \d+; )?looking for \d+ or more( for the others)?; \d+ s … Esc ends this$/);
     const told = await page.statusIs(/^filled: worst \d+/);
     const [, worst, better] = /worst (\d+),.*?(?:no fill is better than (\d+))?$/.exec(told);
     await picture('raised');
