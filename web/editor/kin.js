@@ -4,15 +4,39 @@
 const MOST_SHARED = 4;
 // The letters that a root has at least.
 const LEAST_ROOT = 3;
-// Endings without which words have one root.
-const ENDING = /(S|ES|ED|ER|ERS|ING|INGS|LY)$/;
 
-// Of three letters nothing is left out, so that ERE and ERR are two words.
-function rootOf(word) {
-  const stem = word.replace(ENDING, '');
-  if (stem.length < LEAST_ROOT) return word;
-  const root = stem.replace(/(.)\1$/, '$1').replace(/E$/, '');
-  return root.length < LEAST_ROOT ? stem : root;
+// A stem of one syllable that ends with one vowel and one consonant. Before a vowel it doubles that consonant, so STALING is of STALE, and not of STAL.
+const SHORT = /^[^AEIOU]*[AEIOUY][^AEIOUWXY]$/;
+const DOUBLED = /([^AEIOUWXY])\1$/;
+
+// The words that a stem comes from if an ending with a vowel follows it: STONED is of STONE, WALKED of WALK, STOPPED of STOP, and CARRIED of CARRY.
+function beforeVowel(stem) {
+  if (SHORT.test(stem)) return [`${stem}E`];
+  const others = [`${stem}E`, ...(DOUBLED.test(stem) ? [stem.slice(0, -1)] : []), ...(stem.endsWith('I') ? [`${stem.slice(0, -1)}Y`] : [])];
+  return [stem, ...others];
+}
+
+// Endings, each with the words that a stem before it comes from.
+/** @type {[string, (stem: string) => string[]][]} */
+const ENDINGS = [
+  ['S', (stem) => (stem.endsWith('S') ? [] : [stem])],
+  ['ES', (stem) => (/([SXZO]|[CS]H)$/.test(stem) ? [stem] : stem.endsWith('I') ? [`${stem.slice(0, -1)}Y`] : [])],
+  ['ED', beforeVowel],
+  ['ER', beforeVowel],
+  ['ING', beforeVowel],
+  ['LY', (stem) => [stem, ...(stem.endsWith('I') ? [`${stem.slice(0, -1)}Y`] : [])]],
+];
+
+// A word and all words that it may come from, such as WALKERS, WALKER and WALK. A stem of two letters is none: SEED is not of SEE.
+function rootsOf(word) {
+  const roots = new Set([word]);
+  for (const root of roots) {
+    for (const [ending, wordsOf] of ENDINGS) {
+      if (!root.endsWith(ending) || root.length < ending.length + LEAST_ROOT) continue;
+      for (const one of wordsOf(root.slice(0, -ending.length))) if (one.length >= LEAST_ROOT) roots.add(one);
+    }
+  }
+  return roots;
 }
 
 const piecesOf = (word) => Array.from({ length: Math.max(0, word.length - MOST_SHARED) }, (_, at) => word.slice(at, at + MOST_SHARED + 1));
@@ -26,8 +50,10 @@ export class Kin {
   // Another word that is kept and close to a word: { word, of, shared }, with what is told of it, and the letters that both have in a row, or '' if they
   // have one root; or null.
   closeTo(word) {
-    const root = this.#roots.get(rootOf(word));
-    if (root && root.word !== word) return { ...root, shared: '' };
+    for (const root of rootsOf(word)) {
+      const other = this.#roots.get(root);
+      if (other && other.word !== word) return { ...other, shared: '' };
+    }
     const shared = piecesOf(word).find((piece) => this.#pieces.has(piece));
     const other = this.#pieces.get(shared);
     return other && other.word !== word ? { ...other, shared } : null;
@@ -35,8 +61,7 @@ export class Kin {
 
   add(word, of) {
     const kept = { word, of };
-    const root = rootOf(word);
-    if (!this.#roots.has(root)) this.#roots.set(root, kept);
+    for (const root of rootsOf(word)) if (!this.#roots.has(root)) this.#roots.set(root, kept);
     for (const piece of piecesOf(word)) if (!this.#pieces.has(piece)) this.#pieces.set(piece, kept);
   }
 }

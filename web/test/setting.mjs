@@ -8,9 +8,9 @@ import { Count } from './count.mjs';
 import { pageModules } from './page-modules.mjs';
 
 const {
-  anagramsOf, brightened, changeBeside, colourIn, engineText, hasItalics, hiddenIn, isReference, joinPersonal, linksOf, namedLights, nearDeadEnd, numbersOf, partsOfText, referenceTo, spelledLights,
-  spelledLink, spokenOf, toggledItalics, withScores, withoutItalics,
-} = await pageModules('changed', 'colours', 'cryptic', 'links', 'marks', 'near', 'record', 'spoken', 'word-list');
+  anagramsOf, brightened, changeBeside, closeWords, colourIn, engineText, hasItalics, hiddenIn, isReference, joinPersonal, linksOf, namedLights, nearDeadEnd,
+  numbersOf, partsOfText, referenceTo, spelledLights, spelledLink, spokenOf, toggledItalics, withScores, withoutItalics,
+} = await pageModules('changed', 'colours', 'cryptic', 'kin', 'links', 'marks', 'near', 'record', 'spoken', 'word-list');
 
 const light = (number, direction, cells) => ({ name: `${number} ${direction}`, number: String(number), direction, cells, count: 1 });
 
@@ -68,6 +68,13 @@ const CASES = {
     same(withScores('dot;95\ncat;10 # a note\n-ear', new Map([['CAT', 60], ['TOE', 0]])), 'dot;95\nCAT;60 # a note\n-ear\nTOE;0');
     same(withScores('cat;1\ncat;2', new Map([['CAT', 3]])), 'cat;1\nCAT;3');
     same(joinPersonal('CAT;60', withScores('CAT;60', new Map([['CAT', 60]]))).there, 1);
+  },
+
+  'words of one root'() {
+    const areKin = (pair) => closeWords(pair.split(' ').map((word) => [word, word])).some(({ shared }) => !shared);
+    for (const pair of ['ODDS ODD', 'WALKERS WALKING', 'STONE STONED', 'STALE STALES', 'STALER STALES', 'STALLED STALLS', 'HOPED HOPES', 'HOPPED HOPS', 'BOXES BOXER', 'PASSES PASS', 'FLY FLIES',
+      'CARRIED CARRY', 'HAPPILY HAPPY', 'QUICKLY QUICK', 'RUNNER RUNS', 'BAKINGS BAKER']) same([pair, areKin(pair)], [pair, true]);
+    for (const pair of ['STALES STALLS', 'STALLED STALER', 'HOPING HOPPING', 'HATS HATES', 'PLANED PLANNED', 'ERE ERR', 'SEED SEE', 'HISS HIS']) same([pair, areKin(pair)], [pair, false]);
   },
 
   'anagrams and hidden words'() {

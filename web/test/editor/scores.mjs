@@ -113,6 +113,16 @@ export const CASES = {
     await listed('SINGLE,WINTER');
     await browser.click('#apart');
     await listed('STONED,SINGLE,WINTER');
+    // STALES is of STALE, and STALLS of STALL
+    writeFileSync(join(room, 'stales.txt'), 'stales;90\nstalls;80\nstaler;70\n');
+    await openFile(join(room, 'stales.txt'));
+    await page.factsAre(/stales.txt, 3 words/);
+    await browser.click('#apart');
+    await openRecord(`size 6 3\n${[1, 2, 3, 4, 5, 6].map((column) => `block 2 ${column}\n`).join('')}${[...'STALES'].map((letter, at) => `set 1 ${at + 1} ${letter}\n`).join('')}`);
+    await browser.click('#cell-3-1');
+    await listed('STALLS');
+    await browser.click('#apart');
+    await listed('STALLS,STALER');
     await menu('built-in');
     await page.factsAre(/built-in list/);
   },
