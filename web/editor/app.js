@@ -118,7 +118,7 @@ const clues = new CluesView(
   editor,
   { list: $('clue-list'), summary: $('clue-summary'), lengths: $('clue-lengths') },
   {
-    text: editText, texts: (texts) => edits.addLengths(texts), toGrid, use: (light, clue) => edits.useClue(light, clue), keep: (light) => edits.keepClue(light),
+    text: editText, lengths: (texts, left) => edits.addLengths(texts, left), enumerations: (words) => lists.enumerations(words), toGrid, use: (light, clue) => edits.useClue(light, clue), keep: (light) => edits.keepClue(light),
     former: (word) => bank.of(word), leave, note: (light, text) => edits.note(light, text), link: (light, text) => edits.link(light, text),
     words: () => allWords.get(),
   },

@@ -26,9 +26,10 @@ export class CluesView {
   // whether the tab is in sight
   isShown = false;
 
-  // `lengths` is the button that gives all clues an enumeration. `actions`: `text` sets the text of a field, `texts` those of several in one step, `use`
-  // the clue of a light, `keep` keeps a clue for the word that is there, `former` promises the clues that a
-  // word had before, `leave` leaves a field by Esc; `note` and `link` keep a private note and a link, and `words` promises all words of the lists.
+  // `lengths` is the button that adds enumerations. `actions`: `text` sets the text of a field, `lengths` those of several in one step and is told how many
+  // lights have no enumeration that is sure, `enumerations` promises those of words, `use` sets the clue of a light, `keep` keeps a clue for the word that is
+  // there, `former` promises the clues that a word had before, `leave` leaves a field by Esc; `note` and `link` keep a private note and a link, and `words`
+  // promises all words of the lists.
   constructor(editor, { list: root, summary, lengths }, actions) {
     this.#editor = editor;
     this.#root = root;
@@ -185,10 +186,15 @@ export class CluesView {
     });
   }
 
-  #addLengths() {
-    const { board } = this.#editor;
-    const withLength = (light) => withEnumeration(this.#fields.get(light.name).field.value, this.#editor.cluedBy(light).answer.length);
-    return this.actions.texts(this.#withoutLengths.map((light) => [board.clueField(light), withLength(light)]));
+  // Adds the enumerations that lists show: of the whole answer, or else of each light that the clue is for.
+  async #addLengths() {
+    const editor = this.#editor;
+    const partsOf = (light) => editor.cluedWith(light).map((one) => editor.answerOf(one));
+    const known = await this.actions.enumerations(this.#withoutLengths.map(partsOf).flatMap((parts) => [parts.join(''), ...parts]));
+    const lengthsOf = (parts) => known.get(parts.join('')) ?? (parts.every((part) => known.has(part)) ? parts.map((part) => known.get(part)).join(',') : null);
+    const due = this.#withoutLengths.map((light) => ({ light, lengths: lengthsOf(partsOf(light)) }));
+    const texts = due.filter(({ lengths }) => lengths).map(({ light, lengths }) => [editor.board.clueField(light), withEnumeration(this.#fields.get(light.name).field.value, lengths)]);
+    return this.actions.lengths(texts, due.length - texts.length);
   }
 
   // Letters come one after another: the words are shown once for those of a frame, and only in sight.

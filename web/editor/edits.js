@@ -191,9 +191,12 @@ export class Edits {
     });
   }
 
-  // Gives clues the lengths of their words.
-  async addLengths(texts) {
-    if (texts.length && !(await this.#texts(texts))) say(`${texts.length} ${texts.length === 1 ? 'clue has' : 'clues have'} a length now`, 'good');
+  // Gives clues lengths; so many others have none, since no list shows how their answers part.
+  async addLengths(texts, left) {
+    if (texts.length && (await this.#texts(texts))) return;
+    const told = texts.length ? `${texts.length} ${texts.length === 1 ? 'clue has' : 'clues have'} a length now` : 'no clue has got a length';
+    const why = `no list shows whether ${left === 1 ? 'its answer is' : 'their answers are'} one word`;
+    say(left ? `${told}; ${left} ${left === 1 ? 'is' : 'are'} left to you: ${why}` : told, texts.length ? 'good' : '');
   }
 
   // Places a word in a light of the cursor. `needs` names the crossing lights whose letters in pencil are in its way, if there are some: those

@@ -5,7 +5,7 @@ import { MOST, UNSCORED, gradeOf } from './grades.js';
 import { closeNew } from './kin.js';
 import { letterIn, lettersOf, withoutLeast } from './record.js';
 import { crossingPatterns, gridFrom } from './themes.js';
-import { joinLists } from './word-list.js';
+import { enumerationsOf, joinLists } from './word-list.js';
 
 let module;
 let xw;
@@ -456,6 +456,11 @@ const calls = {
     return words.map((word) => gradeInList(scores.get(word) ?? null, bestScore));
   },
 
+  // The enumerations of words, as far as lists show them.
+  enumerations({ words, sources, personal, plain }) {
+    return enumerationsOf(words, { sources, personal, plain });
+  },
+
   probe,
   alternatives,
   fillsWithout,
@@ -490,7 +495,7 @@ async function answer({ id, call, sent }) {
 }
 
 // Calls are answered in order. But those that leave all as it was wait until no other is there, so that a key is answered ahead of them.
-const QUERIES = new Set(['ask', 'words', 'probe', 'alternatives', 'fillsWithout', 'grades']);
+const QUERIES = new Set(['ask', 'words', 'probe', 'alternatives', 'fillsWithout', 'grades', 'enumerations']);
 
 let last = Promise.resolve();
 const queries = [];

@@ -6,17 +6,24 @@ const LAST = new RegExp(`\\(\\s*(\\d{1,2}(?:\\s*[-‐–—,;.'’/\\s]\\s*\\d{1
 // Whether a clue ends with an enumeration. A number of three digits or more, as of a year, is no length.
 export const hasEnumeration = (clue) => LAST.test(clue);
 
-// A clue without its enumeration, and that: as the clue has it, or the length of the word.
-export function enumerated(clue, length) {
-  if (!hasEnumeration(clue)) return { text: clue, enumeration: `(${length})` };
+// A clue without its enumeration, and that: as the clue has it, or else the given one.
+export function enumerated(clue, lengths) {
+  if (!hasEnumeration(clue)) return { text: clue, enumeration: `(${lengths})` };
   const at = clue.lastIndexOf('(');
   return { text: clue.slice(0, at).trim(), enumeration: clue.slice(at).trim() };
 }
 
-// A clue with an enumeration: its own, or the length of the word.
-export function withEnumeration(clue, length) {
-  const { text, enumeration } = enumerated(clue.trim(), length);
+// A clue with an enumeration: its own, or the given one, as “8” or “3,5”.
+export function withEnumeration(clue, lengths) {
+  const { text, enumeration } = enumerated(clue.trim(), lengths);
   return `${text} ${enumeration}`.trim();
+}
+
+// The enumeration of an answer by how it is spelled, as “5,9” of CROSS REFERENCES or “2-4” of RE-SIGN. Signs count for nothing: O'CLOCK has six letters.
+export function lengthsOfSpelling(spelling) {
+  const counted = (parts, mark) => parts.filter(Boolean).join(mark);
+  const lengthOf = (part) => part.replace(/[^A-Za-z]/g, '').length;
+  return counted(spelling.split(' ').map((word) => counted(word.split('-').map(lengthOf), '-')), ',');
 }
 
 // How many letters the enumeration of a clue counts; null if the clue has none, or one that counts something else, as “(3 wds.)” does.

@@ -106,6 +106,12 @@ export class ListsInUse {
     }, 'My words', new Uint8Array(), said);
   }
 
+  // Promises the enumerations of words, by word, as far as the lists show them.
+  async enumerations(words) {
+    const { plain, chosen: { sources, personal } } = this.#lists;
+    return new Map(await this.#editor.engine.call('enumerations', { words, sources, personal, plain }));
+  }
+
   // Has the engine use other lists, and says what they have, or why it refuses them. Returns whether they are in use.
   async #use(other, name = '', bytes = new Uint8Array(), said = '') {
     if (!this.actions.mayEdit()) return false;

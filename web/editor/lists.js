@@ -73,6 +73,11 @@ export class Lists {
     return this.#with({ personal });
   }
 
+  // The bytes of the list of the page, whose entries are single words.
+  get plain() {
+    return this.parts.find(({ isBuiltIn }) => isBuiltIn)?.bytes ?? new Uint8Array();
+  }
+
   // What the engine opens.
   get chosen() {
     const on = this.parts.filter(({ isOn, bytes }) => isOn && bytes.length);

@@ -1,5 +1,6 @@
 // Word lists: which lines are words, and why others are left out. The worker has this module too.
 import { toText } from '../xw.js';
+import { lengthsOfSpelling } from './enumeration.js';
 import { UNSCORED, scoreOf } from './grades.js';
 import { randoms, shuffled } from './random.js';
 
@@ -176,6 +177,32 @@ export function joinLists(sources, personal) {
   const rank = (score) => score ?? scoreOf(UNSCORED, best);
   const words = scored ? [...scores].sort(([, a], [, b]) => rank(b) - rank(a)).map(([word]) => word) : [...scores.keys()];
   return { words, scores: scored ? scores : new Map(), scored, best, leftOut: sumOf(parts.map((part) => part.leftOut)), folded: parts.reduce((sum, part) => sum + part.folded, 0) };
+}
+
+// A list shows how its entries part into words if one in so many has a space or a hyphen. Others may write all phrases in one.
+const PARTED = 100;
+const isParted = (spelling) => /[^ -][ -][^ -]/.test(spelling);
+
+// The spellings of a list, if it shows how they part.
+function partedSpellings(bytes) {
+  const lines = listLines(listText(bytes));
+  const scored = isMost(lines.filter(({ score }) => score !== null).length, lines);
+  const spellings = lines.map(({ whole, spelling }) => (scored ? spelling : whole).trim());
+  return PARTED * spellings.filter(isParted).length >= spellings.length ? spellings : [];
+}
+
+// The enumerations of words as [word, “5,9”], for those that lists show: each that has the word shows the same one. `plain` is a list of single words. Lines
+// of the personal list show them if they part, since others may be of words that the page put there.
+export function enumerationsOf(words, { sources, personal, plain }) {
+  /** @type {Map<string, Set<string>>} */
+  const found = new Map(words.map((word) => [word, new Set()]));
+  const own = linesOf(personal).map((line) => personalLine(line).spelling).filter(isParted);
+  const spellings = [...sources.map(partedSpellings), listLines(listText(plain)).map(({ whole }) => whole), own];
+  for (const spelling of spellings.flat()) {
+    const spelled = unaccented(spelling);
+    found.get(spelled.replace(/[^A-Za-z]/g, '').toUpperCase())?.add(lengthsOfSpelling(spelled));
+  }
+  return [...found].filter(([, lengths]) => lengths.size === 1).map(([word, [lengths]]) => [word, lengths]);
 }
 
 const better = (one, other) => (one === null || other === null ? one ?? other : Math.max(one, other));

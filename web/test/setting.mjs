@@ -8,9 +8,9 @@ import { Count } from './count.mjs';
 import { pageModules } from './page-modules.mjs';
 
 const {
-  anagramsOf, brightened, changeBeside, closeWords, colourIn, engineText, hasItalics, hiddenIn, isReference, joinPersonal, linksOf, namedLights, nearDeadEnd,
+  anagramsOf, brightened, changeBeside, closeWords, colourIn, engineText, enumerationsOf, hasItalics, hiddenIn, isReference, joinPersonal, lengthsOfSpelling, linksOf, namedLights, nearDeadEnd,
   numbersOf, partsOfText, referenceTo, spelledLights, spelledLink, spokenOf, toggledItalics, withScores, withoutItalics,
-} = await pageModules('changed', 'colours', 'cryptic', 'kin', 'links', 'marks', 'near', 'record', 'spoken', 'word-list');
+} = await pageModules('changed', 'colours', 'cryptic', 'enumeration', 'kin', 'links', 'marks', 'near', 'record', 'spoken', 'word-list');
 
 const light = (number, direction, cells) => ({ name: `${number} ${direction}`, number: String(number), direction, cells, count: 1 });
 
@@ -75,6 +75,22 @@ const CASES = {
     for (const pair of ['ODDS ODD', 'WALKERS WALKING', 'STONE STONED', 'STALE STALES', 'STALER STALES', 'STALLED STALLS', 'HOPED HOPES', 'HOPPED HOPS', 'BOXES BOXER', 'PASSES PASS', 'FLY FLIES',
       'CARRIED CARRY', 'HAPPILY HAPPY', 'QUICKLY QUICK', 'RUNNER RUNS', 'BAKINGS BAKER']) same([pair, areKin(pair)], [pair, true]);
     for (const pair of ['STALES STALLS', 'STALLED STALER', 'HOPING HOPPING', 'HATS HATES', 'PLANED PLANNED', 'ERE ERR', 'SEED SEE', 'HISS HIS']) same([pair, areKin(pair)], [pair, false]);
+  },
+
+  'lengths of answers by the lists'() {
+    same(["cross references", 're-sign', "o'clock", 'jack-in-the-box', 'Crème brûlée'.normalize('NFD').replace(/\p{M}/gu, '')].map(lengthsOfSpelling), ['5,10', '2-4', '6', '4-2-3-3', '5,6']);
+    const bytes = (text) => new Uint8Array(Buffer.from(text));
+    const lengths = (sources, { personal = '', plain = '' } = {}) =>
+      Object.fromEntries(enumerationsOf(['CROSSREFERENCES', 'RESIGN', 'CREMEBRULEE', 'STONE'], { sources: sources.map(bytes), personal, plain: bytes(plain) }));
+    // a list with phrases shows what is one word
+    same(lengths(['cross references;50\nstone;40\ncrème brûlée;30']), { CROSSREFERENCES: '5,10', CREMEBRULEE: '5,6', STONE: '5' });
+    // one that writes phrases in one word shows nothing, but the list of the page has single words
+    same(lengths(['crossreferences;50\nstone;40\nresign;3']), {});
+    same(lengths(['crossreferences;50\nstone;40\nresign;3'], { plain: 'stone' }), { STONE: '5' });
+    // what is spelled in two ways is not sure
+    same(lengths(['re-sign\nresign\nstone']), { STONE: '5' });
+    same(lengths(['re-sign'], { plain: 'resign' }), {});
+    same(lengths(['crossreferences;50'], { personal: 'cross references;70 # theme\nstone;5' }), { CROSSREFERENCES: '5,10' });
   },
 
   'anagrams and hidden words'() {

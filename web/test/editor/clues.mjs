@@ -152,14 +152,14 @@ export const CASES = {
     await browser.until("[...document.querySelectorAll('#clue-list textarea')].map(({ value }) => value).join('|') === 'Shakers leave large farm buildings|See 1' && document.querySelectorAll('#clue-list textarea')[1].readOnly");
     await browser.until("document.getElementById('clue-summary').textContent.endsWith('has a clue')");
     await picture('linked-lights');
-    // the length is that of both, and a clue that leads to another one gets none
+    // the lengths are those of both, and a clue that leads to another one gets none
     await browser.click('#clue-lengths');
     await page.statusIs(/^1 clue has a length now$/);
-    await browser.until("[...document.querySelectorAll('#clue-list textarea')].map(({ value }) => value).join('|') === 'Shakers leave large farm buildings (10)|See 1'");
+    await browser.until("[...document.querySelectorAll('#clue-list textarea')].map(({ value }) => value).join('|') === 'Shakers leave large farm buildings (5,5)|See 1'");
     await browser.press('F4');
     await browser.until("!/says/.test(document.getElementById('checks').textContent)");
     await browser.press('Control+p');
-    await browser.until("[...document.querySelectorAll('#preview .clues p')].map(({ textContent }) => textContent.trim()).join('|') === '1/2 Shakers leave large farm buildings (10)|2 See 1'");
+    await browser.until("[...document.querySelectorAll('#preview .clues p')].map(({ textContent }) => textContent.trim()).join('|') === '1/2 Shakers leave large farm buildings (5,5)|2 See 1'");
     await browser.press('Escape');
     const puz = await saved('crossword.puz', () => browser.press('Control+s'));
     await page.statusIs(/^saved: crossword.puz, without the link of a clue$/);
@@ -180,15 +180,15 @@ export const CASES = {
     await browser.press('.');
     await browser.until("document.querySelector('#cell-1-1.block')");
     await browser.press('Control+z');
-    await browser.until("[...document.querySelectorAll('#clue-list textarea')].map(({ value }) => value).join('|') === 'Shakers leave large farm buildings (10)|See 1'");
+    await browser.until("[...document.querySelectorAll('#clue-list textarea')].map(({ value }) => value).join('|') === 'Shakers leave large farm buildings (5,5)|See 1'");
     // without the link the other light is without a clue
     await browser.click('#clue-list textarea');
     await browser.value("document.querySelector('.clue-more .links').focus(), document.querySelector('.clue-more .links').value = ''");
     await browser.press('Enter');
-    await browser.until("[...document.querySelectorAll('#clue-list textarea')].map(({ value }) => value).join('|') === 'Shakers leave large farm buildings (10)|' && !document.querySelector('.clue.linked')");
+    await browser.until("[...document.querySelectorAll('#clue-list textarea')].map(({ value }) => value).join('|') === 'Shakers leave large farm buildings (5,5)|' && !document.querySelector('.clue.linked')");
     await browser.click('#cell-1-1');
     await browser.press('Control+z');
-    await browser.until("[...document.querySelectorAll('#clue-list textarea')].map(({ value }) => value).join('|') === 'Shakers leave large farm buildings (10)|See 1'");
+    await browser.until("[...document.querySelectorAll('#clue-list textarea')].map(({ value }) => value).join('|') === 'Shakers leave large farm buildings (5,5)|See 1'");
   },
 
   async 'numbers of linked lights after a block'() {
@@ -348,6 +348,31 @@ export const CASES = {
     await browser.click('#cell-2-2');
     await browser.press('Control+z');
     await browser.until("document.querySelectorAll('#clue-list textarea')[0].value === 'plain'");
+  },
+
+  async 'lengths of phrases, as the lists show them'() {
+    writeFileSync(join(room, 'phrases.txt'), 'ice cream;60\ncross-eyed;50\nstones;40\n');
+    await openFile(join(room, 'phrases.txt'));
+    await page.factsAre(/phrases.txt, 3 words/);
+    const answers = ['ICECREAM', 'CROSSEYED', 'STONES', 'ICECREAMS'];
+    const row = (word, at) => [
+      ...[...word].map((letter, column) => `set ${2 * at + 1} ${column + 1} ${letter}`), ...Array.from({ length: 9 - word.length }, (_, column) => `block ${2 * at + 1} ${word.length + column + 1}`),
+      ...(at ? Array.from({ length: 9 }, (_, column) => `block ${2 * at} ${column + 1}`) : []), `text clue ${2 * at + 1} 1 across Clue`,
+    ];
+    await openRecord(['size 9 7', ...answers.flatMap(row), ''].join('\n'));
+    await browser.press('F3');
+    await browser.click('#clue-lengths');
+    await page.statusIs(/^3 clues have a length now; 1 is left to you: no list shows whether its answer is one word$/);
+    const valuesAre = (wanted) => browser.until(`[...document.querySelectorAll('#clue-list textarea')].map(({ value }) => value).join() === '${wanted}'`);
+    await valuesAre('Clue (3,5),Clue (5-4),Clue (6),Clue');
+    await picture('phrases');
+    await browser.click('#clue-lengths');
+    await page.statusIs(/^no clue has got a length; 1 is left to you/);
+    await browser.click('#cell-1-1');
+    await browser.press('Control+z');
+    await valuesAre('Clue,Clue,Clue,Clue');
+    await menu('built-in');
+    await page.factsAre(/built-in list/);
   },
 
   async 'clues that have their enumerations'() {
