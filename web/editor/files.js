@@ -7,7 +7,7 @@ import { exolveOf, readExolve } from './exolve.js';
 import { ipuzOf, readIpuz } from './ipuz.js';
 import { jpzOf, readJpz } from './jpz.js';
 import { lossesOf } from './losses.js';
-import { SESSION_HEAD, hasCommands, isPuz, kindOf } from './kinds.js';
+import { SESSION_HEAD, hasCommands, isListText, isPuz, kindOf } from './kinds.js';
 import { refusalText, refuseAsIs as refuse, sayAsIs as say } from './messages.js';
 import { rebusOf, withRebus } from './puz-sections.js';
 import { asVersion13, originalsOf } from './puz-versions.js';
@@ -84,7 +84,8 @@ export class Files {
       if (!fault.status) throw fault;
       // the engine takes what is no .puz file for a text file
       const status = fault.status === 'Header' && /\.puz$/i.test(file.name) ? 'Magic' : fault.status;
-      return this.#refuse(`${file.name}: ${status === 'File' ? fault.message : refusalText(status)}`);
+      const hint = isListText(bytes) ? '; it looks like a word list, so give it a name that ends with .txt' : '';
+      return this.#refuse(`${file.name}: ${status === 'File' ? fault.message : refusalText(status)}${hint}`);
     }
     return this.#opened(file.name);
   }

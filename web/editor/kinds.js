@@ -39,6 +39,12 @@ const isSixteenBits = (bytes) => (bytes[0] === 0xff && bytes[1] === 0xfe) || (by
 // Whether a puzzle is a .puz, and not a text.
 export const isPuz = (bytes) => toText(bytes.subarray(MAGIC_AT, MAGIC_AT + MAGIC.length)) === MAGIC;
 
+// Whether the bytes of a file are a word list, whatever its name.
+export const isListText = (bytes) => isText(bytes) && isWordList(listText(bytes.subarray(0, SAMPLE)));
+
+// A text of bytes has no NUL, and pictures and archives have one soon.
+const isText = (bytes) => isSixteenBits(bytes) || !bytes.subarray(0, 4096).includes(0);
+
 // What a file is: `puzzle` (.puz or text), `text2` (text of version 2), `ipuz`, `jpz`, `exolve`, `qxw`, `deck`, `session`, `puzzles`, `list`, `rows` (a grid of letters, or a
 // list of words of one length), `empty`, or `other`.
 export function kindOf(name, bytes) {
@@ -54,8 +60,7 @@ export function kindOf(name, bytes) {
   if (/\.qxd$/i.test(name)) return 'deck';
   if (isExolve(toText(bytes.subarray(0, SAMPLE)))) return 'exolve';
   if (isSession(name, head)) return 'session';
-  // a text of bytes has no NUL, and pictures and archives have one soon
-  if (head.includes('\0') && !isSixteenBits(bytes)) return 'other';
+  if (!isText(bytes)) return 'other';
   if (bytes.length < SAMPLE && letterRows(listText(bytes))) return 'rows';
-  return isWordList(listText(bytes.subarray(0, SAMPLE))) ? 'list' : 'other';
+  return isListText(bytes) ? 'list' : 'other';
 }

@@ -134,7 +134,7 @@ export const CASES = {
       else writeFileSync(join(room, name), bytes);
       await hush();
       await browser.drop(join(room, name));
-      await page.statusIs(name === 'some.puz' ? /^some.puz: this is no .puz file$/ : new RegExp(`^${name}`), 'bad');
+      await page.statusIs(name === 'some.puz' ? /^some.puz: this is no .puz file; it looks like a word list, so give it a name that ends with .txt$/ : new RegExp(`^${name}`), 'bad');
       expect((await page.rows()).join() === rows.join(), `${name} changes the grid`);
       await page.factsAre(/built-in list/);
     }
