@@ -79,6 +79,9 @@ export class Filler {
     if (this.isRunning) return;
     this.#raiser.stop();
     this.#isStopped = false;
+    // what is under way comes first, such as another puzzle
+    await this.#editor.inOrder(() => {});
+    if (this.isRunning || this.#isStopped) return;
     const cells = this.#cells();
     const inPencil = cells.filter((cell) => cell.letter && this.#editor.pencil.has(cell.coordinates));
     const emptied = isAnother ? inPencil : [];

@@ -2,7 +2,7 @@
 import { writeFileSync } from 'node:fs';
 import { join } from 'node:path';
 import { another, begin, beginBlank, menu, openFile, openGraded, openRecord, pointedAt, scoredList, slideLeast, wordsOf } from '../doing.mjs';
-import { holdFill, holdRaising, isDrafted, isHeld, raiseInTime, raiseToTheEnd } from '../holding.mjs';
+import { hold, holdFill, holdRaising, isDrafted, isHeld, raiseInTime, raiseToTheEnd } from '../holding.mjs';
 import { browser, expect, page, picture, reload, room, runAlone } from '../page.mjs';
 
 export const CASES = {
@@ -67,6 +67,26 @@ export const CASES = {
     await menu('built-in');
     await page.factsAre(/built-in list/);
     await browser.until("document.getElementById('figures').hidden && document.getElementById('least-row').hidden");
+  },
+
+  async 'a fill while another puzzle is opened'() {
+    writeFileSync(join(room, 'squares.txt'), 'ab;90\ncd;80\nac;70\nbd;60\nef;75\ngh;85\neg;65\nfh;95\n');
+    await openFile(join(room, 'squares.txt'));
+    await page.factsAre(/squares.txt, 8 words/);
+    await beginBlank(2, 2);
+    await raiseToTheEnd();
+    writeFileSync(join(room, 'locked.xw'), 'size 2 2\nset 1 1 A\nset 1 2 B\n');
+    await hold('edit');
+    await openFile(join(room, 'locked.xw'));
+    await isHeld();
+    await browser.press('Control+f');
+    await browser.value('window.release()');
+    // the letters of that puzzle are locked, though a fill without them is better
+    await page.statusIs(/^filled: worst 60/);
+    await raiseInTime();
+    expect((await page.rows()).join() === 'AB,CD' && !(await page.has('1-1', 'pencil')), `the grid is ${await page.rows()}`);
+    await menu('built-in');
+    await page.factsAre(/built-in list/);
   },
 
   async 'a word that is forced, and the others'() {
