@@ -96,6 +96,8 @@ export class Filler {
     }
     this.isRunning = true;
     if (isAnother) this.#seed++;
+    // the workers that raise the fill load the words meanwhile
+    if (this.#editor.list.scored) this.#helpers.begin(this.#editor.record, this.#helpers.most);
     let filled = null;
     try {
       filled = await this.#search(cells, emptied);

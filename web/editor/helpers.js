@@ -27,9 +27,9 @@ export class Helpers {
     return Math.max(0, Math.min(navigator.hardwareConcurrency || 1, isTouched() ? MOST_TOUCHED : MOST) - 1);
   }
 
-  // Promises of so many engines that have a record, but for the first ones, which are in use. The words are loaded once for all records.
+  // Promises of so many engines that have a record. The words are loaded once for all records.
   /** @returns {Promise<Engine>[]} */
-  begin(record, count, used = 0) {
+  begin(record, count) {
     while (this.#helpers.length < count) {
       const helper = { engine: null, words: null };
       helper.engine = new Engine(this.#make, () => {
@@ -37,7 +37,7 @@ export class Helpers {
       });
       this.#helpers.push(helper);
     }
-    return this.#helpers.slice(used, count).map((helper) => {
+    return this.#helpers.slice(0, count).map((helper) => {
       const opened = this.#open(helper, record);
       // who awaits it gets the fault; one that nobody awaits is none
       opened.catch(() => {});

@@ -7,12 +7,11 @@ import { letterIn } from './record.js';
 
 // The placements of a slice.
 const PLACEMENTS = 2000;
-// how long a raising takes at most, once it has words, and how much longer if its worst word is no more than so far above the weak ones by then; and how
-// long one worker is alone, in milliseconds
+// how long a raising takes at most, once it has words, and how much longer if its worst word is no more than so far above the weak ones by then, in
+// milliseconds
 const LONGEST = 2000;
 const FURTHER = 2000;
 const GOOD = 20;
-const ALONE = 300;
 // how often it tells what it looks for, in milliseconds
 const TOLD_EACH = 500;
 // the seed of one worker lies so far from that of the next
@@ -83,20 +82,17 @@ export class Raiser {
     });
     this.#race = race;
     if (grade >= MOST) race.end();
-    else this.#join(race, 0, 1);
-    const joining = setTimeout(() => this.#join(race, 1, this.#helpers.most), ALONE);
+    else this.#begin(race);
     await ended;
-    clearTimeout(joining);
     // a better fill may be on its way into the grid
     await race.entered;
     if (this.#race === race) this.#race = null;
     return race;
   }
 
-  // Has workers join, from one number to another.
-  #join(race, from, to) {
-    if (race.isOver || to <= from) return;
-    this.#helpers.begin(race.base, to, from).forEach((begun, at) => this.#climb(race, begun, race.seed + SEEDS * (from + at), from + at === 0));
+  // Has all workers begin, or one where there is one core.
+  #begin(race) {
+    this.#helpers.begin(race.base, Math.max(1, this.#helpers.most)).forEach((begun, at) => this.#climb(race, begun, race.seed + SEEDS * at, at === 0));
   }
 
   // Has a worker look for better fills than the one that is there.

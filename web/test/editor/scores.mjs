@@ -138,11 +138,11 @@ export const CASES = {
     await openFile(join(room, 'stales.txt'));
     await page.factsAre(/stales.txt, 3 words/);
     await browser.click('#apart');
-    await openRecord(`size 6 3\n${[1, 2, 3, 4, 5, 6].map((column) => `block 2 ${column}\n`).join('')}${[...'STALES'].map((letter, at) => `set 1 ${at + 1} ${letter}\n`).join('')}`);
+    await openRecord(`size 6 3\nblock 1 6\n${[1, 2, 3, 4, 5, 6].map((column) => `block 2 ${column}\n`).join('')}${[...'STALE'].map((letter, at) => `set 1 ${at + 1} ${letter}\n`).join('')}`);
     await browser.click('#cell-3-1');
     await listed('STALLS');
     await browser.click('#apart');
-    await listed('STALLS,STALER');
+    await listed('STALES,STALLS,STALER');
     await menu('built-in');
     await page.factsAre(/built-in list/);
   },
@@ -237,19 +237,18 @@ export const CASES = {
       await browser.until(`window.asked.length === ${count}`);
       await browser.value(`window.answer(${JSON.stringify(value)})`);
     };
+    await page.statusIs(/^filled; its worst word is raised: .*looking for \d+ or more; 0 s … Esc ends this$/);
     // each slice is sent right after the one before, and looks for fills that are better than the best one
     await answered(1, { answer: 'limit', bound: 97 });
     await answered(2, { answer: 'filled', grade: 80, bound: 101, letters: ['set 1 1 T', 'set 1 2 A', 'set 1 3 R'] });
     await answered(3, { answer: 'limit', bound: 90 });
-    await page.statusIs(/raised: worst \d+, mean \d+, 1 under 50; no fill is better than \d+; looking for \d+ or more; \d+ s/);
     await answered(4, { answer: 'nofill', bound: null });
-    await browser.until("window.asked.length > 4");
+    // no other word can be better, so it ends
+    await page.statusIs(/^filled: worst \d+, mean \d+; no fill is better/);
     const asked = await browser.value('window.asked.slice(0, 4)');
     const [[grade, limits]] = asked;
     const wanted = [[grade, limits], [grade, limits], [81, limits], [81, limits]];
     expect(JSON.stringify(asked) === JSON.stringify(wanted), `asked for ${JSON.stringify(asked)}, and not ${JSON.stringify(wanted)}`);
-    await browser.press('Escape');
-    await page.statusIs(/^stopped: worst \d+/);
     await reload();
     await menu('built-in');
     await page.factsAre(/built-in list/);
