@@ -1,7 +1,7 @@
 // Cases of the page as a whole: browsers, screens, messages and failures.
 import { writeFileSync } from 'node:fs';
 import { join } from 'node:path';
-import { begin, intoDeadEnd, menu, openFile } from '../doing.mjs';
+import { begin, intoDeadEnd, menu, openFile, openGraded } from '../doing.mjs';
 import { changeEdit } from '../holding.mjs';
 import { PAGE, browser, expect, page, picture, pictures, reload, room, runAlone } from '../page.mjs';
 
@@ -187,6 +187,28 @@ export const CASES = {
       await browser.view(1400, 900);
       await reload();
     }
+  },
+
+  async 'bars of letters and fields of scores at several widths'() {
+    await openGraded();
+    try {
+      for (const [width, height] of [[1280, 800], [1400, 900], [1920, 1080]]) {
+        await browser.view(width, height);
+        const top = (id) => browser.value(`document.getElementById('${id}').getBoundingClientRect().top`);
+        await browser.click('#tab-words');
+        expect((await top('weak')) === (await top('threes')), `${width}: the fields of scores are in two lines`);
+        await browser.click('#tab-puzzle');
+        await browser.until("document.querySelectorAll('#frequency span').length === 26");
+        const lines = await browser.value("new Set([...document.querySelectorAll('#frequency span')].map(({ offsetTop }) => offsetTop)).size");
+        expect(lines === 1, `${width}: the letters are in ${lines} lines`);
+        await picture(`letters-${width}`);
+      }
+    } finally {
+      await browser.view(1400, 900);
+    }
+    await browser.click('#tab-words');
+    await menu('built-in');
+    await page.factsAre(/built-in list/);
   },
 
   async 'scores that fold away on a phone'() {
