@@ -40,6 +40,9 @@ export class Filler {
   #raiser;
   #seed = 0;
   #isStopped = false;
+  // the lists whose words other workers have loaded, for raisings
+  /** @type {Uint8Array[]} */
+  #warmed = [];
   // whether a search has the worker of the session, so that nothing can be edited
   isRunning = false;
 
@@ -53,6 +56,15 @@ export class Filler {
     this.show = show;
     this.explain = explain;
     this.figures = figures;
+    editor.on(['list'], () => this.#warm());
+  }
+
+  // A fill of words with scores is raised in other workers, which load each new list ahead.
+  #warm() {
+    const { sources, scored } = this.#editor.list;
+    if (!scored || (sources.length === this.#warmed.length && sources.every((bytes, at) => bytes === this.#warmed[at]))) return;
+    this.#warmed = sources;
+    this.#helpers.warm();
   }
 
   get isRaising() {
@@ -96,8 +108,6 @@ export class Filler {
     }
     this.isRunning = true;
     if (isAnother) this.#seed++;
-    // the workers that raise the fill load the words meanwhile
-    if (this.#editor.list.scored) this.#helpers.begin(this.#editor.record, this.#helpers.most);
     let filled = null;
     try {
       filled = await this.#search(cells, emptied);

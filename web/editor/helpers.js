@@ -54,15 +54,30 @@ export class Helpers {
       await helper.engine.call('edit', { lines: [`least ${grade}`, ...bodyOf(record)], isWhole: false });
       return helper.engine;
     }
-    await helper.engine.call('load', { bytes: module });
-    await helper.engine.call('open', { sources, personal, least, threes, record });
+    // both are sent at once, and what comes next finds the words
     helper.words = words;
+    try {
+      await Promise.all([helper.engine.call('load', { bytes: module }), helper.engine.call('open', { sources, personal, least, threes, record })]);
+    } catch (fault) {
+      helper.words = null;
+      throw fault;
+    }
     return helper.engine;
   }
 
-  // Lets their memory go where there is little of it. Elsewhere as many stay as need not much of it, but one at least.
+  // How many hold words while there is no search: none where there is little memory. Elsewhere as many as need not much of it, but one at least.
+  get #resting() {
+    return isTouched() ? 0 : Math.max(1, Math.floor(MOST_HELD / this.#editor.list.words));
+  }
+
+  // Has those load the words that hold them later, so that the first search does not wait for that.
+  warm() {
+    this.begin(this.#editor.record, Math.min(this.most, this.#resting));
+  }
+
+  // Lets the memory of the others go.
   rest() {
-    this.#end(isTouched() ? 0 : Math.max(1, Math.floor(MOST_HELD / this.#editor.list.words)));
+    this.#end(this.#resting);
   }
 
   // Ends all but the first ones.
