@@ -87,10 +87,12 @@ function barredWarnings(board) {
   return [{ text: `${titled(loose[0])} has ${uncheckedIn(loose[0])} unchecked letters of ${length}; ${mostUnchecked(length)} at most is usual${others}`, light: loose[0].name }];
 }
 
-// Words that are close to each other.
-function wordWarnings(board, answerOf) {
+// Words that are close to each other. Letters that both have in one cell are meant to come again.
+function wordWarnings(board, answerOf, entryOf) {
   const entered = board.lights.filter((light) => board.isEntered(light)).map((light) => [answerOf(light), light]);
-  return closeWords(entered).map(({ word, of, other, otherOf, shared }) => ({
+  const hasInCell = (light, shared) => light.cells.some((cell) => entryOf(board.cells[cell]).includes(shared));
+  const isMeant = ({ of, otherOf, shared }) => shared && hasInCell(of, shared) && hasInCell(otherOf, shared);
+  return closeWords(entered).filter((close) => !isMeant(close)).map(({ word, of, other, otherOf, shared }) => ({
     text: `${other} and ${word} ${shared ? `share ${shared}` : 'have one root'}: ${titled(otherOf)} and ${titled(of)}`, light: of.name,
   }));
 }
@@ -107,6 +109,6 @@ function clueWarnings(board, cluedOf) {
 }
 
 // What the usual rules say against a grid: { text, light or cell to go to, isClue if it is about the clue }. `answerOf` gives the
-// letters of a light, of which a cell may have several, and `cluedOf` those of all lights of its clue.
-export const warningsOf = (board, answerOf = (light) => board.spell(light), cluedOf = answerOf) =>
-  [...gridWarnings(board), ...wordWarnings(board, answerOf), ...clueWarnings(board, cluedOf)];
+// letters of a light, of which a cell may have several, `cluedOf` those of all lights of its clue, and `entryOf` those of a cell.
+export const warningsOf = (board, answerOf = (light) => board.spell(light), cluedOf = answerOf, entryOf = ({ letter }) => letter) =>
+  [...gridWarnings(board), ...wordWarnings(board, answerOf, entryOf), ...clueWarnings(board, cluedOf)];

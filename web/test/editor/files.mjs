@@ -381,6 +381,7 @@ export const CASES = {
     await page.factsAre(/filled/);
     await browser.press('F4');
     await browser.until("/^Nothing is missing|⚠/.test(document.getElementById('checks').textContent) && !/not in your lists|says/.test(document.getElementById('checks').textContent)");
+    expect(!(await browser.value("/share HEART/.test(document.getElementById('checks').textContent)")), 'it warns of the letters of the cell');
     const bytes = (await saved('sweet.puz', () => browser.press('Control+s'))).toString('latin1');
     expect(bytes.includes(' 0:HEART;') && bytes.includes('GRBS'), 'the .puz has no rebus');
     const ipuz = JSON.parse((await saved('sweet.ipuz', () => menu('save-ipuz'))).toString());
