@@ -10,7 +10,7 @@ const PLACEMENTS = 2000;
 // how long a raising takes at most, once it has words, and how much longer if its worst word is no more than so far above the weak ones by then, in
 // milliseconds
 const LONGEST = 2000;
-const FURTHER = 2000;
+const FURTHER = 3000;
 const GOOD = 20;
 // how often it tells what it looks for, in milliseconds
 const TOLD_EACH = 500;
