@@ -5,6 +5,9 @@ import { $ } from './page.js';
 import { Printer } from './print.js';
 import { isBritishGrid } from './terms.js';
 
+// the regions of a language in which Letter is the usual paper
+const OF_LETTER = /-(US|CA|MX|PH)$/i;
+
 export class PrintDialog {
   /** @type {import('./editor.js').Editor} */
   #editor;
@@ -15,6 +18,8 @@ export class PrintDialog {
   constructor(editor) {
     this.#editor = editor;
     this.#printer = new Printer(editor, $('sheet'));
+    const paper = OF_LETTER.test(navigator.language) ? 'letter' : 'A4';
+    $('print-dialog').querySelector(`[name=paper][value=${paper}]`).checked = true;
     $('print-lengths').addEventListener('input', () => {
       this.#isLengthsChosen = true;
     });

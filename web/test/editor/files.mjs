@@ -443,6 +443,8 @@ export const CASES = {
     }
     await browser.press('Control+f');
     await page.statusIs(/^filled/);
+    // the usual paper of the region is chosen
+    expect(await browser.value("document.querySelector('[name=paper]:checked').value === (/-US$/.test(navigator.language) ? 'letter' : 'A4')"), 'another paper is chosen');
     for (const [paper, width] of [['A4', 595], ['letter', 612]]) {
       await browser.press('Control+p');
       await browser.until("document.querySelectorAll('#preview .page').length === 2");
