@@ -335,6 +335,32 @@ export const CASES = {
     await page.factsAre(/graded.txt/);
   },
 
+  async 'workers that load a list ahead'() {
+    writeFileSync(join(room, 'ahead.txt'), 'cat;10\ncot;90\ncut;50\near;60\n');
+    await browser.value(`(() => {
+      Object.defineProperty(navigator, 'hardwareConcurrency', { value: 4, configurable: true });
+      window.opened = [];
+      const post = Worker.prototype.postMessage;
+      Worker.prototype.postMessage = function (message, transfer) {
+        if (message.call === 'open') window.opened.push(this);
+        post.call(this, message, transfer);
+      };
+    })()`);
+    await openFile(join(room, 'ahead.txt'));
+    await page.factsAre(/ahead.txt, 4 words/);
+    // those of the session and of three helpers, each once
+    await browser.until('window.opened.length === 4 && new Set(window.opened).size === 4');
+    await beginBlank(3, 1);
+    await raiseToTheEnd();
+    await browser.press('Control+f');
+    await page.statusIs(/^filled: worst 90/);
+    await raiseInTime();
+    expect((await browser.value('window.opened.length')) === 4, 'a list is loaded again');
+    await reload();
+    await menu('built-in');
+    await page.factsAre(/built-in list/);
+  },
+
   async 'raising by several workers'() {
     await openGraded();
     await begin(1);
