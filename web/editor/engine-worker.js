@@ -1,7 +1,7 @@
 // The engine in a worker: it answers the messages of engine.js, edits in order and ahead of queries that wait.
 import { Xw, load, toBytes, toText } from '../xw.js';
 import * as answers from './answers.js';
-import { MOST, UNSCORED, gradeOf } from './grades.js';
+import { MOST, UNSCORED, gradeOf, totalOf } from './grades.js';
 import { closeNew } from './kin.js';
 import { letterIn, lettersOf, withoutLeast } from './record.js';
 import { crossingPatterns, gridFrom } from './themes.js';
@@ -330,16 +330,17 @@ function takenLetters(cells) {
 }
 
 // A slice of a search that raises the worst word, in a worker that helps: a fill of words that have this grade at least, and what is proved. With
-// a fill it has its letters; the grid is then without those of the given cells again, so that the next slice goes on with what this one learned. Words that
+// a fill it has the sum of their grades and its letters; the grid is then without those of the given cells again, so that the next slice goes on with what this one learned. Words that
 // are struck, for fills without words that are close to others, have it begin anew.
 function best({ least, limits, cells, isApart }) {
   ask(`least ${least}`);
   const told = apart(isApart, cells, () => bestFill(limits));
   if (told.answer !== 'filled') return told;
+  const names = asked(answers.lights()).filter(isNewWith(cells)).filter(answers.isWhole).map(({ name }) => name);
+  const known = names.length ? asked(answers.grades(names)).map((one) => one.grade) : [];
   // of a fill in several parts all words count
-  const names = isApart ? asked(answers.lights()).filter(isNewWith(cells)).filter(answers.isWhole).map(({ name }) => name) : [];
-  const grade = names.length ? Math.min(...asked(answers.grades(names)).map((one) => one.grade)) : told.grade;
-  return { ...told, grade, letters: takenLetters(cells) };
+  const grade = isApart && known.length ? Math.min(...known) : told.grade;
+  return { ...told, grade, sum: totalOf(known), letters: takenLetters(cells) };
 }
 
 function bestFill(limits) {

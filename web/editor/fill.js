@@ -1,7 +1,7 @@
 // Fills: `autofill` in slices, so that one can be stopped. Each slice goes on with what the last one learned. A search that is not done soon goes on in
 // other workers too, each with a seed of its own; the first `filled` or `nofill` ends all. If the words have scores, the fill is raised then.
 import { grades, outcomeOf } from './answers.js';
-import { MOST, scoreOf } from './grades.js';
+import { MOST, scoreOf, totalOf } from './grades.js';
 import { closeNew } from './kin.js';
 import { refuse, say } from './messages.js';
 import { Raiser } from './raising.js';
@@ -194,7 +194,8 @@ export class Filler {
     const names = [...editor.chosen];
     const fixed = new Map(board.cells.filter(({ letter, coordinates }) => letter && !cells.includes(coordinates)).map(({ coordinates, letter }) => [coordinates, letter]));
     const raising = this.#raiser.run({
-      base: without(editor.record, filled), names: this.#names, cells, seed: this.#seed, grade: Math.min(...known), bound: this.figures.boundOf(names),
+      base: without(editor.record, filled), names: this.#names, cells, seed: this.#seed, grade: Math.min(...known), sum: totalOf(known),
+      bound: this.figures.boundOf(names),
     });
     if (this.#raiser.isRunning) {
       say('filled; its worst word is raised … Esc ends this', 'busy');

@@ -13,11 +13,13 @@ export const scoreOf = (grade, best) => (best > MOST ? Math.ceil((grade * best) 
 // The score below which a word counts as weak, unless another is chosen.
 export const usualWeak = (best) => (best > 50 && best <= MOST ? 50 : Math.ceil(best / 2));
 
+export const totalOf = (grades) => grades.reduce((sum, grade) => sum + grade, 0);
+
 // The worst and the mean of scores, and how many are under a score; null of none. Words without a score, as null, do not count.
 export function figuresOf(scores, weak) {
   const known = scores.filter((score) => score !== null);
   if (!known.length) return null;
-  const mean = Math.round(known.reduce((sum, score) => sum + score, 0) / known.length);
+  const mean = Math.round(totalOf(known) / known.length);
   return { worst: Math.min(...known), mean, under: known.filter((score) => score < weak).length, weak };
 }
 

@@ -2,7 +2,7 @@
 // goes on with what the slices of its worker learned. Where no fill is better, the words that keep it from that are held, and the worst of the others is
 // raised. The fill that is in the grid can be edited meanwhile, which ends the raising.
 import { grades } from './answers.js';
-import { MOST, gradeOf } from './grades.js';
+import { MOST, gradeOf, totalOf } from './grades.js';
 import { letterIn } from './record.js';
 
 // The placements of a slice.
@@ -17,12 +17,15 @@ const TOLD_EACH = 500;
 // the seed of one worker lies so far from that of the next
 const SEEDS = 1000003;
 
+// the grade of no fill
+const NONE = -1;
+
 // what a search tells that was not refused
 const ANSWERS = new Set(['filled', 'nofill', 'limit']);
 
 /**
  * @typedef {{
- *   record: string, base: string, names: string, cells: string[], seed: number, grade: number, bound: number, isOver: boolean, isStopped: boolean,
+ *   record: string, base: string, names: string, cells: string[], seed: number, grade: number, sum: number, bound: number, isOver: boolean, isStopped: boolean,
  *   isChanged: boolean, isEntering: boolean, pencil: string, entered: Promise<void>, end: () => void, begun: number, told: number,
  *   proved: number, held: { names: string[], forced: string[] }[], lines: string[], holding: Promise<void> | null,
  * }} Race `proved` is the bound of all lights; `held` has the lights whose words are held, stage by stage, with those that force it, and `lines` enter those words
@@ -67,11 +70,11 @@ export class Raiser {
   }
 
   // Raises the fill in the grid: `base` is the record without the letters of its cells, `names` are those of its lights, as a line has them, `grade` is that
-  // of its worst word, and `bound` one at which no fill is known to be. Returns the grade that it has then, such a bound, and how it ended.
-  async run({ base, names, cells, seed, grade, bound }) {
+  // of its worst word, `sum` that of all of them, and `bound` one at which no fill is known to be. Returns the grade that it has then, such a bound, and how it ended.
+  async run({ base, names, cells, seed, grade, sum, bound }) {
     const editor = this.#editor;
     const race = {
-      base, names, cells, seed, grade, bound, record: editor.record, pencil: String([...editor.pencil]), isOver: false, isStopped: false, isChanged: false,
+      base, names, cells, seed, grade, sum, bound, record: editor.record, pencil: String([...editor.pencil]), isOver: false, isStopped: false, isChanged: false,
       isEntering: false, entered: Promise.resolve(), end: () => {}, begun: performance.now(), told: 0, proved: bound, held: [], lines: [], holding: null,
     };
     const ended = new Promise((resolve) => {
@@ -100,17 +103,20 @@ export class Raiser {
     try {
       const engine = await begun;
       if (isFirst) setTimeout(() => this.#endInTime(race), LONGEST);
-      let stage = 0;
+      let [stage, own] = [0, NONE];
       while (!race.isOver) {
         if (race.bound <= race.grade + 1) await (race.holding ??= this.#hold(race, engine).finally(() => (race.holding = null)));
         if (race.isOver) break;
-        if (stage < race.held.length) await engine.call('edit', { lines: race.lines, isWhole: false });
-        stage = race.held.length;
+        if (stage < race.held.length) {
+          [stage, own] = [race.held.length, NONE];
+          await engine.call('edit', { lines: race.lines, isWhole: false });
+        }
         this.#tell(race);
-        const least = race.grade + 1;
+        // the worker that found the best fill also raises its mean
+        const least = own === race.grade ? own : race.grade + 1;
         const told = await engine.call('best', { least, limits: `${PLACEMENTS} ${seed}${race.names}`, cells: race.cells, isApart: this.#editor.list.apart });
         // what was found without the words that are held by now is none of this stage
-        if (!race.isOver && stage === race.held.length) await this.#take(race, told, least);
+        if (!race.isOver && stage === race.held.length) own = await this.#take(race, told, least, own);
       }
     } catch (fault) {
       // a worker that fails leaves the race to the others; without the first there is none
@@ -134,18 +140,23 @@ export class Raiser {
     this.tried({ least: race.grade + 1, bound: race.proved, isPart: race.held.length > 0, seconds: Math.floor((now - race.begun) / 1000) });
   }
 
-  // Takes what a slice tells that looked for fills with a least grade.
-  async #take(race, told, least) {
-    if (!ANSWERS.has(told.answer)) return race.end();
+  // Takes what a slice tells that looked for fills with a least grade, in a worker that has found a fill of its own grade or none before. Returns that
+  // grade.
+  async #take(race, told, least, own) {
+    if (!ANSWERS.has(told.answer)) {
+      race.end();
+      return own;
+    }
     race.bound = Math.min(race.bound, told.answer === 'nofill' ? least : told.bound ?? MOST + 1);
     if (!race.held.length) race.proved = race.bound;
-    if (told.answer === 'filled' && told.grade > race.grade) {
-      race.grade = told.grade;
+    if (told.answer !== 'filled') return own;
+    if (told.grade > race.grade || (told.grade === race.grade && told.sum > race.sum)) {
+      [race.grade, race.sum] = [told.grade, told.sum];
       // fills of several workers come into the grid one after another, the better one last
       race.entered = race.entered.then(() => this.#enter(race, told.letters));
       await race.entered;
     }
-    return undefined;
+    return told.grade;
   }
 
   // Where no fill is better: holds the words of the lights that keep it from that, or of the worst ones, and goes on with the worst of the others.
@@ -169,7 +180,10 @@ export class Raiser {
     const entered = new Set(lines.map((line) => letterIn(line)[0]));
     race.lines.push(...lines.filter((line) => open.has(letterIn(line)[0])));
     race.cells = race.cells.filter((coordinates) => !entered.has(coordinates));
-    race.grade = Math.min(MOST, ...told.filter(({ name }) => !names.has(name)).map(({ grade }) => grade));
+    const left = new Set(race.cells);
+    const others = told.filter(({ name }) => !names.has(name));
+    race.grade = Math.min(MOST, ...others.map(({ grade }) => grade));
+    race.sum = totalOf(others.filter(({ name }) => coordinatesOf(board.byName.get(name)).some((coordinates) => left.has(coordinates))).map(({ grade }) => grade));
     race.bound = MOST + 1;
     race.held.push({ names: [...names], forced: forced.near ? [forced.near] : forced.lights.map(({ name }) => name) });
     return !race.cells.length || race.grade >= MOST ? race.end() : undefined;

@@ -238,16 +238,18 @@ export const CASES = {
       await browser.value(`window.answer(${JSON.stringify(value)})`);
     };
     await page.statusIs(/^filled; its worst word is raised: .*looking for \d+ or more; 0 s … Esc ends this$/);
-    // each slice is sent right after the one before, and looks for fills that are better than the best one
+    // each slice is sent right after the one before, and looks for fills that are better than the best one, by the worst word and then by the mean
     await answered(1, { answer: 'limit', bound: 97 });
-    await answered(2, { answer: 'filled', grade: 80, bound: 101, letters: ['set 1 1 T', 'set 1 2 A', 'set 1 3 R'] });
-    await answered(3, { answer: 'limit', bound: 90 });
-    await answered(4, { answer: 'nofill', bound: null });
+    await answered(2, { answer: 'filled', grade: 80, sum: 80, bound: 101, letters: ['set 1 1 T', 'set 1 2 A', 'set 1 3 R'] });
+    await answered(3, { answer: 'filled', grade: 80, sum: 90, bound: 90, letters: ['set 1 1 A', 'set 1 2 T', 'set 1 3 E'] });
+    await browser.until(`window.asked.length === 4`);
+    expect((await page.row(1)) === 'ATE', `the grid is ${await page.rows()}`);
+    await answered(4, { answer: 'filled', grade: 80, sum: 80, bound: 81, letters: ['set 1 1 T', 'set 1 2 A', 'set 1 3 R'] });
     // no other word can be better, so it ends
     await page.statusIs(/^filled: worst \d+, mean \d+; no fill is better/);
     const asked = await browser.value('window.asked.slice(0, 4)');
     const [[grade, limits]] = asked;
-    const wanted = [[grade, limits], [grade, limits], [81, limits], [81, limits]];
+    const wanted = [[grade, limits], [grade, limits], [80, limits], [80, limits]];
     expect(JSON.stringify(asked) === JSON.stringify(wanted), `asked for ${JSON.stringify(asked)}, and not ${JSON.stringify(wanted)}`);
     await reload();
     await menu('built-in');
