@@ -84,7 +84,7 @@ export const CASES = {
       await browser.value("document.querySelector('[data-do=new]').click(), document.querySelector('#patterns .pattern:nth-child(7)').click()");
       await page.factsAre(/^21 × 21/);
       expect((await browser.value("document.getElementById('cell-1-1').offsetWidth")) >= 22, 'a cell is too small');
-      await browser.tap('#cell-1-1');
+      await browser.tap('#cell-1-2');
       await browser.press('End');
       await browser.press('Tab');
       await browser.press('Tab');
