@@ -15,6 +15,7 @@ import { Files } from './files.js';
 import { Filler } from './fill.js';
 import { Fills } from './fills.js';
 import { GridView } from './grid.js';
+import { GridsView } from './grids/view.js';
 import { Helpers } from './helpers.js';
 import { whenIdle } from './idle.js';
 import { Leaving } from './leaving.js';
@@ -24,7 +25,7 @@ import { leaveDialogsTo, takeActions, takeMenu, takeParts, toNextPane } from './
 import { refuse, useMessages } from './messages.js';
 import { NewPuzzle } from './new-puzzle.js';
 import { NextLight } from './next-light.js';
-import { $, isText } from './page.js';
+import { $ } from './page.js';
 import { PrintDialog } from './printing.js';
 import { Reasons } from './reasons.js';
 import { Shelf } from './shelf.js';
@@ -32,8 +33,8 @@ import { speak } from './spoken.js';
 import { StandingView } from './standing.js';
 import { start, workers } from './start.js';
 import { Tabs } from './tabs.js';
-import { ThemesView } from './themes-view.js';
 import { Tools } from './tools.js';
+import { Typed } from './typed.js';
 import { WarningsView } from './warnings-view.js';
 import { WordsView } from './words.js';
 
@@ -66,8 +67,10 @@ const leaving = new Leaving();
 const kept = (takeBack) => leaving.kept(takeBack);
 const edits = new Edits(editor, { isFilling: () => filler.isRunning, soon, toGrid, kept, showTab: (name) => tabs.show(name) });
 const edit = (lines, options) => edits.edit(lines, options);
-const editText = (element, field) => edits.text(element, field);
-const leave = (event, edited) => edits.leave(event, edited);
+// what is typed into texts
+const typed = new Typed(editor, { isFilling: () => filler.isRunning, isRaising: () => filler.isRaising, undo: () => editor.undo(), finished: () => bank.addSoon() });
+const editText = (element, field, text) => typed.edit(element, (run) => edits.text(field, text, run));
+const leave = (event) => edits.leave(event, typed.takeBack);
 const toClue = (light) => tabs.toClue(light);
 
 // The views.
@@ -112,14 +115,15 @@ const crossingWords = new WordsView(
   { ...ofWords, light: () => editor.crossing, isShown: () => isWide.matches, place: (word, needs) => edits.place(word, needs, editor.crossing), enter: () => {} },
 );
 isWide.addEventListener('change', () => crossingWords.soon());
-const bank = new ClueBank(editor);
+const bank = new ClueBank(editor, () => clues.unfinished(typed.unfinished));
 const allWords = new AllWords(editor);
 const clues = new CluesView(
   editor,
   { list: $('clue-list'), summary: $('clue-summary'), lengths: $('clue-lengths') },
   {
     text: editText, lengths: (texts, left) => edits.addLengths(texts, left), enumerations: (words) => lists.enumerations(words), toGrid, use: (light, clue) => edits.useClue(light, clue), keep: (light) => edits.keepClue(light),
-    former: (word) => bank.of(word), leave, note: (light, text) => edits.note(light, text), link: (light, text) => edits.link(light, text),
+    former: (word) => bank.of(word), leave, note: (element, light, text) => typed.edit(element, (run) => edits.note(light, text, run)),
+    link: (element, light, text) => typed.edit(element, (run) => edits.link(light, text, run)),
     words: () => allWords.get(),
   },
 );
@@ -132,19 +136,26 @@ const details = new DetailsView(
   { edit, text: editText, toGrid, toClue, leave, keepWord: (word, isHidden) => lists.keepWord(word, isHidden) },
 );
 const tabs = new Tabs(details, clues, toGrid);
-const themes = new ThemesView(
+const grids = new GridsView(
   editor,
   helpers,
   {
-    dialog: $('themes-dialog'), entries: $('themes-entries'), style: $('themes-style'), sym: $('themes-sym'), size: $('themes-size'), words: $('themes-words'), blocks: $('themes-blocks'), threes: $('themes-threes'), show: $('themes-show'),
-    told: $('themes-told'), grids: $('themes-grids'), lengths: $('themes-lengths'),
+    dialog: $('themes-dialog'), entries: $('themes-entries'), seeds: $('themes-seeds'), lengths: $('themes-lengths'), show: $('themes-show'), stop: $('themes-stop'),
+    told: $('themes-told'), grids: $('themes-grids'),
+    limits: {
+      outlet: $('themes-outlet'), width: $('themes-width'), height: $('themes-height'), sym: $('themes-sym'), table: $('themes-table'), summary: $('themes-summary'), reset: $('themes-reset'),
+    },
   },
   (record, entries) => puzzles.begin(record, entries).catch(unforeseen),
 );
 const figures = new Figures(editor, { box: $('figures'), text: $('figures-text'), worst: $('figures-worst') }, (light) => goTo(light));
 const fills = new Fills(editor, { box: $('fills'), list: $('fills-list') }, mayEdit);
 const filler = new Filler(editor, helpers, fills, {
-  show: (progress) => showFill(progress, filler.isRunning, toGrid), explain: () => whenIdle(() => reasons.ask().catch(() => {})), figures,
+  show: (progress) => {
+    showFill(progress, filler.isRunning, toGrid);
+    if (!filler.isRunning) typed.goOn();
+  },
+  explain: () => whenIdle(() => reasons.ask().catch(() => {})), figures,
 });
 const nextLight = new NextLight(editor, faults, toGrid);
 
@@ -152,7 +163,7 @@ const nextLight = new NextLight(editor, faults, toGrid);
 
 const files = new Files(editor, {
   mayEdit, toGrid, toClue, opened: toGrid, changeLists: (changed, name, bytes) => lists.change(changed, name, bytes), addPuzzles: (text) => shelf.addAll(text),
-  saved: () => shelf.saved(), askRows,
+  saved: () => shelf.saved(), askRows, askFile,
 });
 files.takeDrops(document.body);
 // Asks for the letters of a cell, which may be several.
@@ -170,6 +181,17 @@ async function askEntry(index) {
 function askRows(name, rows) {
   $('rows-told').textContent = `${name} has ${rows.length} lines of ${rows[0].length} letters: a grid, or a list of words?`;
   return askDialog($('rows-dialog'));
+}
+
+// the most files of a zip that are shown
+const MOST_FILES = 200;
+
+// Asks which file of a zip is meant, and promises its number, or null for none.
+async function askFile(zip, names) {
+  $('zip-told').textContent = `${zip} has ${names.length} files. Open which?`;
+  $('zip-files').replaceChildren(...names.slice(0, MOST_FILES).map((name, at) => Object.assign(document.createElement('button'), { value: at, textContent: name })));
+  const answer = await askDialog($('zip-dialog'));
+  return /^\d+$/.test(answer) ? Number(answer) : null;
 }
 
 const lists = new ListsInUse(editor, {
@@ -194,38 +216,40 @@ function pick(accept, isList = false) {
   $('picker').click();
 }
 
-// Has the puzzle take over what is being typed into a field of its texts, which else happens when the field is left. The field stays as it is.
-function takeTyped() {
-  const field = /** @type {HTMLInputElement} */ (document.activeElement);
-  if (!field?.closest('#clue-list, .fields') || !isText(field)) return;
-  const { value, selectionStart, selectionEnd } = field;
-  field.dispatchEvent(new Event('change', { bubbles: true }));
-  if (field.value === value) return;
-  field.value = value;
-  field.setSelectionRange(selectionStart, selectionEnd);
+// Goes a step of the history back, or forth.
+function step(isBack) {
+  typed.startAnew();
+  return edits.step(isBack);
 }
 
 // What buttons and keys do.
 
+// What is saved and printed is whole: it has the lengths that are being added, and the edits that are under way.
+const wholly = (action) => async () => {
+  await clues.lengthsAdded;
+  await editor.inOrder(() => {});
+  return action();
+};
+
 const ACTIONS = {
   new: () => openDialog($('new-dialog')),
   library: () => library.show(),
-  themes: () => themes.show(),
+  themes: () => grids.open(),
   open: () => pick('.puz,.ipuz,.jpz,.xml,.exolve,.qxw,.qxd,.txt,.xw,.json,.dict,.zip'),
-  save: () => files.saveAny(),
-  'save-puz': () => files.save('puz'),
-  'save-ipuz': async () => files.saveAs('ipuz'),
-  'save-jpz': async () => files.saveAs('jpz'),
-  'save-exolve': async () => files.saveAs('exolve'),
-  'save-text': () => files.save('text'),
-  'clues-csv': async () => files.saveClues('csv'),
-  'clues-html': async () => files.saveClues('html'),
-  'save-session': () => files.saveSession(),
+  save: wholly(() => files.saveAny()),
+  'save-puz': wholly(() => files.save('puz')),
+  'save-ipuz': wholly(() => files.saveAs('ipuz')),
+  'save-jpz': wholly(() => files.saveAs('jpz')),
+  'save-exolve': wholly(() => files.saveAs('exolve')),
+  'save-text': wholly(() => files.save('text')),
+  'clues-csv': wholly(() => files.saveClues('csv')),
+  'clues-html': wholly(() => files.saveClues('html')),
+  'save-session': wholly(() => files.saveSession()),
   list: () => pick('.txt,.dict,.csv,.tsv', true),
   'built-in': () => lists.change((now) => now.onlyBuiltIn()),
-  print: () => printing.open(),
-  undo: () => edits.step(true),
-  redo: () => edits.step(false),
+  print: wholly(() => printing.open()),
+  undo: () => step(true),
+  redo: () => step(false),
   fill: () => filler.run(false),
   another: () => filler.run(true),
   stop: () => filler.stop(),
@@ -240,7 +264,7 @@ const keys = () => ({
   escape: filler.isRunning || filler.isRaising ? () => filler.stop() : leaving.action,
 });
 
-takeActions(ACTIONS, { keys, takeTyped, unforeseen });
+takeActions(ACTIONS, { keys, takeTyped: () => typed.take(), unforeseen });
 $('symmetry').addEventListener('change', async () => {
   if (await edit([`sym ${$('symmetry').value}`])) facts.show();
   toGrid();
@@ -255,8 +279,8 @@ const facts = new Facts(editor);
 // What the browser keeps.
 
 // before the shelf keeps what is here
-document.addEventListener('visibilitychange', () => document.hidden && takeTyped());
-addEventListener('pagehide', takeTyped);
+document.addEventListener('visibilitychange', () => document.hidden && typed.take());
+addEventListener('pagehide', () => typed.take());
 
 const claim = new Claim();
 const shelf = new Shelf(editor, claim, bank, () => files.saveSession());

@@ -10,9 +10,17 @@ export class ClueBank {
   // what this page has put into it
   #known = new Set();
 
-  constructor(editor) {
+  // `unfinished` names the clue that is being typed, as records do; or ''.
+  constructor(editor, unfinished) {
     this.#editor = editor;
-    editor.on(['written'], () => whenIdle(() => this.add([editor.state]).catch(() => {})));
+    this.unfinished = unfinished;
+    editor.on(['written'], () => this.addSoon());
+    editor.on(['left'], ({ changes }) => this.add([changes.left]).catch(() => {}));
+  }
+
+  // Adds the clues of the puzzle that is here, but for one that is being typed.
+  addSoon() {
+    whenIdle(() => this.add([this.#editor.state], this.unfinished()).catch(() => {}));
   }
 
   // Makes the bank, with the clues of puzzles that are there already.
@@ -20,9 +28,9 @@ export class ClueBank {
     if (await makeBank()) await this.add(await storedPuzzles());
   }
 
-  // Adds the clues of sessions.
-  async add(sessions) {
-    const entries = sessions.flatMap(cluesIn).filter((entry) => !this.#known.has(keyOf(entry)));
+  // Adds the clues of sessions, but for the named one.
+  async add(sessions, unfinished = '') {
+    const entries = sessions.flatMap((session) => cluesIn(session, unfinished)).filter((entry) => !this.#known.has(keyOf(entry)));
     for (const entry of entries) this.#known.add(keyOf(entry));
     if (entries.length) await keepClues(entries);
   }
@@ -41,10 +49,10 @@ export class ClueBank {
 const keyOf = ({ word, clue, puzzle }) => [word, clue, puzzle].join('\n');
 
 // The clues of a session that are for words, as they were typed.
-function cluesIn({ puzzle, record, written = [], originals = [], at = Date.now() }) {
+function cluesIn({ puzzle, record, written = [], originals = [], at = Date.now() }, unfinished) {
   const state = parseRecord(record);
   const [words, typed] = [new Map(written), new Map(originals)];
-  return [...state.texts].filter(([field, spelled]) => spelled && field.startsWith('clue ')).flatMap(([field, spelled]) => {
+  return [...state.texts].filter(([field, spelled]) => spelled && field.startsWith('clue ') && field !== unfinished).flatMap(([field, spelled]) => {
     const word = words.get(field) ?? wordAt(state, field);
     const [text, original] = [unescapeText(spelled), typed.get(field)];
     return word && !isReference(text) ? [{ word, clue: original !== undefined && engineText(original).near === text ? original : text, puzzle, at }] : [];

@@ -21,8 +21,8 @@ export class ClueMore {
   #light = null;
   #asked = '';
 
-  // `actions`: `note` and `link` keep what is typed, `italics` puts the selection of the clue in italics, `words` promises the words of the lists, and
-  // `leave` leaves a field by Esc.
+  // `actions`: `note` and `link` keep what is typed in a field, `italics` puts the selection of the clue in italics, `words` promises the words of the
+  // lists, and `leave` leaves a field by Esc.
   constructor(editor, actions) {
     this.#editor = editor;
     this.actions = actions;
@@ -39,6 +39,8 @@ export class ClueMore {
       input.addEventListener('keydown', (event) => this.#key(event));
       input.addEventListener('change', () => this.#change(input));
     }
+    // what is typed belongs to the puzzle that was here
+    editor.on(['left'], () => [this.#note, this.#links].forEach(({ input }) => put(input, 'value', input.dataset.kept ?? '')));
   }
 
   // Shows it for a light, after an element; or with null not at all. What is being typed stays.
@@ -47,8 +49,7 @@ export class ClueMore {
     if (!light || !after) return;
     const isOther = this.#light?.name !== light.name;
     this.#light = light;
-    // old clues may stand between them; what has the focus would lose it
-    if (![after.nextElementSibling, after.nextElementSibling?.nextElementSibling].includes(this.root)) after.after(this.root);
+    this.#standBehind(after);
     if (isOther) this.#clear();
     const { board, links } = this.#editor;
     const head = links.headOf.get(light);
@@ -64,32 +65,37 @@ export class ClueMore {
     this.#links.input.setAttribute('aria-label', `lights that the clue of ${titleOf(light)} goes on in`);
   }
 
+  // Stands behind an element, or behind the old clues that are there. What has the focus would lose it by a move.
+  #standBehind(after) {
+    const next = after.nextElementSibling;
+    if (next === this.root || (next?.matches('.offers') && next.nextElementSibling === this.root)) return;
+    const inUse = /** @type {HTMLElement | null} */ (this.root.contains(document.activeElement) ? document.activeElement : null);
+    after.after(this.root);
+    inUse?.focus();
+  }
+
   #clear() {
     this.#asked = '';
     this.#found.replaceChildren();
   }
 
   #key(event) {
-    if (event.key === 'Escape') this.actions.leave(event, this.#change(event.target));
-    if (event.key !== 'Enter' || event.isComposing) return;
+    if (event.key !== 'Escape' && (event.key !== 'Enter' || event.isComposing)) return;
+    this.#change(event.target);
+    if (event.key === 'Escape') return this.actions.leave(event);
     event.preventDefault();
     event.stopPropagation();
-    this.#change(event.target);
   }
 
-  // Takes over what a field holds, and promises what that is refused for, or null. Returns null if it is that already.
-  #change(input) {
+  // Takes over what a field holds, if that is something else. What is refused stays in the field, so that it can be tried again.
+  async #change(input) {
     const light = this.#light && this.#editor.board.byName.get(this.#light.name);
     const text = input.value.trim();
-    if (!light || text === input.dataset.kept) return null;
+    if (!light || text === input.dataset.kept) return;
+    const { kept } = input.dataset;
     input.dataset.kept = text;
-    return input === this.#note.input ? this.actions.note(light, text) : this.#link(light, text);
-  }
-
-  async #link(light, text) {
-    if (await this.actions.link(light, text)) return null;
-    this.#links.input.dataset.kept = '';
-    return 'Link';
+    const refused = await (input === this.#note.input ? this.actions.note(input, light, text) : this.actions.link(input, light, text));
+    if (refused && input.dataset.kept === text) input.dataset.kept = kept;
   }
 
   // Shows what a helper finds for the answer. A click puts it into the note, as `spelled` has it.

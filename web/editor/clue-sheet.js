@@ -1,5 +1,5 @@
 // Clues as a sheet: a table in CSV or in HTML, with the answers and the lengths of their words.
-import { partsOfText, withoutItalics } from './marks.js';
+import { markedUp, withoutItalics } from './marks.js';
 
 // The rows of the sheet: number, direction, clue, enumeration, answer. `cluedBy` tells what a clue is for, and `isLinked` whether it leads to another one.
 function sheetRows(board, textOf, enumerationOf, { answerOf, cluedBy, isLinked }) {
@@ -22,8 +22,7 @@ export function csvOf(...of) {
 
 export function htmlOf(board, textOf, ...more) {
   const safe = (text) => String(text).replaceAll('&', '&amp;').replaceAll('<', '&lt;').replaceAll('>', '&gt;').replaceAll('"', '&quot;');
-  const marked = (text) => partsOfText(String(text)).map((part) => (part.isItalic ? `<i>${safe(part.text)}</i>` : safe(part.text))).join('');
-  const row = (cells, name) => `<tr>${cells.map((cell) => `<${name}>${marked(cell)}</${name}>`).join('')}</tr>`;
+  const row = (cells, name) => `<tr>${cells.map((cell) => `<${name}>${markedUp(String(cell), safe)}</${name}>`).join('')}</tr>`;
   const title = safe(textOf('title') || 'Crossword');
   const cell = 'td,th{padding:4px 12px;border-bottom:1px solid #999;text-align:left;vertical-align:top}';
   const style = `body{font:16px Georgia,serif;margin:2em}table{border-collapse:collapse}${cell}`;

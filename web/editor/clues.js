@@ -25,8 +25,10 @@ export class CluesView {
   #more;
   // whether the tab is in sight
   isShown = false;
+  // ends when the lengths are there that are being added
+  lengthsAdded = Promise.resolve();
 
-  // `lengths` is the button that adds enumerations. `actions`: `text` sets the text of a field, `lengths` those of several in one step and is told how many
+  // `lengths` is the button that adds enumerations. `actions`: `text` sets what is typed in a field, `lengths` those of several in one step and is told how many
   // lights have no enumeration that is sure, `enumerations` promises those of words, `use` sets the clue of a light, `keep` keeps a clue for the word that is
   // there, `former` promises the clues that a word had before, `leave` leaves a field by Esc; `note` and `link` keep a private note and a link, and `words`
   // promises all words of the lists.
@@ -37,7 +39,11 @@ export class CluesView {
     this.#lengths = lengths;
     this.actions = actions;
     this.#more = new ClueMore(editor, { ...actions, italics: (light) => this.#toggleItalics(this.#fields.get(light.name).field) });
-    lengths.addEventListener('click', () => this.#addLengths());
+    lengths.addEventListener('click', () => {
+      const added = this.lengthsAdded.then(() => this.#addLengths());
+      // a failure, of which the engine tells, holds nothing up
+      this.lengthsAdded = added.catch(() => {});
+    });
     root.addEventListener('click', (event) => this.#click(event.target.closest('button')));
     root.addEventListener('input', (event) => this.#typed(event.target));
     editor.on(['board', 'written'], () => this.draw());
@@ -46,6 +52,8 @@ export class CluesView {
     root.addEventListener('keydown', (event) => this.#key(event));
     root.addEventListener('change', (event) => this.#change(event.target));
     root.addEventListener('focusin', (event) => this.#focused(event.target));
+    root.addEventListener('focusout', (event) => this.#leave(event.target));
+    editor.on(['left'], () => this.#forgetTyped());
   }
 
   draw() {
@@ -54,7 +62,10 @@ export class CluesView {
     const names = [board.lights.map((light) => light.name), [...heads].flat(2).map(({ name }) => name)].join();
     const left = names === this.names ? null : this.#fieldInUse;
     if (names !== this.names) this.#make(names, headOf);
-    for (const light of board.lights) if (!this.#underWay.has(light.name)) this.#showText(light);
+    for (const light of board.lights) {
+      labelLength(this.#fields.get(light.name).length, light, [light, ...(heads.get(light) ?? [])].map((one) => this.#editor.answerOf(one)).join('').length);
+      if (!this.#underWay.has(light.name)) this.#showText(light);
+    }
     if (left) this.#goOn(left);
     this.#lengths.disabled = !this.#withoutLengths.length;
     this.#words();
@@ -74,7 +85,7 @@ export class CluesView {
     const field = light && this.#fields.get(light.name).field;
     if (!field || left.value === left.dataset.kept) return;
     field.value = left.value;
-    this.#typed(field);
+    field.dispatchEvent(new InputEvent('input', { bubbles: true }));
   }
 
   // how many edits of a clue are not answered yet, by the name of its light: until they are, its field shows what was typed
@@ -82,7 +93,8 @@ export class CluesView {
 
   #showText(light) {
     const { field } = this.#fields.get(light.name);
-    const text = this.#editor.textOf(`clue ${light.name}`);
+    // as the browser shows it
+    const text = this.#editor.textOf(`clue ${light.name}`).replace(/\r\n?/g, '\n');
     if (document.activeElement !== field || field.dataset.kept !== text) field.value = text;
     field.dataset.kept = text;
     this.#typed(field);
@@ -110,12 +122,14 @@ export class CluesView {
     field.style.height = `${field.scrollHeight + field.offsetHeight - field.clientHeight}px`;
   }
 
+  // It is typing too, as far as others hear of it.
   #toggleItalics(field) {
     const { text, start, end } = toggledItalics(field.value, field.selectionStart, field.selectionEnd);
-    field.value = text;
     field.focus();
+    field.dispatchEvent(new InputEvent('beforeinput', { bubbles: true, inputType: 'formatItalic' }));
+    field.value = text;
     field.setSelectionRange(start, end);
-    this.#typed(field);
+    field.dispatchEvent(new InputEvent('input', { bubbles: true, inputType: 'formatItalic' }));
   }
 
   #make(names, headOf) {
@@ -136,14 +150,14 @@ export class CluesView {
   #row(light, head) {
     const row = document.createElement('label');
     row.className = head ? 'clue linked' : 'clue';
-    const { numbers, answer } = this.#editor.cluedBy(light);
+    const { numbers } = this.#editor.cluedBy(light);
     const span = (className, text = '') => Object.assign(document.createElement('span'), { className, textContent: text });
     const number = Object.assign(document.createElement('b'), { textContent: numbers });
     const [word, italics, kept, note] = [span('word'), span('italics'), span('kept-note'), span('written')];
     note.id = `written-${light.number}-${light.direction}`;
     const field = makeField(light, note.id);
     field.readOnly = Boolean(head);
-    const length = makeLength(light, answer.length);
+    const length = makeLength();
     length.hidden = Boolean(head);
     row.append(number, word, field, length, italics, kept, note);
     this.#fields.set(light.name, { row, word, field, length, italics, kept, note, stale: '' });
@@ -189,12 +203,15 @@ export class CluesView {
   // Adds the enumerations that lists show: of the whole answer, or else of each light that the clue is for.
   async #addLengths() {
     const editor = this.#editor;
+    const { puzzle } = editor;
     const partsOf = (light) => editor.cluedWith(light).map((one) => editor.answerOf(one));
     const known = await this.actions.enumerations(this.#withoutLengths.map(partsOf).flatMap((parts) => [parts.join(''), ...parts]));
+    // these clues are no longer here
+    if (editor.puzzle !== puzzle) return;
     const lengthsOf = (parts) => known.get(parts.join('')) ?? (parts.every((part) => known.has(part)) ? parts.map((part) => known.get(part)).join(',') : null);
     const due = this.#withoutLengths.map((light) => ({ light, lengths: lengthsOf(partsOf(light)) }));
     const texts = due.filter(({ lengths }) => lengths).map(({ light, lengths }) => [editor.board.clueField(light), withEnumeration(this.#fields.get(light.name).field.value, lengths)]);
-    return this.actions.lengths(texts, due.length - texts.length);
+    await this.actions.lengths(texts, due.length - texts.length);
   }
 
   // Letters come one after another: the words are shown once for those of a frame, and only in sight.
@@ -218,7 +235,7 @@ export class CluesView {
     const { board } = this.#editor;
     for (const light of board.lights) {
       const { word } = this.#fields.get(light.name);
-      put(word, 'textContent', board.spell(light).replaceAll('.', '·'));
+      put(word, 'textContent', this.#editor.answerOf(light).replaceAll('.', '·'));
       word.classList.toggle('entered', board.isEntered(light));
       this.#showWritten(light);
     }
@@ -251,7 +268,7 @@ export class CluesView {
     const clues = isDue ? await this.actions.former(board.spell(light)) : [];
     if (offered !== this.#offered || !clues.length) return;
     const buttons = clues.slice(0, MOST_OFFERED).map((clue) => dataButton(clue, { use: light.name }));
-    this.#offers.replaceChildren(`Clues for ${board.spell(light)} before: `, ...buttons);
+    this.#offers.replaceChildren(`Clues for ${this.#editor.answerOf(light)} before: `, ...buttons);
     this.#fields.get(light.name)?.row.after(this.#offers);
     this.#offers.hidden = false;
   }
@@ -285,12 +302,15 @@ export class CluesView {
   #step(event) {
     const step = { Enter: event.shiftKey ? -1 : 1, ArrowDown: 1, ArrowUp: -1 }[event.key];
     if (!event.target.dataset.light) return;
-    if (event.key === 'Escape') this.actions.leave(event, this.#change(event.target));
+    if (event.key === 'Escape') {
+      this.#change(event.target);
+      this.actions.leave(event);
+    }
     if (!step || event.isComposing) return;
     event.preventDefault();
     const fields = [...this.#root.querySelectorAll('textarea')];
     const next = fields[(fields.indexOf(event.target) + step + fields.length) % fields.length];
-    this.#change(event.target);
+    if (next === event.target) next.blur();
     next.focus();
     next.select();
   }
@@ -307,29 +327,57 @@ export class CluesView {
     return board.lights.find((light) => !board.hasClue(light)) ?? board.lights[0];
   }
 
-  // Takes over what a field holds, and promises what it is refused for, or null. Returns null if the clue is that already.
+  // Takes over what a field holds, if that is another clue. The field stays as it is.
   #change(field) {
     const light = this.#editor.board.byName.get(field.dataset.light);
-    if (!light || field.value === field.dataset.kept) return null;
-    field.value = field.value.replace(/\s*\n\s*/g, ' ').trim();
-    return this.#send(field, light);
+    const text = clueIn(field);
+    if (!light || [field.value, text].includes(field.dataset.kept)) return;
+    field.dataset.kept = text;
+    this.#send(field, light, text);
   }
 
-  async #send(field, light) {
+  // Takes over what a field that is left holds, and shows it so.
+  #leave(field) {
+    if (!field.dataset.light) return;
+    this.#change(field);
+    if (field.value !== field.dataset.kept && clueIn(field) === field.dataset.kept) {
+      field.value = field.dataset.kept;
+      this.#typed(field);
+    }
+  }
+
+  // What is typed belongs to the puzzle that was here.
+  #forgetTyped() {
+    for (const { field } of this.#fields.values()) {
+      if (field.value === field.dataset.kept) continue;
+      field.value = field.dataset.kept ?? '';
+      this.#typed(field);
+    }
+  }
+
+  // The name that records have for the clue that is being typed; or ''.
+  unfinished(field) {
+    const light = this.#editor.board.byName.get(field?.dataset.light);
+    return light ? this.#editor.board.clueField(light) : '';
+  }
+
+  async #send(field, light, text) {
     const { name } = light;
     const count = (step) => this.#underWay.set(name, (this.#underWay.get(name) ?? 0) + step).get(name);
     count(1);
-    const refused = await this.actions.text(field, this.#editor.board.clueField(light));
-    if (count(-1)) return refused;
+    const refused = await this.actions.text(field, this.#editor.board.clueField(light), text);
+    if (count(-1)) return;
     this.#underWay.delete(name);
     const now = this.#editor.board.byName.get(name);
     // what was refused stays in its field, so that it can be tried again
     if (refused) field.dataset.kept = this.#editor.textOf(`clue ${name}`);
     else if (now) this.#showText(now);
     this.#lengths.disabled = !this.#withoutLengths.length;
-    return refused;
   }
 }
+
+// The clue that a field holds: one line, without spaces around it.
+const clueIn = (field) => field.value.replace(/\s*\n\s*/g, ' ').trim();
 
 function makeField(light, described) {
   const field = document.createElement('textarea');
@@ -342,15 +390,20 @@ function makeField(light, described) {
   return field;
 }
 
-function makeLength(light, letters) {
+function makeLength() {
   const length = document.createElement('button');
   length.type = 'button';
   length.className = 'length';
-  length.textContent = `(${letters})`;
   length.title = 'Put the length at the end of the clue';
-  length.setAttribute('aria-label', `put (${letters}) at the end of the clue of ${titleOf(light)}`);
   length.tabIndex = -1;
   return length;
+}
+
+// The number of letters changes where a cell gets several.
+function labelLength(length, light, letters) {
+  if (length.textContent === `(${letters})`) return;
+  length.textContent = `(${letters})`;
+  length.setAttribute('aria-label', `put (${letters}) at the end of the clue of ${titleOf(light)}`);
 }
 
 function dataButton(text, data) {

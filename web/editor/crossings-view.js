@@ -22,7 +22,8 @@ export class CrossingsView {
   }
 
   #show() {
-    const { board, light } = this.#editor;
+    const editor = this.#editor;
+    const { board, light } = editor;
     const crossing = (light?.cells ?? []).map((cell) => ({ cell, other: board.through(cell).find((one) => one !== light) })).filter(({ other }) => other);
     this.#root.hidden = !crossing.length;
     while (this.#rows.length < crossing.length) this.#rows.push(makeCrossing());
@@ -35,10 +36,10 @@ export class CrossingsView {
       put(root.dataset, 'light', other.name);
       put(root.dataset, 'cell', String(cell));
       put(name, 'textContent', titleOf(other));
-      put(word, 'textContent', board.spell(other).replaceAll('.', '·'));
+      put(word, 'textContent', editor.answerOf(other).replaceAll('.', '·'));
       put(count, 'textContent', isEntered ? '' : other.count.toLocaleString('en'));
       put(root, 'className', `crossing${isEntered ? ' entered' : other.count ? '' : ' dead'}`);
-      const label = isEntered ? `${titleOf(other)}, ${board.spell(other)}` : `${titleOf(other)}, ${other.count} words left`;
+      const label = isEntered ? `${titleOf(other)}, ${editor.answerOf(other)}` : `${titleOf(other)}, ${other.count} words left`;
       if (root.getAttribute('aria-label') !== label) root.setAttribute('aria-label', label);
     });
   }

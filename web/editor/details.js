@@ -26,10 +26,14 @@ export class DetailsView {
     editor.on(['step', 'written'], () => this.#soon());
     for (const field of ['title', 'author', 'copyright', 'notes']) {
       elements[field].addEventListener('change', () => this.#change(field));
+      elements[field].addEventListener('focusout', () => this.#leave(field));
       elements[field].addEventListener('keydown', (event) => {
-        if (event.key === 'Escape') actions.leave(event, this.#change(field));
+        if (event.key !== 'Escape') return;
+        this.#change(field);
+        actions.leave(event);
       });
     }
+    editor.on(['left'], () => this.#forgetTyped());
     elements.wordForm.addEventListener('submit', (event) => {
       event.preventDefault();
       this.#addOrStrike(event.submitter?.value ?? 'add');
@@ -51,14 +55,26 @@ export class DetailsView {
     }
   }
 
-  // Takes over what a field holds, and promises what it is refused for, or null. Returns null if the text is that already.
+  // Takes over what a field holds, if that is another text. The field stays as it is.
   #change(field) {
     const element = this.#elements[field];
-    if (element.value === element.dataset.kept) return null;
-    element.value = element.value.trim();
+    const text = element.value.trim();
+    if ([element.value, text].includes(element.dataset.kept)) return;
+    element.dataset.kept = text;
     // what is typed after it stays when the answer comes
-    element.dataset.text = element.value;
-    return this.actions.text(element, field);
+    element.dataset.text = text;
+    this.actions.text(element, field, text);
+  }
+
+  // Shows the text of a field that is left, without spaces around it.
+  #leave(field) {
+    const element = this.#elements[field];
+    if (element.value.trim() === element.dataset.kept) element.value = element.dataset.kept;
+  }
+
+  // What is typed belongs to the puzzle that was here.
+  #forgetTyped() {
+    for (const field of ['title', 'author', 'copyright', 'notes']) this.#elements[field].value = this.#elements[field].dataset.kept;
   }
 
   #soon() {

@@ -7,17 +7,33 @@ const CIRCLE = 0x80;
 // the sections of a .puz that are kept, or told with others
 const TOLD = new Set(['GEXT', 'GRBS', 'RTBL', 'RUSR', 'LTIM']);
 
+// A text of a file as a message has it, which is not long.
+export const shortened = (text) => (text.length > 20 ? `${text.slice(0, 19)}…` : text);
+
 // Cells with several characters that are not all letters are told with the letters that are in their places.
 /** @param {{ row: number, column: number, entry: string, letter: string }[]} cells */
 export function rebusText(cells) {
   if (!cells.length) return [];
   const [{ row, column, entry, letter }] = cells;
   const place = `row ${row}, column ${column}`;
-  const now = `${entry} is ${letter} now`;
+  const now = `${shortened(entry)} is ${letter} now`;
   return [cells.length === 1 ? `the rebus in ${place} (${now})` : `${cells.length} rebus cells (in ${place} ${now})`];
 }
 
 export const countText = (count, one, several) => (count ? [count === 1 ? one : `${count} ${several}`] : []);
+
+// Counts what is not kept, under the words for one and those for several.
+export class Dropped {
+  #counts = new Map();
+
+  add(one, several = one) {
+    this.#counts.set(one, { several, count: (this.#counts.get(one)?.count ?? 0) + 1 });
+  }
+
+  get phrases() {
+    return [...this.#counts].flatMap(([one, { several, count }]) => (several === one ? [one] : countText(count, one, several)));
+  }
+}
 
 // Phrases as one: “a, b and c”.
 export const joinedText = (phrases) => [phrases.slice(0, -1).join(', '), ...phrases.slice(-1)].filter(Boolean).join(' and ');

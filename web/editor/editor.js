@@ -83,8 +83,8 @@ export class Editor extends EditorState {
   async #open(list, record) {
     const { sources, personal, least, threes } = list;
     const opened = await this.engine.call('open', { sources, personal, least, threes, record });
-    const { words, scored, best, byGrade, grade, leftOut, folded } = opened;
-    this.hold({ list: { ...list, weak: list.weak ?? usualWeak(best), words, scored, best, byGrade, grade, leftOut, folded }, record: opened.record });
+    const { words, scored, best, byGrade, grade, leftOut, folded, asRead } = opened;
+    this.hold({ list: { ...list, weak: list.weak ?? usualWeak(best), words, scored, best, byGrade, grade, leftOut, folded, asRead }, record: opened.record });
     this.#takeWhole(opened);
   }
 
@@ -385,6 +385,7 @@ export class Editor extends EditorState {
 
   // Goes to another puzzle as one step, such as that of a file.
   replace({ record, pencil = [], originals = [], written = [], puzzle = newPuzzleName() }) {
+    this.change({ leaving: true });
     const from = this.#place;
     return this.inOrder(async () => {
       this.hold({ pencil: new Set(pencil), originals: new Map(originals), chosen: new Set() });

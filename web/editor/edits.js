@@ -92,11 +92,9 @@ export class Edits {
     return undefined;
   }
 
-  // Sets a text to what an element holds; returns what it is refused for, or null.
-  async text(element, field) {
-    const typed = element.value;
-    element.dataset.kept = typed;
-    const refused = await this.#texts([[field, typed]]);
+  // Sets a text; returns what it is refused for, or null. Edits of one `stroke` are one step.
+  async text(field, typed, stroke = null) {
+    const refused = await this.#texts([[field, typed]], [], stroke);
     const { near, count } = engineText(typed);
     if (!refused && count) sayAsIs(`“${strangeCharacter(typed)}” stays here and in .ipuz; a .puz gets: ${near}`);
     return refused;
@@ -104,7 +102,7 @@ export class Edits {
 
   // Sets the texts of fields in one step, and with them what is kept beside those, by field; '' takes it away. The engine gets near characters for those
   // that it cannot keep, and no italics.
-  #texts(texts, beside = []) {
+  #texts(texts, beside = [], stroke = null) {
     const originals = this.#beside(beside);
     const rewritten = texts.filter(([field, typed]) => this.#isRewritten(field, typed)).map(([field]) => field);
     const light = texts.length === 1 ? this.#lightOf(texts[0][0]) : null;
@@ -114,7 +112,7 @@ export class Edits {
       else originals.delete(field);
       return textLines(field, escapeText(near));
     });
-    return this.edit(lines, { originals, rewritten, ...(light && { at: { cursor: light.cells[0], direction: light.direction } }) });
+    return this.edit(lines, { originals, rewritten, stroke, ...(light && { at: { cursor: light.cells[0], direction: light.direction } }) });
   }
 
   // The light of a clue, by the name that records have for it; or null.
@@ -140,14 +138,14 @@ export class Edits {
     return this.#texts([[this.#editor.board.clueField(light), clue]]);
   }
 
-  // Keeps a private note on the clue of a light; or none.
-  note(light, text) {
+  // Keeps a private note on the clue of a light; or none. Edits of one `stroke` are one step.
+  note(light, text, stroke = null) {
     const { board } = this.#editor;
-    return this.edit([], { originals: this.#beside([[noteField(board, light), text]]), at: { cursor: light.cells[0], direction: light.direction } });
+    return this.edit([], { originals: this.#beside([[noteField(board, light), text]]), stroke, at: { cursor: light.cells[0], direction: light.direction } });
   }
 
-  // Has the clue of a light go on in those that a text names, whose clues lead to it; or in none. Returns whether it does.
-  async link(light, text) {
+  // Has the clue of a light go on in those that a text names, whose clues lead to it; or in none. Returns what that is refused for, or null.
+  async link(light, text, stroke = null) {
     const editor = this.#editor;
     const { board, originals, links } = editor;
     const { lights, fault } = namedLights(board, light, text);
@@ -157,12 +155,12 @@ export class Edits {
     if (taken) return this.#refuseLink(`${titleOf(taken)} is linked to other lights already`);
     const gone = before.filter((one) => !lights.includes(one) && isReference(editor.textOf(`clue ${one.name}`)));
     const texts = [...gone.map((one) => [board.clueField(one), '']), ...lights.map((one) => [board.clueField(one), referenceTo(one, light)])];
-    return !(await this.#texts(texts, [[linkField(board, light), spelledLink(board, lights)]]));
+    return this.#texts(texts, [[linkField(board, light), spelledLink(board, lights)]], stroke);
   }
 
   #refuseLink(text) {
     refuse(text);
-    return false;
+    return 'Link';
   }
 
   // Gives a cell a colour, or takes it away.
@@ -181,14 +179,12 @@ export class Edits {
     return originals;
   }
 
-  // Leaves a field of texts by Esc. `edited` promises what its edit is refused for, or is null if there is none. Another Esc takes the edit back.
-  leave(event, edited) {
+  // Leaves a field of texts by Esc. Another Esc does `takeBack`, if that is not null.
+  leave(event, takeBack) {
     this.actions.toGrid();
-    if (!edited) return;
+    if (!takeBack) return;
     event.stopPropagation();
-    this.actions.kept(async () => {
-      if (!(await edited)) await this.#editor.undo();
-    });
+    this.actions.kept(takeBack);
   }
 
   // Gives clues lengths; so many others have none, since no list shows how their answers part.

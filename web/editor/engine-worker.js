@@ -3,8 +3,8 @@ import { Xw, load, toBytes, toText } from '../xw.js';
 import * as answers from './answers.js';
 import { MOST, UNSCORED, gradeOf, totalOf } from './grades.js';
 import { closeNew } from './kin.js';
+import { Making } from './grids/making.js';
 import { letterIn, lettersOf, withoutLeast } from './record.js';
-import { crossingPatterns, gridFrom } from './themes.js';
 import { enumerationsOf, joinLists } from './word-list.js';
 
 let module;
@@ -26,6 +26,8 @@ const asked = ({ line, read }) => read(ask(line).lines);
 const isRefused = (line) => xw.answer(toBytes(line)).status === 'Refused';
 
 const counts = () => asked(answers.counts());
+
+const making = new Making({ ask, asked, scoreOf: (word) => scores.get(word) ?? null });
 
 const recordNow = () => toText(xw.record());
 
@@ -241,48 +243,6 @@ function near(lights, cells) {
   return cells.filter((cell) => found.has(cell));
 }
 
-// Grids from so many seeds, in a worker that helps: those whose crossing lights have words one by one, each with how many of these lights have none of the
-// grade `weak`; and one that has a light without a word.
-function grids({ wanted, seed, tries, least, weak }) {
-  const fits = new Map();
-  const isFit = (grade) => (pattern) => {
-    const asking = `${grade} ${pattern}`;
-    if (!fits.has(asking)) fits.set(asking, asked(answers.match(pattern)).length > 0);
-    return fits.get(asking);
-  };
-  const made = Array.from({ length: tries }, (_, at) => gridFrom(wanted, seed + at)).filter(Boolean);
-  const fit = made.filter((grid) => crossingPatterns(grid).every(isFit(least)));
-  ask(`least ${weak}`);
-  const told = fit.map((grid) => ({ grid, weak: crossingPatterns(grid).filter((pattern) => !isFit(weak)(pattern)).length }));
-  ask(`least ${least}`);
-  return { fit: told, spare: made.find((grid) => !fit.includes(grid)) ?? null };
-}
-
-// What the words say of a grid, in a worker that helps: the patterns of its lights that no word matches, with the cells of these, the fewest words
-// of a light, whether searches of so many placements fill it with words of a grade, and the scores of the words of that fill.
-function judge({ lines, most, least, grade }) {
-  for (const line of lines) ask(line);
-  const numbers = counts();
-  const lights = asked(answers.lights());
-  const fewest = lights.reduce((least, light, at) => (answers.isWhole(light) ? least : Math.min(least, numbers[at])), Infinity);
-  const unmatched = asked(answers.unmatched());
-  const isDead = new Set(unmatched.map(({ name }) => name));
-  const dead = lights.filter(({ name }) => isDead.has(name)).flatMap(answers.cellsOf).map(({ coordinates }) => coordinates);
-  const fill = fewest ? fillAt(grade, least, most) : 'nofill';
-  const filled = fill === 'filled' && scores.size ? asked(answers.lights()).map(({ letters }) => scores.get(letters) ?? null) : [];
-  return { unmatched: unmatched.map(({ pattern }) => pattern), dead, fewest, fill, scores: filled };
-}
-
-// Searches for a fill of words that have a grade, but for the best ones of lights that no such word matches; and returns how that ended.
-function fillAt(grade, least, most) {
-  if (grade > least) for (const { name, word } of forced({ least: grade, grade: least, words: {} }).lights) ask(`place ${name} ${word}`);
-  ask(`least ${grade}`);
-  let fill = 'limit';
-  for (let seed = 1; seed <= JUDGED_SEEDS && fill === 'limit'; seed++) fill = answers.outcomeOf(ask(`autofill ${most} ${seed}`)).answer;
-  ask(`least ${least}`);
-  return fill;
-}
-
 // The most words of a light that are weighed, and the most lights without a word that are asked for the reason.
 const MOST_WEIGHED = 8;
 
@@ -291,9 +251,6 @@ const MOST_TRIED = 20;
 
 // The most fills that a slice makes until the words of one are apart.
 const MOST_APART = 30;
-
-// From how many seeds a search tells whether a grid fills.
-const JUDGED_SEEDS = 2;
 
 // The most words that are judged which need other words changed, and the most that are told.
 const MOST_JUDGED = 2000;
@@ -475,8 +432,11 @@ const calls = {
   },
   best,
   forced,
-  grids,
-  judge,
+  // New grids, in a worker that helps.
+  beginGrids: (sent) => making.begin(sent),
+  moreGrids: (sent) => making.more(sent),
+  lookAtGrid: (sent) => making.look(sent),
+  fillGrid: (sent) => making.fill(sent),
 
   record() {
     return withoutLeast(recordNow());

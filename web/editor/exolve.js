@@ -1,25 +1,39 @@
 // Crosswords as text of Exolve: a section `exolve-…` a line or more, from `exolve-begin` to `exolve-end`.
 import { FileFault, Given, markedOf, plainOf } from './given.js';
 import { PLAIN, spelledLights } from './links.js';
+import { htmlText, markedUp } from './marks.js';
 
 const BEGIN = /^\s*exolve-begin\b/m;
 const SECTION = /^exolve-([a-z-]+)(?::\s*(.*))?$/;
 
 export const isExolve = (text) => BEGIN.test(text);
 
+const reference = (character) => `&#${character.codePointAt(0)};`;
+
+// A text in one line. It is HTML, in which a character that says something else here is a reference.
+const inLine = (html) => html.replace(/[\r\n\u2028\u2029]/g, reference);
+
+// Lines of text. One that would be a section or a comment, or lose its ends, begins or ends with a reference, and so do lines behind empty ones.
+const inLines = (html) => html.replace(/\n(\n+)/g, (_, more) => `\n${more.replace(/\n/g, reference)}`).split('\n')
+  .map((line) => `    ${inLine(line).replace(/^(?:[\s#]|e(?=xolve-))|\s$/g, reference)}`);
+
+// what is behind the bracket of an enumeration
+const LENGTHS = "\\s*\\d[\\d\\s,.;'’–—-]*\\*?\\)";
+// what would begin the lights that a clue goes on in, mark its definition, or begin an enumeration with a note behind it
+const OTHERWISE = new RegExp(`^\\s*(?:[,/]|&(?=\\s*\\d))|~(?=\\{)|(?<=\\})~|\\((?=${LENGTHS}\\s*\\S)`, 'g');
+const inClue = (text) => inLine(markedUp(text, htmlText)).replace(OTHERWISE, (found) => [...found].map(reference).join(''));
+
 // The file of a board. `textOf` gives the text of a field, `entryOf` the letters of a cell, and `links` those of clues.
 export function exolveOf(board, textOf, entryOf = ({ letter }) => letter, { links } = PLAIN) {
   const rows = Array.from({ length: board.height }, (_, row) => board.cells.slice(row * board.width, (row + 1) * board.width).map((cell) => spelled(cell, entryOf(cell))).join(' '));
   const isRebus = board.cells.some((cell) => entryOf(cell).length > 1);
-  // a line that begins with the word of a section would be one
-  const lines = (text) => text.split(/\r?\n/).map((line) => `    ${line.replace(/^\s*exolve-/, '')}`);
-  const line = (name, text) => (text ? [`  exolve-${name}: ${text.replace(/\s+/g, ' ')}`] : []);
+  const line = (name, text) => (text ? [`  exolve-${name}: ${inLine(htmlText(text))}`] : []);
   const numbers = (light) => [light.number, spelledLights(light, links.heads.get(light) ?? []).replace(/ (.)\w+/g, '$1')].filter(Boolean).join(', ');
-  const clue = (light) => `    ${numbers(light)} ${textOf(`clue ${light.name}`).replace(/\s+/g, ' ')}`.trimEnd();
+  const clue = (light) => `    ${numbers(light)} ${inClue(textOf(`clue ${light.name}`))}`.trimEnd();
   const clues = (direction) => board.lights.filter((light) => light.direction === direction).map(clue);
   const whole = [
     'exolve-begin', ...line('title', textOf('title')), ...line('setter', textOf('author')), ...line('copyright', textOf('copyright')), `  exolve-width: ${board.width}`,
-    `  exolve-height: ${board.height}`, ...(isRebus ? ['  exolve-option: rebus-cells'] : []), ...(textOf('notes') ? ['  exolve-preamble:', ...lines(textOf('notes'))] : []), '  exolve-grid:', ...rows.map((row) => `    ${row}`),
+    `  exolve-height: ${board.height}`, ...(isRebus ? ['  exolve-option: rebus-cells'] : []), ...(textOf('notes') ? ['  exolve-preamble:', ...inLines(htmlText(textOf('notes')))] : []), '  exolve-grid:', ...rows.map((row) => `    ${row}`),
     '  exolve-across:', ...clues('across'), '  exolve-down:', ...clues('down'), 'exolve-end',
   ];
   return `${whole.join('\n')}\n`;
@@ -100,13 +114,15 @@ function cluesIn(lines) {
   return clues;
 }
 
+const NOTED = new RegExp(`^(.*?\\(${LENGTHS})\\s*(.*)$`);
+
 // A clue may have more numbers, of lights that go on with it, marks of its definition, and notes of the setter after its lengths.
 function takeClue(given, clue, direction) {
   const [, number, others, told] = /^(\d+)[ad]?((?:\s*[,&/]\s*\d+[ad]?)*)[.:]?\s*(.*)$/i.exec(clue) ?? [];
   if (!number) return given.drops('a clue without a number', 'clues without numbers');
   const named = (name) => `${/\d+/.exec(name)[0]} ${/d$/i.test(name) ? 'down' : /a$/i.test(name) ? 'across' : direction}`;
   const links = others.split(/[,&/]/).map((name) => name.trim()).filter(Boolean).map(named);
-  const [, text, note] = /^(.*?\(\s*\d[\d\s,.;'’–—-]*\*?\))\s*(.*)$/.exec(told) ?? [null, told, ''];
+  const [, text, note] = NOTED.exec(told) ?? [null, told, ''];
   if (note) given.drops('the note on a clue', 'notes on clues');
   return given.clue({ number, direction, links, text: markedOf(text.replace(/~\{(.*?)\}~(?:\{.*?\})?/g, '$1')) });
 }

@@ -1,13 +1,15 @@
 // Files: what is opened, dropped and saved.
 import { toBytes, toText } from '../xw.js';
+import { lawfulBeside } from './beside.js';
 import { csvOf, htmlOf } from './clue-sheet.js';
-import { droppedOfPuz, joinedText } from './dropped.js';
+import { Dropped, droppedOfPuz, joinedText } from './dropped.js';
 import { enumerated } from './enumeration.js';
 import { exolveOf, readExolve } from './exolve.js';
+import { FileFault } from './given.js';
 import { ipuzOf, readIpuz } from './ipuz.js';
 import { jpzOf, readJpz } from './jpz.js';
 import { lossesOf } from './losses.js';
-import { SESSION_HEAD, hasCommands, isListText, isPuz, kindOf } from './kinds.js';
+import { SESSION_HEAD, foreignKind, hasCommands, isListText, isPuz, kindOf } from './kinds.js';
 import { refusalText, refuseAsIs as refuse, sayAsIs as say } from './messages.js';
 import { rebusOf, withRebus } from './puz-sections.js';
 import { asVersion13, originalsOf } from './puz-versions.js';
@@ -19,7 +21,7 @@ import { asVersion1, letterRows, recordOfRows } from './text-grids.js';
 import { listText } from './word-list.js';
 import { titleOf } from './words.js';
 import { staleClues } from './written.js';
-import { firstFile, isZip } from './zip.js';
+import { filesIn, isZip, unzipped } from './zip.js';
 
 // Notes of sessions, which the program passes over.
 const PENCIL = '# pencil ';
@@ -51,49 +53,52 @@ export class Files {
   // Opens a file of any kind, or one that is said to be a word list. Returns whether it could.
   async open(file, isList = false) {
     if (!this.actions.mayEdit()) return false;
-    const bytes = await this.#bytesOf(file);
-    if (!bytes) return false;
-    const kind = kindOf(file.name, bytes);
+    const content = await this.#contentOf(file);
+    if (!content) return false;
+    const { name, bytes } = content;
+    const kind = kindOf(name, bytes);
     try {
       switch (kind) {
         case 'list':
-          return await this.openList(file.name, bytes);
+          return await this.openList(name, bytes);
         case 'puzzle':
-          return await this.#openPuzzle(file.name, bytes);
+          return await this.#openPuzzle(name, bytes);
         case 'text2':
-          return await this.#openText2(file.name, bytes);
+          return await this.#openText2(name, bytes);
         case 'rows':
-          return await (isList ? this.openList(file.name, bytes) : this.#openRows(file.name, bytes));
+          return await (isList ? this.openList(name, bytes) : this.#openRows(name, bytes));
         case 'ipuz':
         case 'jpz':
         case 'exolve':
         case 'qxw':
         case 'deck':
-          return await this.#openGiven(file.name, READERS[kind](bytes));
+          return await this.#openGiven(name, givenBy(READERS[kind], bytes));
         case 'puzzles':
-          return await this.#openPuzzles(file.name, new TextDecoder().decode(bytes));
+          return await this.#openPuzzles(name, new TextDecoder().decode(bytes));
         case 'session':
-          if (!(await this.#openSession(file.name, toText(bytes)))) return false;
-          break;
+          return await this.#openSession(name, toText(bytes));
         case 'empty':
-          return this.#refuse(`${file.name} is empty: nothing is opened`);
+          return this.#refuse(`${name} is empty: nothing is opened`);
+        case 'mail':
+          return this.#refuse(`${name} looks like a mail, not a puzzle: save its attachment, and open that`);
+        case 'foreign':
+          return this.#refuse(`${name} is ${foreignKind(bytes)}, not a puzzle: nothing is opened`);
         default:
-          return this.#refuse(`${file.name} is no puzzle (.puz, .ipuz, .jpz, .qxw, Exolve or text), no session and no word list: nothing is opened`);
+          return this.#refuse(`${name} is no puzzle (.puz, .ipuz, .jpz, .qxw, Exolve or text), no session and no word list: nothing is opened`);
       }
     } catch (fault) {
       if (!fault.status) throw fault;
       // the engine takes what is no .puz file for a text file
-      const status = fault.status === 'Header' && /\.puz$/i.test(file.name) ? 'Magic' : fault.status;
+      const status = (fault.status === 'Header' || fault.status === 'NulByte') && /\.puz$/i.test(name) ? 'Magic' : fault.status;
       const hint = isListText(bytes) ? '; it looks like a word list, so give it a name that ends with .txt' : '';
-      return this.#refuse(`${file.name}: ${status === 'File' ? fault.message : refusalText(status)}${hint}`);
+      return this.#refuse(`${name}: ${status === 'File' ? fault.message : refusalText(status)}${hint}`);
     }
-    return this.#opened(file.name);
   }
 
   // `dropped` has what of the file is not kept.
   #opened(name, dropped = [], more = '') {
     this.actions.opened(name);
-    const lacking = dropped.length ? `, but without ${joinedText(dropped)}` : '';
+    const lacking = lackingText(dropped);
     say(`${name} is open${lacking}${more}; undo goes back to what was here`, lacking ? 'bad' : 'good');
     return true;
   }
@@ -136,9 +141,10 @@ export class Files {
   // Adds the puzzles of a file to those that the browser keeps.
   async #openPuzzles(name, text) {
     try {
-      const { added, others } = await this.actions.addPuzzles(text);
+      const { added, others, dropped } = await this.actions.addPuzzles(text);
       const versions = others ? `; of ${others} that are here already, versions` : '';
-      say(`${name}: ${added} ${added === 1 ? 'puzzle is' : 'puzzles are'} added to File ▸ Puzzles${versions}`, 'good');
+      const lacking = lackingText(dropped);
+      say(`${name}: ${added} ${added === 1 ? 'puzzle is' : 'puzzles are'} added to File ▸ Puzzles${versions}${lacking}`, lacking ? 'bad' : 'good');
       return true;
     } catch {
       return this.#refuse(`${name} has puzzles that cannot be read or kept: nothing is added`);
@@ -150,19 +156,37 @@ export class Files {
     return false;
   }
 
-  // The bytes of a file, those of the first one in a zip, or null if there are too many or the file cannot be read, as a folder cannot.
-  async #bytesOf(file) {
+  // The name and the bytes of a file, or of one in a zip; null if there are too many, or the file cannot be read, as a folder cannot.
+  async #contentOf(file) {
     if (file.size > MOST_BYTES) {
       refuse(`${file.name} is too large to be a puzzle, a session or a word list: nothing is opened`);
       return null;
     }
     try {
       const bytes = new Uint8Array(await file.arrayBuffer());
-      return (isZip(bytes) && (await firstFile(bytes, MOST_BYTES))) || bytes;
+      return isZip(bytes) ? await this.#inZip(file.name, filesIn(bytes)) : { name: file.name, bytes };
     } catch {
       refuse(`${file.name} cannot be read`);
       return null;
     }
+  }
+
+  // The one file of a zip, or of several the one that the user chooses. A zip that only packs a puzzle, as .jpz files are, keeps its name.
+  async #inZip(zip, files) {
+    const [only, ...others] = files;
+    if (!only) return this.#refuseZip(`${zip} is a zip without a file that can be read: nothing is opened`);
+    const chosen = others.length ? await this.actions.askFile(zip, files.map(({ name }) => name)) : 0;
+    const file = files[chosen ?? -1];
+    if (!file) return this.#refuseZip(`${zip} is not opened`);
+    const bytes = await unzipped(file, MOST_BYTES);
+    const name = file.name.replace(/^.*\//, '');
+    if (!bytes) return this.#refuseZip(`${zip}: ${name} is damaged, or too large to be a puzzle, a session or a word list: nothing is opened`);
+    return { name: others.length || /\.zip$/i.test(zip) ? name : zip, bytes };
+  }
+
+  #refuseZip(text) {
+    refuse(text);
+    return null;
   }
 
   // Only the grid and the texts of a session are tried without the list, since words of the list are not known there.
@@ -174,9 +198,10 @@ export class Files {
     const read = await this.#editor.engine.call('read', { record: text });
     const body = bodyOf(read);
     const pencil = lines.find((line) => line.startsWith(PENCIL))?.slice(PENCIL.length).split(', ').filter(Boolean) ?? [];
-    const [originals, written] = [ORIGINALS, WRITTEN].map((note) => parsedPairs(lines.find((line) => line.startsWith(note))?.slice(note.length)));
-    await this.#editor.replace({ record: [...words, ...body].join('\n'), pencil, originals, written });
-    return true;
+    const [originals, written] = [ORIGINALS, WRITTEN].map((note) => parsed(lines.find((line) => line.startsWith(note))?.slice(note.length)));
+    const dropped = new Dropped();
+    await this.#editor.replace({ record: [...words, ...body].join('\n'), ...lawfulBeside({ pencil, originals, written }, dropped) });
+    return this.#opened(name, dropped.phrases);
   }
 
   openList(name, bytes) {
@@ -338,12 +363,24 @@ export class Files {
   }
 }
 
-// Pairs of texts, as JSON spells them; none if it does not.
-function parsedPairs(text) {
+// What a reader makes of a file. Where the file has something of another kind than its format, as a number for a list, it is refused too.
+function givenBy(reader, bytes) {
   try {
-    const pairs = JSON.parse(text);
-    return pairs.filter((pair) => pair.length === 2 && pair.every((part) => typeof part === 'string'));
+    return reader(bytes);
+  } catch (fault) {
+    if (fault.status) throw fault;
+    throw new FileFault('it is not as its format has it');
+  }
+}
+
+// What is left out of a file.
+const lackingText = (dropped) => (dropped.length ? `, but without ${joinedText(dropped)}` : '');
+
+// What a note of a session spells in JSON; the note itself if it spells nothing.
+function parsed(note) {
+  try {
+    return note && JSON.parse(note);
   } catch {
-    return [];
+    return note;
   }
 }

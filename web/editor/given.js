@@ -1,6 +1,6 @@
 // A puzzle as a file tells it: its cells, texts and clues, and what of it the page does not keep. Each reader of a format makes one.
 import { colourField } from './colours.js';
-import { countText } from './dropped.js';
+import { Dropped } from './dropped.js';
 import { hasItalics, withoutItalics } from './marks.js';
 import { cellField } from './rebus.js';
 import { engineText, escapeText, textLines } from './record.js';
@@ -38,8 +38,8 @@ export class Given {
   // the colours of cells, as originals are kept
   /** @type {[string, string][]} */
   #colours = [];
-  // what else is not kept, in a few words each, and how often
-  #dropped = new Map();
+  // what else is not kept
+  #dropped = new Dropped();
 
   // Throws a FileFault if there is no such grid.
   constructor(width, height) {
@@ -95,11 +95,11 @@ export class Given {
 
   // Counts what is not kept, under the words for one and those for several.
   drops(one, several = one) {
-    this.#dropped.set(one, { several, count: (this.#dropped.get(one)?.count ?? 0) + 1 });
+    this.#dropped.add(one, several);
   }
 
   get dropped() {
-    return [...this.#dropped].flatMap(([one, { several, count }]) => (several === one ? [one] : countText(count, one, several)));
+    return this.#dropped.phrases;
   }
 
   // The record of the grid and its letters.
@@ -156,8 +156,11 @@ export class Given {
 // The other light of a number: a file may leave its direction out.
 const turned = (name) => (name.endsWith('across') ? name.replace('across', 'down') : name.replace('down', 'across'));
 
+// What a text of HTML has, with `gap` where a line or a paragraph ends. Nothing of it is shown or run.
+const bodyOf = (text, gap) => new DOMParser().parseFromString(String(text).replace(/<br\s*\/?>|<\/p>/gi, gap), 'text/html').body;
+
 // A text without its marks, which are those of HTML.
-export const plainOf = (text) => (/[<&]/.test(text) ? new DOMParser().parseFromString(String(text), 'text/html').body.textContent : String(text)).trim();
+export const plainOf = (text) => (/[<&]/.test(text) ? bodyOf(text, '\n').textContent : String(text)).trim();
 
 // The text of a node without its marks but for italics.
 /** @param {Node} node */
@@ -169,4 +172,4 @@ export function markedIn(node) {
   return spell(node).trim();
 }
 
-export const markedOf = (text) => (/[<&]/.test(text) ? markedIn(new DOMParser().parseFromString(String(text), 'text/html').body) : String(text).trim());
+export const markedOf = (text) => (/[<&]/.test(text) ? markedIn(bodyOf(text, ' ')) : String(text).trim());

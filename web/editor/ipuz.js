@@ -1,19 +1,21 @@
 // Crosswords as .ipuz, version 2 (http://ipuz.org): grids with blocks, bars and circles, letters, texts and clues.
 import { PALETTE, colourIn } from './colours.js';
+import { shortened } from './dropped.js';
 import { hasEnumeration } from './enumeration.js';
 import { FIELDS, FileFault, Given, markedOf, plainOf } from './given.js';
 import { PLAIN } from './links.js';
+import { htmlText, markedUp } from './marks.js';
 
 const VERSION = 'http://ipuz.org/v2';
 const KIND = 'http://ipuz.org/crossword#1';
 
 export const isIpuz = (head) => /^\s*(ipuz\s*\()?\s*\{/.test(head) && head.includes('ipuz.org/');
 
-// The file of a board. `textOf` gives the text of a field, `entryOf` the letters of a cell, and `more` its colour and the links of clues.
+// The file of a board. `textOf` gives the text of a field, `entryOf` the letters of a cell, and `more` its colour and the links of clues. Texts are HTML.
 export function ipuzOf(board, textOf, entryOf = ({ letter }) => letter, { colourOf, links } = PLAIN) {
   const rows = (cellOf) => Array.from({ length: board.height }, (_, row) => Array.from({ length: board.width }, (__, column) => cellOf(board.cells[row * board.width + column])));
-  const clues = (direction) => board.lights.filter((light) => light.direction === direction).map((light) => clueOf(light, textOf(`clue ${light.name}`), links));
-  const texts = Object.fromEntries(FIELDS.map((field) => [field, textOf(field)]).filter(([, text]) => text));
+  const clues = (direction) => board.lights.filter((light) => light.direction === direction).map((light) => clueOf(light, markedUp(textOf(`clue ${light.name}`), htmlText), links));
+  const texts = Object.fromEntries(FIELDS.map((field) => [field, htmlText(textOf(field))]).filter(([, text]) => text));
   const whole = {
     version: VERSION, kind: [KIND], ...texts, dimensions: { width: board.width, height: board.height }, puzzle: rows((cell) => shownIn(cell, colourOf(cell))),
     solution: rows((cell) => (cell.block ? '#' : entryOf(cell) || null)), clues: { Across: clues('across'), Down: clues('down') },
@@ -53,7 +55,7 @@ export function readIpuz(text) {
   if (file.zones?.length) given.drops('zones of the grid');
   for (const [name, clues] of Object.entries(file.clues ?? {})) {
     const direction = name.split(':')[0].toLowerCase();
-    if (direction !== 'across' && direction !== 'down') given.drops(`the clues of ${name}`);
+    if (direction !== 'across' && direction !== 'down') given.drops(`the clues of ${shortened(name)}`);
     else for (const clue of clues) takeClue(given, clue, direction, numbered);
   }
   return given;

@@ -3,22 +3,27 @@ import { colourIn } from './colours.js';
 import { hasEnumeration } from './enumeration.js';
 import { FileFault, Given, markedIn } from './given.js';
 import { PLAIN } from './links.js';
-import { partsOfText } from './marks.js';
+import { markedUp } from './marks.js';
 
 /** @typedef {import('./answers.js').Direction} Direction */
 
 const OUTER = 'http://crossword.info/xml/crossword-compiler';
 const INNER = 'http://crossword.info/xml/rectangular-puzzle';
+// a grid has no more rows and columns
+const MOST_SIDE = 255;
 
 export const isJpz = (head) => /<(\w+:)?(crossword-compiler(-applet)?|rectangular-puzzle)\b/.test(head);
 
-const spelled = (text) => String(text).replace(/[&<>"]/g, (one) => ({ '&': '&amp;', '<': '&lt;', '>': '&gt;', '"': '&quot;' }[one]));
+const REFERENCES = { '&': '&amp;', '<': '&lt;', '>': '&gt;', '"': '&quot;', '\r': '&#13;' };
+// what no XML can have
+const NO_XML = /[^\t\n\r\u0020-\ud7ff\ue000-\ufffd\u{10000}-\u{10ffff}]/gu;
+
+const spelled = (text) => String(text).replace(/[&<>"\r]/g, (one) => REFERENCES[one]).replace(NO_XML, '\ufffd');
 // the attributes that have values
 const attributes = (values) => Object.entries(values).filter(([, value]) => value !== '' && value !== false).map(([name, value]) => ` ${name}="${spelled(value)}"`).join('');
 
 // The file of a board. `textOf` gives the text of a field, `entryOf` the letters of a cell, and `colourOf` its colour.
 export function jpzOf(board, textOf, entryOf = ({ letter }) => letter, { colourOf } = PLAIN) {
-  const marked = (text) => partsOfText(text).map((part) => (part.isItalic ? `<i>${spelled(part.text)}</i>` : spelled(part.text))).join('');
   const place = (index) => ({ x: board.columnOf(index), y: board.rowOf(index) });
   const cells = board.cells.map((cell, index) => `<cell${attributes({
     ...place(index), type: cell.block && 'block', solution: entryOf(cell), number: cell.number, 'background-shape': cell.circle && !cell.block && 'circle', 'right-bar': cell.right && 'true',
@@ -30,7 +35,7 @@ export function jpzOf(board, textOf, entryOf = ({ letter }) => letter, { colourO
   });
   const clues = (direction, title) => [
     `<clues ordering="normal"><title><b>${title}</b></title>`,
-    ...board.lights.flatMap((light, at) => (light.direction === direction ? [`<clue${attributes({ word: at + 1, number: light.number })}>${marked(textOf(`clue ${light.name}`))}</clue>`] : [])),
+    ...board.lights.flatMap((light, at) => (light.direction === direction ? [`<clue${attributes({ word: at + 1, number: light.number })}>${markedUp(textOf(`clue ${light.name}`), spelled)}</clue>`] : [])),
     '</clues>',
   ];
   const texts = { title: textOf('title'), creator: textOf('author'), copyright: textOf('copyright'), description: textOf('notes') };
@@ -105,7 +110,7 @@ function wordOf(word) {
       return [first, last];
     });
     const count = Math.max(right - left, bottom - top) + 1;
-    return Array.from({ length: Math.max(0, count) }, (_, at) => ({ row: Math.min(top + at, bottom), column: Math.min(left + at, right) }));
+    return Array.from({ length: Math.min(MOST_SIDE, Math.max(0, count)) }, (_, at) => ({ row: Math.min(top + at, bottom), column: Math.min(left + at, right) }));
   });
   const [first, second] = cells;
   if (!second) return null;

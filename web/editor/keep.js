@@ -146,6 +146,11 @@ const ADDRESS = 'xw-editor-address';
 export const keptAddress = () => textIn('localStorage', ADDRESS) ?? '';
 export const keepAddress = (text) => putText('localStorage', ADDRESS, text || null);
 
+// The limits of new grids that were changed.
+const LIMITS = 'xw-editor-limits';
+export const keptLimits = () => parsed(textIn('localStorage', LIMITS)) ?? {};
+export const keepLimits = (changed) => putText('localStorage', LIMITS, JSON.stringify(changed));
+
 // Puzzles: a session as in a draft, and `deleted`, when it was deleted, or null. A version is a session too, of which only the newest and
 // others spread over time are kept.
 

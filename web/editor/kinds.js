@@ -45,20 +45,49 @@ export const isListText = (bytes) => isText(bytes) && isWordList(listText(bytes.
 // A text of bytes has no NUL, and pictures and archives have one soon.
 const isText = (bytes) => isSixteenBits(bytes) || !bytes.subarray(0, 4096).includes(0);
 
+// How files of other kinds begin, and what these are.
+/** @type {[RegExp, string][]} */
+const FOREIGN = [
+  [/^\x89PNG\r\n/, 'a picture (PNG)'], [/^\xff\xd8\xff/, 'a picture (JPEG)'], [/^GIF8[79]a/, 'a picture (GIF)'], [/^RIFF[^]{4}WEBP/, 'a picture (WebP)'],
+  [/^%PDF-/, 'a document (PDF)'], [/^\x1f\x8b/, 'a packed file (gzip)'], [/^Rar!\x1a|^7z\xbc\xaf/, 'an archive that is no zip'], [/^\s*<(!doctype html|html)\b/i, 'a web page (HTML)'],
+];
+const MAIL = /^(from|to|subject|date|received|return-path|delivered-to|message-id|mime-version|content-(type|disposition|transfer-encoding)): /i;
+
+// What a file of another kind is, such as a picture; or null.
+export function foreignKind(bytes) {
+  const head = String.fromCharCode(...bytes.subarray(0, 64));
+  return FOREIGN.find(([begin]) => begin.test(head))?.[1] ?? null;
+}
+
+// Whether a text begins with the lines that a mail has before its text.
+function isMail(head) {
+  const lines = head.split(/\r?\n\r?\n/, 1)[0].split(/\r?\n/);
+  return (MAIL.test(lines[0]) || /^From \S+@/.test(lines[0])) && lines.filter((line) => MAIL.test(line)).length > 1;
+}
+
+// What the bytes of a file say that it is; null if they do not tell.
+function kindIn(head, bytes) {
+  if (isPuz(bytes) || /^\s*<across puzzle>/i.test(head)) return 'puzzle';
+  if (isVersion2(head)) return 'text2';
+  if (isPuzzlesFile(head)) return 'puzzles';
+  if (isIpuz(head)) return 'ipuz';
+  if (isJpz(head)) return 'jpz';
+  if (isQxw(head)) return 'qxw';
+  if (isExolve(toText(bytes.subarray(0, SAMPLE)))) return 'exolve';
+  if (isMail(head)) return 'mail';
+  return foreignKind(bytes) && 'foreign';
+}
+
+// What the ends of names say.
+const NAMED = { puz: 'puzzle', ipuz: 'ipuz', jpz: 'jpz', qxd: 'deck' };
+
 // What a file is: `puzzle` (.puz or text), `text2` (text of version 2), `ipuz`, `jpz`, `exolve`, `qxw`, `deck`, `session`, `puzzles`, `list`, `rows` (a grid of letters, or a
-// list of words of one length), `empty`, or `other`.
+// list of words of one length), `empty`, `mail`, `foreign` (of a kind that foreignKind tells), or `other`.
 export function kindOf(name, bytes) {
   if (!bytes.length) return 'empty';
   const head = toText(bytes.subarray(0, 4096)).replace(/^\u00ef\u00bb\u00bf/, '');
-  if (isPuz(bytes) || /\.puz$/i.test(name)) return 'puzzle';
-  if (/^\s*<across puzzle>/i.test(head)) return 'puzzle';
-  if (isVersion2(head)) return 'text2';
-  if (isPuzzlesFile(head)) return 'puzzles';
-  if (isIpuz(head) || /\.ipuz$/i.test(name)) return 'ipuz';
-  if (isJpz(head) || /\.jpz$/i.test(name)) return 'jpz';
-  if (isQxw(head)) return 'qxw';
-  if (/\.qxd$/i.test(name)) return 'deck';
-  if (isExolve(toText(bytes.subarray(0, SAMPLE)))) return 'exolve';
+  const kind = kindIn(head, bytes) ?? NAMED[/\.(\w+)$/.exec(name)?.[1].toLowerCase()];
+  if (kind) return kind;
   if (isSession(name, head)) return 'session';
   if (!isText(bytes)) return 'other';
   if (bytes.length < SAMPLE && letterRows(listText(bytes))) return 'rows';

@@ -1,6 +1,7 @@
 // The dialog of puzzles: each can be opened, also as it was before, deleted and restored.
 import { openDialog } from './dialogs.js';
 import { versionsOf, whyNotKept } from './keep.js';
+import { svgElement } from './page.js';
 import { parseRecord, placeOf, unescapeText } from './record.js';
 
 export class LibraryView {
@@ -139,15 +140,7 @@ export function sketchOf({ width, height, blocks, bars, letters }, marked = new 
   if (width * height > MOST_DRAWN) return svg;
   for (const [coordinates, letter] of letters) {
     const [row, column] = placeOf(coordinates);
-    const text = svgElement('text', { x: column - 0.5, y: row - 0.2, ...(marked.has(coordinates) && { class: 'marked' }) });
-    text.append(letter);
-    svg.append(text);
+    svg.append(svgElement('text', { x: column - 0.5, y: row - 0.2, ...(marked.has(coordinates) && { class: 'marked' }) }, letter));
   }
   return svg;
-}
-
-function svgElement(name, attributes) {
-  const made = document.createElementNS('http://www.w3.org/2000/svg', name);
-  for (const [attribute, value] of Object.entries(attributes)) made.setAttribute(attribute, value);
-  return made;
 }

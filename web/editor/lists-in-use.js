@@ -129,10 +129,10 @@ export class ListsInUse {
     return true;
   }
 
-  // What was left out of the lists, or changed.
+  // How the lists were read, and what was left out of them, or changed.
   #notes() {
-    const { leftOut, folded } = this.#editor.list;
-    return [foldedText(folded), leftOutText(leftOut)].filter(Boolean);
+    const { leftOut, folded, asRead } = this.#editor.list;
+    return [...asRead, foldedText(folded), leftOutText(leftOut)].filter(Boolean);
   }
 
   async #store() {

@@ -4,7 +4,7 @@ import { isColourField } from './colours.js';
 import { isAdded } from './links.js';
 import { hasItalics } from './marks.js';
 import { isCellField, isRebus } from './rebus.js';
-import { strangeCharacter } from './record.js';
+import { strangeCharacters } from './record.js';
 
 // What the formats keep of what not all of them do.
 const KEPT = {
@@ -33,7 +33,7 @@ function hadBy(editor) {
 export function lossesOf(editor, form) {
   const isLost = (name) => !KEPT[form].includes(name);
   const isText = (field) => !isCellField(field) && !isColourField(field) && !isAdded(field);
-  const strange = [...editor.originals].filter(([field]) => isText(field)).map(([, text]) => strangeCharacter(text)).filter((one) => one !== null);
+  const strange = [...editor.originals].filter(([field]) => isText(field)).flatMap(([, text]) => strangeCharacters(text));
   return {
     lost: Object.entries(hadBy(editor)).filter(([name]) => isLost(name)).flatMap(([, told]) => told),
     strange: isLost('characters') ? [...new Set(strange)] : [],

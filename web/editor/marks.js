@@ -18,6 +18,15 @@ export function partsOfText(text) {
   });
 }
 
+// A text with its italics as elements of HTML, and the rest as `spell` spells it.
+export const markedUp = (text, spell) => partsOfText(text).map((part) => (part.isItalic ? `<i>${spell(part.text)}</i>` : spell(part.text))).join('');
+
+const REFERENCES = { '&': '&amp;', '<': '&lt;', '\r': '&#13;' };
+
+// A text as HTML spells it, so that it reads back the same: what could begin an element or a reference is one, and a carriage return that a reader of
+// HTML would drop. A text without these is itself.
+export const htmlText = (text) => (/[<&]/.test(text) ? text.replace(/&(?=[#A-Za-z])|[<\r]/g, (one) => REFERENCES[one]) : text);
+
 // The text of a field with its selection in italics, or without if it is; and where the selection is then.
 export function toggledItalics(text, start, end) {
   const [before, chosen, after] = [text.slice(0, start), text.slice(start, end), text.slice(end)];

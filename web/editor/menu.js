@@ -1,6 +1,7 @@
 // The menu and other parts that a button shows, and what buttons and keys do.
 import { say } from './messages.js';
 import { $, all, first, isText, pressed } from './page.js';
+import { hasUndoOfPuzzle } from './typed.js';
 
 // The keys of actions, with Ctrl.
 const CONTROL_KEYS = { o: 'open', s: 'save', p: 'print', f: 'fill', g: 'another', j: 'hardest' };
@@ -26,9 +27,11 @@ function actionOf(event, actions, keys, takeTyped) {
   if (!event.ctrlKey && !event.metaKey) return isInDialog && key === 'escape' ? null : keys()[key];
   // the browser would save the page
   if (event.altKey || (key !== 's' && isInDialog)) return null;
-  if (key === 'z' && !isText(event.target)) return event.shiftKey ? actions.redo : actions.undo;
-  if (key === 'y' && !isText(event.target)) return actions.redo;
-  const action = CONTROL_KEYS[key] && actions[CONTROL_KEYS[key]];
+  const isHistory = key === 'z' || key === 'y';
+  // the browser undoes what is typed into other fields
+  if (isHistory && isText(event.target) && !hasUndoOfPuzzle(event.target)) return null;
+  const name = isHistory ? (key === 'y' || event.shiftKey ? 'redo' : 'undo') : CONTROL_KEYS[key];
+  const action = actions[name];
   return action && (() => {
     takeTyped();
     return action();

@@ -49,6 +49,8 @@ export const REFUSALS = {
 
 export const refusalText = (name) => REFUSALS[name] ?? `refused: ${name}`;
 
+// from how many characters on a message has small type, so that it fits into two lines
+const LONG = 90;
 // the most messages that are listed
 const MOST_LISTED_MESSAGES = 50;
 
@@ -77,6 +79,7 @@ function tell(told, tone, isSentence) {
   line.dataset.tone = tone;
   line.toggleAttribute('data-sentence', isSentence);
   toast.hidden = !text;
+  toast.classList.toggle('long', text.length >= LONG);
   toast.dataset.tone = tone;
   if (!text || tone === 'busy' || history.firstElementChild?.dataset.text === text) return;
   const item = document.createElement('li');

@@ -21,6 +21,14 @@ export function put(element, name, value) {
   if (element[name] !== value) element[name] = value;
 }
 
+// A part of a picture in SVG, with attributes, and elements or a text in it.
+export function svgElement(name, attributes, ...inner) {
+  const made = document.createElementNS('http://www.w3.org/2000/svg', name);
+  for (const [attribute, value] of Object.entries(attributes)) made.setAttribute(attribute, String(value));
+  made.append(...inner);
+  return made;
+}
+
 // Whether an element is a field of text, other than the one of the grid.
 export const isText = (element) => /** @type {Element} */ (element).matches('input:not([type=range], #typing), textarea');
 

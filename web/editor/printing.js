@@ -27,9 +27,7 @@ export class PrintDialog {
     $('print-dialog').addEventListener('close', () => this.#close());
   }
 
-  async open() {
-    // with the edits that are under way
-    await this.#editor.inOrder(() => {});
+  open() {
     $('print-address').value = keptAddress();
     if (!this.#isLengthsChosen) $('print-lengths').checked = isBritishGrid(this.#editor.board);
     this.#preview();

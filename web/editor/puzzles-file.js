@@ -1,4 +1,6 @@
 // A file of all puzzles that a browser keeps, with their versions: JSON, whose sessions are those of the store.
+import { lawfulBeside } from './beside.js';
+import { Dropped } from './dropped.js';
 
 const FORMAT = 'xw puzzles 1';
 
@@ -6,10 +8,25 @@ export const isPuzzlesFile = (head) => head.startsWith(`{"format":"${FORMAT}"`);
 
 export const puzzlesFile = (puzzles, versions) => `${JSON.stringify({ format: FORMAT, puzzles, versions })}\n`;
 
-// The puzzles and versions of such a file; throws if one of them is no session.
+// Whether a grid of a record can be drawn, and the session be kept under its names.
+function isSession({ puzzle, record, at }) {
+  if (![puzzle, record].every((part) => typeof part === 'string') || !Number.isFinite(at)) return false;
+  return [...record.matchAll(/^[ \t]*size (.*)$/gm)].every(([, size]) => size.trim().split(' ').every((side) => Number(side) >= 1 && Number(side) <= 255));
+}
+
+// A session of the file with what it may have, and nothing else.
+function lawful({ puzzle, record, at, cursor, direction, deleted, ...beside }, dropped) {
+  return {
+    puzzle, record, at, ...lawfulBeside(beside, dropped), cursor: Number.isInteger(cursor) ? cursor : 0, direction: direction === 'down' ? 'down' : 'across',
+    deleted: Number.isFinite(deleted) ? deleted : null,
+  };
+}
+
+// The puzzles and versions of such a file, and what of them is left out; throws if one of them is no session.
 export function puzzlesIn(text) {
   const { puzzles, versions } = JSON.parse(text);
-  const isSession = ({ puzzle, record, at, pencil }) => [puzzle, record].every((part) => typeof part === 'string') && Number.isFinite(at) && Array.isArray(pencil);
   if (![puzzles, versions].every((sessions) => Array.isArray(sessions) && sessions.every(isSession))) throw new Error('no puzzles');
-  return { puzzles, versions };
+  const dropped = new Dropped();
+  const [some, others] = [puzzles, versions].map((sessions) => sessions.map((session) => lawful(session, dropped)));
+  return { puzzles: some, versions: others, dropped: dropped.phrases };
 }

@@ -32,10 +32,9 @@ export function nearestText(text) {
 // The text that the engine gets for one that was typed: with near characters and without italics; and how many characters are others.
 export const engineText = (text) => nearestText(withoutItalics(text));
 
-// The first character of a text that is not in the character set of .puz files, Windows-1252; or null.
-export function strangeCharacter(text) {
-  return Array.from(text).find((character) => !WINDOWS_1252.includes(character)) ?? null;
-}
+// The characters of a text that are not in the character set of .puz files, Windows-1252, each once; and the first of them, or null.
+export const strangeCharacters = (text) => [...new Set(Array.from(text).filter((character) => !WINDOWS_1252.includes(character)))];
+export const strangeCharacter = (text) => strangeCharacters(text)[0] ?? null;
 
 // The most bytes of a text that go into one command.
 const PIECE = 2000;

@@ -1,7 +1,7 @@
 // The usual rules of grids, as warnings: the number of words, lights of two letters, parts that do not connect, unchecked letters, words that
 // are close to each other, and enumerations of another length than the word.
 
-import { mostUnchecked } from './barred.js';
+import { mostUnchecked } from './grids/barred.js';
 import { enumeratedLength } from './enumeration.js';
 import { closeWords } from './kin.js';
 import { unescapeText } from './record.js';

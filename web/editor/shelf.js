@@ -309,15 +309,15 @@ export class Shelf extends EventTarget {
     return puzzlesFile([...here, ...stored], await storedVersions());
   }
 
-  // Adds the puzzles of such a file, and returns how many these are. Those that are here already get what it has as versions.
+  // Adds the puzzles of such a file, and returns how many these are, and what of them is left out. Those that are here already get what it has as versions.
   async addAll(text) {
-    const { puzzles, versions } = puzzlesIn(text);
+    const { puzzles, versions, dropped } = puzzlesIn(text);
     const known = new Set((await storedPuzzles()).map(({ puzzle }) => puzzle).concat(this.#editor.puzzle));
     const added = puzzles.filter(({ puzzle }) => !known.has(puzzle));
     const others = puzzles.filter(({ puzzle }) => known.has(puzzle));
     await storePuzzles(added, [...versions, ...others]);
     await this.#bank.add(added).catch(() => {});
-    return { added: added.length, others: others.length };
+    return { added: added.length, others: others.length, dropped };
   }
 
   // Deletes a puzzle, which can be restored until it is destroyed.

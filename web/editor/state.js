@@ -19,8 +19,8 @@ import { Board } from './board.js';
 // close to others.
 /**
  * @typedef {{
- *   name: string, words: number, scored: boolean, best: number, byGrade: Uint32Array, leftOut: Record<string, number>, folded: number, least: number,
- *   grade: number, weak: number, threes: number, apart: boolean, sources: Uint8Array[], personal: string,
+ *   name: string, words: number, scored: boolean, best: number, byGrade: Uint32Array, leftOut: Record<string, number>, folded: number, asRead: string[],
+ *   least: number, grade: number, weak: number, threes: number, apart: boolean, sources: Uint8Array[], personal: string,
  * }} WordList
  */
 
@@ -70,7 +70,7 @@ class Parts {
   /** @type {ReadonlySet<number>} */
   worst = new Set();
   /** @type {WordList} */
-  list = { name: '', words: 0, scored: false, best: 0, byGrade: new Uint32Array(), leftOut: {}, folded: 0, least: 0, grade: 0, weak: 0, threes: 0, apart: false, sources: [], personal: '' };
+  list = { name: '', words: 0, scored: false, best: 0, byGrade: new Uint32Array(), leftOut: {}, folded: 0, asRead: [], least: 0, grade: 0, weak: 0, threes: 0, apart: false, sources: [], personal: '' };
   // names the puzzle: edits keep the name, another file or pattern has another one
   puzzle = newPuzzleName();
 }
@@ -82,8 +82,9 @@ export const NO_REASON = { cells: new Set(), light: '' };
 export const newPuzzleName = () => `${Date.now().toString(36)}-${Math.random().toString(36).slice(2)}`;
 
 // What else a transaction tells: letters of the grid that changed, with all cells that changed with them, and how long the engine took; that there is
-// another step of the history, with the one before it; and that another puzzle comes in place of the one of a step.
-/** @typedef {{ letters: { cells: Set<number>, engine: number }, step: Step | undefined, left: Step }} Told */
+// another step of the history, with the one before it; that another puzzle is about to come in place of the one that is here, and that it came in place of
+// the one of a step.
+/** @typedef {{ letters: { cells: Set<number>, engine: number }, step: Step | undefined, leaving: true, left: Step }} Told */
 
 /** @typedef {Partial<Parts & Told>} Changes */
 // What was changed, and what was there before.

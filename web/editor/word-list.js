@@ -17,18 +17,36 @@ export function listText(bytes) {
   }
 }
 
-// The lines that are not blank, each whole, and as the spelling of a word and its score, which is null if the line has none. A byte order mark
-// is taken off the first line by the decoder, and off any other where files were put together.
-export function listLines(text) {
-  const lines = text.split(/\r\n?|\n/).filter((line) => line.trim());
-  return lines.map((line) => {
-    const whole = line.charCodeAt(0) === 0xfeff ? line.slice(1) : line;
-    const found = /^(.*?)[;,\t]\s*(-?\d+(?:\.\d+)?)/.exec(whole);
-    return found ? { whole, spelling: found[1], score: Number(found[2]) } : { whole, spelling: whole, score: null };
+const isMost = (count, lines) => 2 * count > lines.length;
+
+// How the lines of a list have scores, and what is said of it: behind a separator, which is usual, behind blanks, or before the word.
+const FORMS = [
+  { line: /^(?<spelling>.*?)[;,\t]\s*(?<score>-?\d+(?:\.\d+)?)/, told: '' },
+  { line: /^(?<spelling>.*(?<=\S)) {1,20}(?<score>-?\d{1,15}(?:\.\d{1,15})?)\s*$/, told: 'the scores are behind blanks' },
+  { line: /^\s{0,20}(?<score>-?\d{1,15}(?:\.\d{1,15})?) {0,20}[;,\t]\s{0,20}(?<spelling>.*\p{L}.*)$/u, told: 'the scores are before the words' },
+];
+// how many lines tell the form of a list
+const TELLING = 1000;
+
+// The form of a list: the first one that most lines have.
+const formOf = (lines) => FORMS.find(({ line }) => isMost(lines.filter((one) => line.test(one)).length, lines)) ?? FORMS[0];
+
+// The lines that are not blank, each whole, and as the spelling of a word and its score, which is null if the line has none; and what is said of the form
+// that they have. A byte order mark is taken off the first line by the decoder, and off any other where files were put together.
+function readLines(text) {
+  const all = text.split(/\r\n?|\n/).filter((line) => line.trim()).map((line) => (line.charCodeAt(0) === 0xfeff ? line.slice(1) : line));
+  const form = formOf(all.slice(0, TELLING));
+  const lines = all.map((whole) => {
+    const { spelling, score } = form.line.exec(whole)?.groups ?? {};
+    return score === undefined ? { whole, spelling: whole, score: null } : { whole, spelling, score: Number(score) };
   });
+  return { lines, told: form.told };
 }
 
-const isMost = (count, lines) => 2 * count > lines.length;
+export const listLines = (text) => readLines(text).lines;
+
+// Whether scores are shares of one: all from 0 to 1, and some between.
+const areShares = (scores) => scores.every((score) => score >= 0 && score <= 1) && scores.some((score) => !Number.isInteger(score));
 
 // A phrase of up to six words, which may have signs in them.
 const PHRASE = /^[\p{L}\p{M}\p{N}.'’‘!?&/+–-]+( [\p{L}\p{M}\p{N}.'’‘!?&/+–-]+){0,5}$/u;
@@ -88,11 +106,24 @@ function inOrder(lines, scored) {
   return scored ? mixed.sort((a, b) => b.score - a.score) : mixed;
 }
 
+// The lines of a list; whether most have a score; and how the scores were read, in a few words, unless that is usual. Shares of one become scores from 0
+// to 100.
+function scoredLines(bytes) {
+  const { lines, told } = readLines(listText(bytes));
+  const scores = lines.map(({ score }) => score).filter((score) => score !== null);
+  const scored = isMost(scores.length, lines);
+  const isScaled = scored && areShares(scores);
+  return {
+    scored,
+    lines: isScaled ? lines.map((line) => ({ ...line, score: line.score === null ? null : Math.round(10000 * line.score) / 100 })) : lines,
+    asRead: [...(scored && told ? [told] : []), ...(isScaled ? ['scores from 0 to 1 are read as 0 to 100'] : [])],
+  };
+}
+
 // Reads a list: its words in capitals, each once, the best scores first if most lines have one; the scores of these words; the best score of
-// the list; how many lines are left out, by reason; and how many words were spelled with accents.
+// the list; how many lines are left out, by reason; how many words were spelled with accents; and how its scores were read.
 export function readList(bytes) {
-  const read = listLines(listText(bytes));
-  const scored = isMost(read.filter(({ score }) => score !== null).length, read);
+  const { lines: read, scored, asRead } = scoredLines(bytes);
   const lines = inOrder(read, scored);
   const words = new Map();
   const leftOut = {};
@@ -107,7 +138,7 @@ export function readList(bytes) {
     if (!reason && spelled !== written) folded++;
   }
   const best = scored ? lines.reduce((most, { score }) => Math.max(most, score ?? 0), 0) : 0;
-  return { words: [...words.keys()], scores: scored ? words : new Map(), scored, best, leftOut, folded };
+  return { words: [...words.keys()], scores: scored ? words : new Map(), scored, best, leftOut, folded, asRead };
 }
 
 // A line of the personal list: { letters, isHidden, score, spelling }. `letters` is '' if it has no word.
@@ -176,7 +207,10 @@ export function joinLists(sources, personal) {
   const scored = parts.some((part) => part.scored);
   const rank = (score) => score ?? scoreOf(UNSCORED, best);
   const words = scored ? [...scores].sort(([, a], [, b]) => rank(b) - rank(a)).map(([word]) => word) : [...scores.keys()];
-  return { words, scores: scored ? scores : new Map(), scored, best, leftOut: sumOf(parts.map((part) => part.leftOut)), folded: parts.reduce((sum, part) => sum + part.folded, 0) };
+  return {
+    words, scores: scored ? scores : new Map(), scored, best, leftOut: sumOf(parts.map((part) => part.leftOut)), folded: parts.reduce((sum, part) => sum + part.folded, 0),
+    asRead: [...new Set(parts.flatMap((part) => part.asRead))],
+  };
 }
 
 // A list shows how its entries part into words if one in so many has a space or a hyphen. Others may write all phrases in one.

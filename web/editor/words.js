@@ -280,6 +280,8 @@ export class WordsView {
     clearTimeout(this.#restTimer);
     this.#restTimer = setTimeout(() => whenIdle(() => this.#fillRows(MOST_LISTED)), ALONE);
     list.hidden = !words.length && this.#isCurrent;
+    // a column has room for a word
+    list.style.setProperty('--letters', String(this.shown[0]?.length ?? 0));
     list.classList.toggle('dead-end', this.#isDead);
     list.classList.toggle('alternatives', this.#isStanding && this.#needs.size > 0);
     list.classList.toggle('scored', this.#scores.size > 0);

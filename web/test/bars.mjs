@@ -1,5 +1,5 @@
 // What a setter waits for in the editor, beside the bars that it should reach on an idle machine with four cores or more: how good fills are some seconds
-// after the key, how good the best new grid around four theme entries is, and the time of a letter.
+// after the key, how many new grids around theme entries are judged after some seconds and how good these are, and the time of a letter.
 //
 //   node --experimental-websocket web/test/bars.mjs LIST [--page FILE] [--runs N] [--grids DIR]
 //
@@ -30,7 +30,11 @@ const GRIDS = [
   ['Themeless 15 × 15', 'american15-themeless1', 'worst 60', 5],
   ['American 21 × 21', 'american21', 'worst 60, mean 80', 5],
 ];
-const ENTRIES = ['CONSTELLATION', 'OBSERVATION', 'EXPLORATION', 'INVESTIGATION'];
+// the lengths of theme sets, and the seconds after which their grids are counted
+const SETS = [
+  [14, 12, 12, 14], [10, 13, 13, 10], [15, 15, 15], [10, 14, 14, 10], [12, 11, 11, 12], [11, 15, 11], [9, 13, 9, 13], [8, 15, 8], [15, 13, 15], [13, 9, 9, 13], [11, 10, 9, 10, 11], [13, 11, 11, 13],
+];
+const GRIDS_AFTER = 15;
 const TIMES = [1, 2, 3, 4, 5, 6];
 
 const room = mkdtempSync(join(tmpdir(), 'xw-bars-'));
@@ -96,17 +100,45 @@ async function openPage(browser) {
 
 const recordFor = ([pattern, name]) => (folder ? readFileSync(join(folder, `${name}.xw`), 'latin1') : recordOf(rowsOf(PATTERNS.find((one) => one.name === pattern)), 'half'));
 
-// New grids around theme entries, the best one of them, and how a fill of it gets on.
-async function themed(browser, run) {
-  await browser.value(`document.querySelector('[data-do=themes]').click(), document.getElementById('themes-entries').value = ${JSON.stringify(ENTRIES.join('\n'))}`);
+// Words of the list that are good, of some lengths and spread over it.
+function wordsOfLengths(lengths) {
+  const chosen = [];
+  for (const length of lengths) {
+    const all = [...scores].filter(([word, score]) => word.length === length && !(score < 50) && !chosen.includes(word)).map(([word]) => word);
+    chosen.push(all[Math.floor(all.length * ((0.37 + 0.29 * chosen.length) % 1))]);
+  }
+  return chosen;
+}
+
+const field = (id, value) => `{
+  const field = document.getElementById('themes-${id}');
+  field.value = ${JSON.stringify(value)};
+  field.dispatchEvent(new Event('change', { bubbles: true }));
+}`;
+
+// The judged grids around a theme set after some seconds, within the limits that the page lists for a daily paper: what is said of each.
+async function gridsAround(browser, lengths) {
+  const entries = wordsOfLengths(lengths);
+  await browser.value(`(() => { document.querySelector('[data-do=themes]').click(); ${field('outlet', 'New York Times, daily')} ${field('entries', entries.join('\n'))} })()`);
   const begin = Date.now();
   await browser.click('#themes-show');
-  await browser.until("document.querySelectorAll('#themes-grids[aria-busy=false] .pattern').length > 0");
-  const told = await browser.value("[...document.querySelectorAll('#themes-grids .pattern')].map((card) => [...card.childNodes].filter(({ nodeName }) => nodeName !== 'svg').map(({ textContent }) => textContent).join(', '))");
-  console.log(`themed, run ${run}: ${told.length} grids after ${((Date.now() - begin) / 1000).toFixed(1)} s; the best one: ${told[0]}   (the bar: at most 10 % under 50)`);
-  await browser.click('#themes-grids .pattern');
-  await pause(1000);
-  await noted(browser, `themed, run ${run}, its fill`);
+  while (Date.now() - begin < 1000 * GRIDS_AFTER && (await browser.value("document.getElementById('themes-show').hidden"))) await pause(200);
+  const cards = await browser.value("[...document.querySelectorAll('#themes-grids .pattern:not(:has(.bad)) small')].map(({ textContent }) => textContent)");
+  const told = await browser.value("document.getElementById('themes-told').textContent");
+  console.log(`${lengths.join('/')}: ${cards.length} grids after ${((Date.now() - begin) / 1000).toFixed(1)} s; the best one: ${cards[0]}; ${told}`);
+  await browser.press('Escape');
+  return cards;
+}
+
+// The theme sets, and what the bars are: all sets have a dozen grids, all of which fill, 110 of 144 without a word under 50, and a median worst word of 58.
+async function themed(browser) {
+  const all = [];
+  for (const lengths of SETS) all.push(await gridsAround(browser, lengths));
+  const filled = all.flat().filter((text) => text.startsWith('it fills'));
+  const worst = filled.map((text) => Number(/worst (\d+)/.exec(text)[1])).sort((a, b) => a - b);
+  const dozens = all.filter((cards) => cards.length >= 12).length;
+  console.log(`theme sets with a dozen judged grids after ${GRIDS_AFTER} s: ${dozens} of ${SETS.length}   (the bar: all)`);
+  console.log(`of ${all.flat().length} grids ${filled.length} fill, ${worst.filter((score) => score >= 50).length} have no word under 50, the median worst word is ${worst[worst.length >> 1]}   (the bar: all, 110 of 144, 58)`);
 }
 
 async function fills() {
@@ -119,7 +151,7 @@ async function fills() {
         await noted(browser, `${grid[0]}, run ${run}`, grid.slice(2));
       }
     }
-    for (let run = 1; run <= runs; run++) await themed(browser, run);
+    for (let run = 1; run <= runs; run++) await themed(browser);
   } finally {
     await browser.close();
   }

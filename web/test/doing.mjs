@@ -128,14 +128,40 @@ export async function beginBlank(width, height) {
   await page.factsAre(new RegExp(`^${width} × ${height} · 0 of`));
 }
 
-// Shows grids around entries in the dialog, and returns what is said of each.
-export async function showGrids(entries, style, sym = 'half') {
-  const set = (id, value) => browser.value(`document.getElementById('${id}').value = ${JSON.stringify(value)}`);
-  await set('themes-entries', entries);
-  await set('themes-style', style);
-  await set('themes-sym', sym);
+// An outlet of each style.
+const OUTLETS = { american: 'New York Times, daily', british: 'Guardian', barred: 'Barred' };
+
+// Sets a field of the dialog of new grids, as a setter does.
+export const setOfGrids = (id, value) => browser.value(`(() => {
+  const field = document.getElementById('themes-${id}');
+  field.value = ${JSON.stringify(value)};
+  field.dispatchEvent(new Event('input', { bubbles: true }));
+  field.dispatchEvent(new Event('change', { bubbles: true }));
+})()`);
+
+// Says in the dialog of new grids what is wanted.
+export async function wantGrids(entries, style, { sym = 'half', size = 15, seeds = '' } = {}) {
+  await setOfGrids('outlet', OUTLETS[style] ?? style);
+  for (const [id, value] of [['entries', entries], ['seeds', seeds], ['width', size], ['height', size], ['sym', sym]]) await setOfGrids(id, String(value));
+}
+
+// Waits until the search for grids is over.
+export const gridsAreShown = () => browser.until("document.querySelector('#themes-grids[aria-busy=false] .pattern')");
+
+// Stops the search for grids, if it is not over.
+export const stopGrids = () => browser.value("document.getElementById('themes-stop').hidden || document.getElementById('themes-stop').click()");
+
+// Waits until so many grids are judged, or the search is over, and stops it.
+export async function gridsAreJudged(enough) {
+  await browser.until(`document.querySelector('#themes-grids[aria-busy=false] .pattern') || [...document.querySelectorAll('#themes-grids .pattern')].filter((card) => !card.querySelector('.bad')).length >= ${enough}`);
+  await stopGrids();
+}
+
+// Shows grids around entries in the dialog, until there are enough or so many are there, and returns what is said of each.
+export async function showGrids(entries, style, { enough = 3, ...more } = {}) {
+  await wantGrids(entries, style, more);
   await browser.click('#themes-show');
-  await browser.until("document.querySelectorAll('#themes-grids[aria-busy=false] .pattern').length > 1");
+  await gridsAreJudged(enough);
   return browser.value("[...document.querySelectorAll('#themes-grids .pattern small')].map((verdict) => verdict.textContent)");
 }
 

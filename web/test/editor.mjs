@@ -7,9 +7,10 @@ import * as scores from './editor/scores.mjs';
 import * as lists from './editor/lists.mjs';
 import * as clues from './editor/clues.mjs';
 import * as puzzles from './editor/puzzles.mjs';
+import * as newGrids from './editor/new-grids.mjs';
 import * as files from './editor/files.mjs';
 import * as kept from './editor/kept.mjs';
 import * as screen from './editor/screen.mjs';
 import { runAll } from './page.mjs';
 
-await runAll([grid, words, deadEnds, fills, scores, lists, clues, puzzles, files, kept, screen]);
+await runAll([grid, words, deadEnds, fills, scores, lists, clues, puzzles, newGrids, files, kept, screen]);

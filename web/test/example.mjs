@@ -16,6 +16,7 @@ const FILES = {
   '/example.js': ['text/javascript', code],
   '/xw.js': ['text/javascript', readFileSync(new URL('../dist/xw.js', import.meta.url))],
   '/asking.js': ['text/javascript', readFileSync(new URL('../dist/asking.js', import.meta.url))],
+  '/slices.js': ['text/javascript', readFileSync(new URL('../dist/slices.js', import.meta.url))],
   '/xw.wasm': ['application/wasm', readFileSync(new URL('../dist/xw.wasm', import.meta.url))],
 };
 

@@ -7,10 +7,14 @@ import { Xw, load, toText } from '../dist/xw.js';
 import { Count } from './count.mjs';
 import { pageModules } from './page-modules.mjs';
 import { puzOf } from './puz.mjs';
+import { textsFrom } from './texts.mjs';
 import { zipOf } from './zip.mjs';
 
-const { Board, asVersion13, droppedOfPuz, entryOf, exolveOf, firstFile, ipuzOf, isZip, keptRebus, kindOf, lights, linksOf, originalsOf, readDeck, readExolve, readIpuz, readQxw, rebusOf, unescapeText, withRebus } = await pageModules(
-  'answers', 'board', 'dropped', 'exolve', 'ipuz', 'kinds', 'links', 'puz-sections', 'puz-versions', 'qxw', 'rebus', 'record', 'zip',
+const {
+  Board, asVersion13, droppedOfPuz, engineText, entryOf, escapeText, exolveOf, filesIn, foreignKind, ipuzOf, isZip, keptRebus, kindOf, lights, linksOf, lossesOf, originalsOf, readDeck, readExolve,
+  readIpuz, readList, readQxw, rebusOf, textLines, unescapeText, unzipped, withRebus,
+} = await pageModules(
+  'answers', 'board', 'dropped', 'exolve', 'ipuz', 'kinds', 'links', 'losses', 'puz-sections', 'puz-versions', 'qxw', 'rebus', 'record', 'word-list', 'zip',
 );
 const module = await load(readFileSync(new URL('../dist/xw.wasm', import.meta.url)));
 
@@ -260,14 +264,15 @@ const CASES = {
     const text = `<?xml version="1.0"?><crossword-compiler>${'x'.repeat(5000)}</crossword-compiler>`;
     const most = 1 << 20;
     for (const method of [0, 8]) {
-      const zip = zipOf([['folder/', ''], ['one.xml', text], ['two.xml', 'other']], method);
+      const zip = zipOf([['folder/', ''], ['one.xml', text], ['__MACOSX/._one.xml', 'x'], ['folder/two.xml', 'other'], ['.hidden', 'x']], method);
       expect(isZip(zip), 'it is no zip');
-      const first = await firstFile(zip, most);
-      expect(toText(first) === text, `method ${method}: ${toText(first ?? new Uint8Array())}`);
-      expect((await firstFile(zip, 100)) === null, 'it is larger than it may be');
+      const files = filesIn(zip);
+      same(files.map(({ name }) => name), ['one.xml', 'folder/two.xml']);
+      same(await Promise.all(files.map(async (file) => toText(await unzipped(file, most)))), [text, 'other']);
+      expect((await unzipped(files[0], 100)) === null, 'it is larger than it may be');
     }
     const zip = zipOf([['one.xml', text]]);
-    expect((await firstFile(zip.slice(0, 50), most)) === null && (await firstFile(zip.slice(0, -60), most)) === null, 'half a zip');
+    same([filesIn(zip.slice(0, 50)), filesIn(zip.slice(0, -60))], [[], []]);
     expect(!isZip(new Uint8Array([1, 2])) && !isZip(Buffer.from(text)), 'a text is a zip');
   },
 
@@ -277,6 +282,53 @@ const CASES = {
     same([kind('a.jpz', '<x/>'), kind('a.ipuz', '{'), kind('a.txt', 'exolve-begin\nexolve-end\n'), kind('a.txt', 'cat\ndog\nhorse\n')], ['jpz', 'ipuz', 'exolve', 'list']);
     same([kind('a', '#QXW2v4 http://www.quinapalus.com\nGP 0 3 3 2 0 0\n'), kind('a.qxd', '0 1 2\n')], ['qxw', 'deck']);
     same(kind('a.html', `<p>${'text '.repeat(2000)}\n  exolve-begin\n`), 'exolve');
+    // files of other kinds, whatever their names
+    const begun = { '89504e470d0a1a0a0000000d49484452': 'a picture (PNG)', ffd8ffe000104a464946: 'a picture (JPEG)', '255044462d312e340a': 'a document (PDF)', '1f8b0800': 'a packed file (gzip)' };
+    for (const [hex, wanted] of Object.entries(begun)) same(['a.puz', 'a.xw', 'a'].map((name) => [kindOf(name, Buffer.from(hex, 'hex')), foreignKind(Buffer.from(hex, 'hex'))]), Array(3).fill(['foreign', wanted]));
+    same([kind('a.puz', '<!DOCTYPE html>\n<html lang="en">'), kind('a.ipuz', '\n<html>')], ['foreign', 'foreign']);
+    const mail = 'Return-Path: <a@example.org>\r\nReceived: from b\r\n by c; today\r\nSubject: A crossword\r\nContent-Type: application/octet-stream; name="a.puz"\r\n\r\n\0\0ACROSS';
+    same([kind('a.puz', mail), kind('a.eml', mail), kind('a.txt', `From a@example.org Mon Jan 5\n${mail}`)], ['mail', 'mail', 'mail']);
+    same([kind('a.txt', 'From: the list\ncat\ndog\n'), kind('a.txt', 'from\nsubject\ndate\n')], ['list', 'list']);
+    same(kindOf('a.png', puzOf({ version: '1.3\0', width: 2, height: 1, solution: 'AB', texts: ['', '', '', 'Clue', ''].map((one) => Buffer.from(one)) })), 'puzzle');
+  },
+
+  'word lists, and where their scores stand'() {
+    const read = (text) => {
+      const { scores, words, scored, best, leftOut, asRead } = readList(new Uint8Array(Buffer.from(text)));
+      return { words: scored ? Object.fromEntries(scores) : [...words].sort(), best, leftOut, asRead };
+    };
+    const kind = (text) => kindOf('a.txt', new Uint8Array(Buffer.from(text)));
+    const [behind, before, shares] = ['the scores are behind blanks', 'the scores are before the words', 'scores from 0 to 1 are read as 0 to 100'];
+    same(read('cat;80\nice cream;70\n'), { words: { CAT: 80, ICECREAM: 70 }, best: 80, leftOut: {}, asRead: [] });
+    same(read('cat 80\nice cream  7.5 \ndog -1\nno score\n'), { words: { CAT: 80, ICECREAM: 7.5 }, best: 80, leftOut: { low: 1, unscored: 1 }, asRead: [behind] });
+    // a list without scores, in which a word has a number
+    same(read('catch 22\ncat\ndog\n'), { words: ['CAT', 'CATCH', 'DOG'], best: 0, leftOut: {}, asRead: [] });
+    same(read('80;cat\n70;ice cream\n'), { words: { CAT: 80, ICECREAM: 70 }, best: 80, leftOut: {}, asRead: [before] });
+    same(read('80\tcat\n7\tdog\n'), { words: { CAT: 80, DOG: 7 }, best: 80, leftOut: {}, asRead: [before] });
+    same(read('cat;0.5\ndog;1\nhorse;0.123\ncow;0\n'), { words: { CAT: 50, DOG: 100, HORSE: 12.3, COW: 0 }, best: 100, leftOut: {}, asRead: [shares] });
+    same(read('cat 0.5\ndog 0.25\n'), { words: { CAT: 50, DOG: 25 }, best: 50, leftOut: {}, asRead: [behind, shares] });
+    same([read('cat;1\ndog;0\n'), read('cat;1.5\ndog;0.5\n')].map(({ words, asRead }) => [words, asRead]), [[{ CAT: 1, DOG: 0 }, []], [{ CAT: 1.5, DOG: 0.5 }, []]]);
+    same(['cat 80\ndog 7\n', '80;cat\n70;ice cream\n', '1,2\n3,4\n', '12 monkeys\ncatch 22\n'].map(kind), ['list', 'list', 'other', 'list']);
+    // no line takes long, whatever is in it
+    same(read(`cat ${' '.repeat(200000)}x\n${' '.repeat(200000)}9\n`).leftOut, { short: 1 });
+  },
+
+  'every text of a .puz and of a text file is read as it was written'() {
+    for (let seed = 1; seed <= 150; seed++) {
+      const of = textsFrom(seed);
+      const near = (text) => engineText(text).near;
+      const texts = { title: near(of.line()), author: near(of.line()), copyright: near(of.line()), notes: near(of.notes()), 'clue 1 1 across': near(of.line()) };
+      const lines = Object.entries(texts).flatMap(([field, text]) => textLines(field, escapeText(text)));
+      const xw = Xw.open(module, { record: ['size 2 1', 'set 1 1 A', 'set 1 2 B', ...lines, ''].join('\n') });
+      const told = openedPuz(xw.puz());
+      same([...told.texts, told.clues['1 across']], Object.values(texts));
+    }
+  },
+
+  'all characters that a .puz loses are named'() {
+    const editor = { board: { lights: [], cells: [] }, links: { heads: new Map() }, originals: new Map([['title', '\u2192 \u0141\u00f3d\u017a \u65e5\u672c'], ['clue 1 1 across', '\u65e5 \u2665'], ['note 1 1 across', '\u2660']]) };
+    same(lossesOf(editor, 'puz'), { lost: [], strange: [...'\u2192\u0141\u017a\u65e5\u672c\u2665'] });
+    same(lossesOf(editor, 'ipuz'), { lost: [], strange: [] });
   },
 };
 

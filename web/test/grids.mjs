@@ -9,7 +9,9 @@ import { Xw, load } from '../dist/xw.js';
 import { Count } from './count.mjs';
 import { pageModules } from './page-modules.mjs';
 
-const { PATTERNS, Turns, checkWanted, gridFrom, mostUnchecked, recordOf, recordOfGrid, rowsOf } = await pageModules('themes', 'symmetry', 'patterns', 'barred');
+const { Making, OUTLETS, PATTERNS, Search, Turns, checkWanted, gridFrom, limitsAt, mostUnchecked, recordOf, recordOfGrid, rowsOf } = await pageModules(
+  'grids/making', 'grids/british', 'grids/search', 'grids/outlets', 'grids/grid', 'grids/symmetry', 'grids/barred', 'patterns',
+);
 const SYMMETRIES = ['half', 'quarter', 'leftright', 'updown', 'none'];
 const module = await load(readFileSync(new URL('../dist/xw.wasm', import.meta.url)));
 
@@ -34,14 +36,14 @@ function gridIn(record) {
 }
 
 // What the usual rules of a style say against a grid; or ''.
-function faultOf({ width, lights, open }, style, themes) {
+function faultOf({ width, height, lights, open }, style, themes) {
   const through = new Map([...open].map((cell) => [cell, lights.filter((light) => light.includes(cell)).length]));
   const isTheme = (light) => themes.some((length) => light.length === length);
   const short = lights.find((light) => light.length < 3);
   if (short) return `a light of ${short.length}`;
   if (lights.some((light) => style !== 'barred' && light.length > 10 && !isTheme(light))) return 'a long light';
   if (style === 'american' && [...through.values()].some((count) => count !== 2)) return 'an unchecked cell';
-  if (style === 'american' && width === 15 && lights.length > 78) return `${lights.length} words`;
+  if (style === 'american' && width === 15 && height === 15 && lights.length > 78) return `${lights.length} words`;
   if ([...through.values()].some((count) => count === 0) && style !== 'british') return 'a cell in no light';
   for (const light of lights) {
     const unchecked = light.map((cell) => (through.get(cell) === 1 ? 'u' : 'c')).join('');
@@ -68,6 +70,16 @@ function isSymmetric({ width, height, blocks, bars }, sym) {
   return made.length === blocks.length + bars.length;
 }
 
+const [DAILY] = OUTLETS;
+
+// What makes grids one after another, as if each light had words.
+function makerOf(wanted) {
+  let seed = 0;
+  if (wanted.style !== 'american') return () => gridFrom(wanted, ++seed);
+  const search = new Search(wanted, { count: () => 1000 }, 1);
+  return () => search.next();
+}
+
 // Why there can be no such grid; or ''.
 function faultIn(wanted) {
   try {
@@ -81,13 +93,14 @@ function faultIn(wanted) {
 const CASES = {
   'symmetries are those of the engine'() {
     for (const sym of SYMMETRIES) {
-      for (const size of [5, 6]) {
-        const turns = new Turns(sym, size);
-        for (let cell = 0; cell < size ** 2; cell++) {
-          const xw = Xw.open(module, { record: `size ${size} ${size}\nsym ${sym}\nblock ${Math.floor(cell / size) + 1} ${(cell % size) + 1}\n` });
+      // only a square has a quarter turn
+      for (const [width, height] of sym === 'quarter' ? [[5, 5], [6, 6]] : [[5, 5], [6, 6], [5, 6], [7, 4]]) {
+        const turns = new Turns(sym, width, height);
+        for (let cell = 0; cell < width * height; cell++) {
+          const xw = Xw.open(module, { record: `size ${width} ${height}\nsym ${sym}\nblock ${Math.floor(cell / width) + 1} ${(cell % width) + 1}\n` });
           const blocks = xw.line('show').lines.join('').replaceAll(' ', '');
           const orbit = [...blocks].flatMap((entry, at) => (entry === '#' ? [at] : []));
-          expect(orbit.join() === [...turns.orbit(cell)].sort((a, b) => a - b).join(), `${sym}, cell ${cell} of ${size}: ${orbit}, and not ${turns.orbit(cell)}`);
+          expect(orbit.join() === [...turns.orbit(cell)].sort((a, b) => a - b).join(), `${sym}, cell ${cell} of ${width} by ${height}: ${orbit}, and not ${turns.orbit(cell)}`);
         }
       }
     }
@@ -122,10 +135,11 @@ const CASES = {
             const words = grid.lights.map((light) => light.map((cell) => new RegExp(`^set ${cell} (.)`, 'm').exec(record)?.[1] ?? '.').join(''));
             expect(entries.every((entry) => words.includes(entry)), `${name}: an entry is lost\n${record}`);
           };
-          const wanted = { entries, size: 15, style, sym };
+          const wanted = { entries, seeds: [], width: 15, height: 15, style, sym, limits: DAILY.limits };
           if (faultIn(wanted)) continue;
-          for (let seed = 1; seed <= 40 && count < 2; seed++) {
-            const made = gridFrom(wanted, seed);
+          const next = makerOf(wanted);
+          for (let tries = 0; tries < 40 && count < 2; tries++) {
+            const made = next();
             if (made) check(made);
           }
           if (!count) told.push(`${style} ${sym} ${entries.length}`);
@@ -135,10 +149,46 @@ const CASES = {
     return told.length ? `none for ${told.join('; ')}` : '';
   },
 
+  'rectangles'() {
+    for (const [width, height, sym] of [[15, 16, 'half'], [16, 15, 'updown'], [15, 13, 'leftright']]) {
+      const next = makerOf({ entries: ['CROSSWORD', 'EDUCATION'], seeds: [], width, height, style: 'american', sym, limits: limitsAt(DAILY, width, height) });
+      let made = null;
+      for (let tries = 0; tries < 200 && !made; tries++) made = next();
+      expect(made, `there is no grid of ${width} by ${height}`);
+      const grid = gridIn(recordOfGrid(made));
+      expect(grid.width === width && grid.height === height && isSymmetric(grid, sym), `${width} by ${height}: another size, or not its image`);
+      const fault = faultOf(grid, 'american', [9, 10]);
+      expect(!fault, `${width} by ${height}: ${fault}`);
+    }
+  },
+
+  'what the engine says of a grid'() {
+    // two fills: AB over CD, and AC over BD
+    const scores = new Map([['AB', 90], ['CD', 80], ['AC', 70], ['BD', 60]]);
+    const xw = Xw.open(module, { list: [...scores].map(([word, score]) => `${word};${score}`).join('\n') });
+    const ask = (line) => xw.line(line);
+    const making = new Making({ ask, asked: ({ line, read }) => read(ask(line).lines), scoreOf: (word) => scores.get(word) ?? null });
+    const look = making.look({ lines: ['size 2 2'] });
+    expect(!look.unmatched.length && !look.dead.length && look.fewest === 2, `of the empty grid it is said: ${JSON.stringify(look)}`);
+    const fill = making.fill({ lines: ['size 2 2'], placements: 100, isScored: true });
+    expect(fill.answer === 'filled' && [...fill.scores].sort().join() === '60,70,80,90', `of its fill it is said: ${JSON.stringify(fill)}`);
+    expect(making.fill({ lines: ['size 2 2'], placements: 100, isScored: false }).answer === 'filled', 'without scores it does not fill');
+    // an entry is none of the words that a fill enters
+    const around = making.fill({ lines: ['size 2 2', 'set 1 1 A', 'set 1 2 B'], placements: 100, isScored: true });
+    expect(around.answer === 'filled' && [...around.scores].sort().join() === '60,70,80', `of a fill around AB it is said: ${JSON.stringify(around)}`);
+    const dead = making.look({ lines: ['size 2 2', 'set 2 2 X'] });
+    expect(dead.unmatched.join() === '.X,.X' && dead.fewest === 0 && [...new Set(dead.dead)].sort().join() === '1 2,2 1,2 2', `of a dead grid it is said: ${JSON.stringify(dead)}`);
+    expect(making.fill({ lines: ['size 2 2', 'set 2 2 X'], placements: 100, isScored: true }).answer === 'nofill', 'a dead grid fills');
+    // a call makes one board at least, and tells all that were made
+    expect(making.begin({ wanted: { entries: [], seeds: [], width: 9, height: 9, style: 'american', sym: 'half', limits: limitsAt(DAILY, 9, 9) }, seed: 1, weak: 0 }), 'there is no empty placing');
+    const [first, second] = [0, 0].map((milliseconds) => making.more({ milliseconds }));
+    expect(first.tried === 1 && second.tried === 2 && !second.grids.length && second.faults.get('dead') === 2, `of 2 boards without words it is said: ${[...second.faults].join('; ')}`);
+  },
+
   'entries that cannot stand'() {
     const faults = [[['MINT', 'TEA'], 'half', /MINT and TEA have no partner/], [['TEAS'], 'half', /TEAS cannot stand in the middle/], [['ANTIDISESTABLISHMENT'], 'none', /too long/]];
     for (const [entries, sym, pattern] of faults) {
-      const told = faultIn({ entries, size: 15, style: 'american', sym });
+      const told = faultIn({ entries, seeds: [], width: 15, height: 15, style: 'british', sym });
       expect(pattern.test(told), `${entries}: ${told}`);
     }
   },

@@ -28,9 +28,8 @@ const SCREENS = {
   new: () => menu('new'),
   themes: async () => {
     await menu('themes');
-    await browser.value(`${$('themes-entries')}.value = 'CONSTELLATION\\nINTERSTELLARS', ${$('themes-show')}.click()`);
-    // all of them, or some that fill
-    await browser.until("document.querySelector('#themes-grids[aria-busy=false] .pattern') || document.querySelectorAll('#themes-grids .pattern').length > 2");
+    await browser.value(`${$('themes-entries')}.value = 'CONSTELLATION\\nINTERSTELLARS', ${$('themes-limits')}.open = true, ${$('themes-show')}.click()`);
+    await browser.until("document.querySelectorAll('#themes-grids .pattern').length > 2");
   },
   library: () => menu('library'),
   print: () => menu('print'),

@@ -3,7 +3,7 @@ import { writeFileSync } from 'node:fs';
 import { join } from 'node:path';
 import { Xw } from '../../dist/xw.js';
 import { begin, menu, openFile, openRecord, print, saved } from '../doing.mjs';
-import { hold, isDrafted, isHeld } from '../holding.mjs';
+import { hold, holdFill, isDrafted, isHeld } from '../holding.mjs';
 import { LIST, PAGE, browser, expect, module, page, picture, ready, reload, room, runAlone } from '../page.mjs';
 
 // A row of four cells with a word.
@@ -75,8 +75,8 @@ export const CASES = {
     await openRecord(`${rowOf('BAAS')}# originals [["cell 1 4","SH"]]\n`);
     await browser.until("document.querySelector('#cell-1-4.rebus .letter').textContent === 'SH'");
     await browser.press('F3');
-    await browser.insert('Sheep sounds');
     await hold('record');
+    await browser.insert('Sheep sounds');
     await browser.press('Enter');
     await isHeld();
     // the grid shows them at once, and the clue was written before
@@ -88,6 +88,12 @@ export const CASES = {
     // and the cell of two letters is there before the one that comes over it
     await browser.press('Control+z');
     await browser.until("document.querySelector('#cell-1-4.rebus .letter').textContent === 'SH'");
+  },
+
+  async 'all letters of a cell in the words of clues'() {
+    await openRecord(`${rowOf('BAAS')}# originals [["cell 1 4","SH"]]\n`);
+    await browser.press('F3');
+    await browser.until("document.querySelector('.clue .word').textContent === 'BAASH' && document.querySelector('.clue .length').textContent === '(5)'");
   },
 
   async 'a block that hides a clue'() {
@@ -132,6 +138,125 @@ export const CASES = {
     await isDrafted(/text title Flock/);
     await browser.press('Escape');
     await browser.until("document.getElementById('title').value === ''");
+  },
+
+  async 'undo in a clue'() {
+    await begin(6);
+    await openRecord(rowOf('BAAS'));
+    await browser.press('F3');
+    // nothing is typed, so that the last step goes: the file
+    await browser.press('Control+z');
+    await page.factsAre(/^5 × 5/);
+    await browser.until("document.activeElement.dataset.light");
+    await browser.press('Control+y');
+    await page.factsAre(/^4 × 1/);
+    await browser.press('F3');
+    // what is typed goes first, and comes back
+    await browser.insert('Sheep sounds');
+    await browser.press('Control+z');
+    await clueIs('');
+    await page.factsAre(/^4 × 1/);
+    await browser.press('Control+y');
+    await clueIs('Sheep sounds');
+    // typing elsewhere in the field is a step of its own, however fast it comes
+    await browser.value('document.activeElement.setSelectionRange(0, 0)');
+    await browser.insert('Loud ');
+    await browser.value('document.activeElement.setSelectionRange(0, 4)');
+    await browser.press('Control+i');
+    await clueIs('<i>Loud</i> Sheep sounds');
+    await browser.press('Control+z');
+    await clueIs('Loud Sheep sounds');
+    await browser.press('Control+z');
+    await clueIs('Sheep sounds');
+    await browser.press('Control+z');
+    await clueIs('');
+    await browser.press('Control+z');
+    await page.factsAre(/^5 × 5/);
+    await browser.press('Control+y');
+    await page.factsAre(/^4 × 1/);
+    // a second Esc takes all back that was typed since the field was entered
+    await browser.press('F3');
+    await browser.insert('sounds');
+    await isDrafted(/sounds/);
+    await browser.value('document.activeElement.setSelectionRange(0, 0)');
+    await browser.insert('Sheep ');
+    await browser.press('Escape');
+    await page.statusIs(/kept; Esc again takes it back/);
+    await clueIs('Sheep sounds');
+    await browser.press('Escape');
+    await clueIs('');
+    await page.factsAre(/^4 × 1/);
+  },
+
+  async 'another puzzle while a clue is typed'() {
+    await openRecord(rowOf('BAAS'));
+    writeFileSync(join(room, 'other.xw'), rowOf('OATS'));
+    await browser.press('F3');
+    await browser.insert('Sheep sounds');
+    await browser.drop(join(room, 'other.xw'));
+    await page.statusIs(/other.xw is open/);
+    await browser.until("document.querySelector('#cell-1-1 .letter').textContent === 'O'");
+    await clueIs('');
+    // it stays with its puzzle, also in a private note
+    await browser.press('Control+z');
+    await clueIs('Sheep sounds');
+    await browser.press('F3');
+    await browser.value("document.querySelector('.clue-more .note').focus()");
+    await browser.insert('two meanings');
+    await browser.drop(join(room, 'other.xw'));
+    await page.statusIs(/other.xw is open/);
+    await browser.until("document.querySelector('#cell-1-1 .letter').textContent === 'O' && document.querySelector('.clue-more .note').value === ''");
+    await browser.press('Control+z');
+    await browser.until("document.querySelector('.clue-more .note').value === 'two meanings'");
+  },
+
+  async 'texts that are typed while a fill runs'() {
+    await begin(6);
+    await holdFill();
+    await browser.press('Control+f');
+    await browser.until('window.heldFill');
+    await browser.press('F3');
+    await browser.insert('Typed meanwhile');
+    await browser.press('F4');
+    await browser.insert('A title');
+    await browser.press('Tab');
+    await browser.value('window.heldFill()');
+    await page.statusIs(/^filled/);
+    await isDrafted(/Typed meanwhile/);
+    await isDrafted(/A title/);
+    await browser.until("document.querySelector('#clue-list textarea').value === 'Typed meanwhile' && document.getElementById('title').value === 'A title'");
+  },
+
+  async 'a panel that stands under its clue'() {
+    // across 1, 5, 6 and 7 are one below another
+    await openRecord('size 4 4\n');
+    const stands = (name, title) => browser.until(`(() => {
+      const panel = document.querySelector('.clue-more');
+      let row = panel.previousElementSibling;
+      while (row.matches('.offers')) row = row.previousElementSibling;
+      return document.activeElement.dataset.light === '${name}' && row.contains(document.activeElement) && panel.querySelector('.note').getAttribute('aria-label') === 'private note on the clue of ${title}';
+    })()`);
+    for (const turn of [1, 2]) {
+      await browser.press('F3');
+      await browser.click('[data-light="5 across"]');
+      await stands('5 across', '5 Across');
+      await browser.press('ArrowUp');
+      await stands('1 across', '1 Across');
+      await browser.press('ArrowDown');
+      await browser.press('ArrowDown');
+      await stands('6 across', '6 Across');
+      await browser.press('ArrowUp');
+      await stands('5 across', '5 Across');
+      // the note goes to that clue
+      await browser.press('ArrowUp');
+      await stands('1 across', '1 Across');
+      await browser.value("document.querySelector('.clue-more .note').focus()");
+      await browser.insert(`mine ${turn}`);
+      await browser.press('Enter');
+      await isDrafted(new RegExp(`"note 1 1 across","mine ${turn}"`));
+      // in a new puzzle too
+      if (turn === 1) await openRecord('size 4 4\nset 1 1 A\n');
+    }
   },
 
   async 'one clue for several lights'() {
@@ -281,7 +406,10 @@ export const CASES = {
   async 'old clues for a word'() {
     await openRecord(rowOf('ODDS'));
     await browser.press('F3');
-    await browser.insert('Chances');
+    // what is kept while it is typed is no old clue
+    await browser.insert('Chanc');
+    await isDrafted(/Chanc/);
+    await browser.insert('es');
     await browser.press('Enter');
     await isDrafted(/Chances/);
     // in another puzzle
@@ -314,10 +442,9 @@ export const CASES = {
     await browser.press('Enter');
     await browser.type('phrase');
     await browser.press('Enter');
-    await browser.type('sum (1,9)');
     await valuesAre('plain', 'phrase');
     await isDrafted(/phrase/);
-    // this clue is answered after the next one is typed over
+    // the next clue is answered after this one is typed over
     await browser.value(`(() => {
       const post = Worker.prototype.postMessage;
       Worker.prototype.postMessage = function (message, transfer) {
@@ -326,6 +453,7 @@ export const CASES = {
         window.heldClue = () => post.call(this, message, transfer);
       };
     })()`);
+    await browser.type('sum (1,9)');
     await browser.press('Enter');
     await browser.until("window.heldClue && !document.getElementById('clue-lengths').disabled");
     // a length is selected, so that another one can be typed over it
@@ -373,6 +501,30 @@ export const CASES = {
     await valuesAre('Clue,Clue,Clue,Clue');
     await menu('built-in');
     await page.factsAre(/built-in list/);
+  },
+
+  async 'a file that is saved while lengths are added'() {
+    await openRecord(`${rowOf('TONE')}text clue 1 1 across Sound\n`);
+    await browser.press('F3');
+    await hold('enumerations');
+    await browser.click('#clue-lengths');
+    await isHeld();
+    const bytes = await saved('crossword.puz', async () => {
+      await browser.press('Control+s');
+      await browser.value('window.release()');
+    });
+    expect(Xw.open(module, { puzzle: bytes }).line('texts').lines.join() === 'clue 1 across Sound (4)', 'the file has no length');
+    // and a clue that is under way is in a file that the page writes itself
+    await browser.press('F3');
+    await browser.value("document.querySelector('#clue-list textarea').setSelectionRange(0, 5)");
+    await browser.insert('Noise');
+    await hold('edit');
+    const ipuz = await saved('crossword.ipuz', async () => {
+      await menu('save-ipuz');
+      await isHeld();
+      await browser.value('window.release()');
+    });
+    expect(JSON.parse(ipuz.toString()).clues.Across[0][1] === 'Noise (4)', 'the file has the clue as it was');
   },
 
   async 'clues that have their enumerations'() {
@@ -435,7 +587,7 @@ export const CASES = {
     await reload();
     expect((await value('title')) === 'Čapek → 2', `the title is ${await value('title')}`);
     const bytes = await saved('capek-2.puz', () => browser.press('Control+s'));
-    await page.statusIs(/^saved: capek-2.puz, with near characters for “Č”, “Ł”$/);
+    await page.statusIs(/^saved: capek-2.puz, with near characters for “Č”, “→”, “Ł”, “ź”$/);
     const texts = Xw.open(module, { puzzle: bytes }).answer(Buffer.from('texts')).answer;
     expect(Buffer.from(texts).toString('latin1').includes('title Capek -> 2\nclue 1 across L\u00f3dz'), Buffer.from(texts).toString('latin1'));
     const ipuz = JSON.parse((await saved('capek-2.ipuz', () => menu('save-ipuz'))).toString());
@@ -513,6 +665,11 @@ export const CASES = {
 };
 
 // What cases need that not every browser can do.
-export const NEEDS = { 'characters that a .puz cannot hold': ['blur'] };
+export const NEEDS = {
+  'texts that are typed while a fill runs': ['blur'],
+  'a panel that stands under its clue': ['blur'],
+  'a file that is saved while lengths are added': ['blur'],
+  'characters that a .puz cannot hold': ['blur'],
+};
 
 await runAlone(import.meta.url, { CASES, NEEDS });

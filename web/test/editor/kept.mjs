@@ -41,6 +41,30 @@ export const CASES = {
     expect((await page.row(1)).startsWith('JOKE'), `the row is ${await page.row(1)}`);
   },
 
+  async 'texts that are being typed when the page ends without a word'() {
+    await fresh();
+    await begin(6);
+    // the page hears nothing of its end, as in a crash
+    const deafen = () => browser.value(`(() => {
+      for (const name of ['pagehide', 'visibilitychange', 'beforeunload', 'change', 'blur', 'focusout']) addEventListener(name, (event) => event.stopImmediatePropagation(), true);
+    })()`);
+    const texts = [
+      ["F3", '#clue-list textarea', 'Half a clue'], ["F4", '#title', 'Half a title'], ["F3", '.clue-more .note', 'half a note'],
+    ];
+    for (const [key, selector, text] of texts) {
+      await browser.press(key);
+      await browser.value(`document.querySelector('${selector}').focus()`);
+      await browser.insert(text);
+      await isDrafted(new RegExp(text));
+      expect(await browser.value(`document.activeElement.matches('${selector}') && document.activeElement.value === '${text}'`), 'the field is left');
+      await deafen();
+      await browser.go(PAGE.href);
+      await ready();
+      await browser.press('F3');
+      await browser.until(`document.querySelector('${selector}').value === '${text}'`);
+    }
+  },
+
   async 'puzzles that are replaced, deleted and restored'() {
     await fresh();
     await begin(1);

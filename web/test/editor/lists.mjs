@@ -78,6 +78,24 @@ export const CASES = {
     await page.factsAre(/built-in list/);
   },
 
+  async 'where the scores of a list stand'() {
+    await begin(6);
+    const lists = {
+      'blanks.txt': ['cat 80\ncot 70\ncut 7\n', '3 words, the best scores first; the scores are behind blanks'],
+      'first.txt': ['80;cat\n70;cot\n7;cut\n', '3 words, the best scores first; the scores are before the words'],
+      'shares.txt': ['cat;0.8\ncot;0.7\ncut;0.07\n', '3 words, the best scores first; scores from 0 to 1 are read as 0 to 100'],
+    };
+    for (const [name, [text, told]] of Object.entries(lists)) {
+      writeFileSync(join(room, name), text);
+      await openFile(join(room, name));
+      expect((await page.statusIs(new RegExp(`^${name}: `), 'good')) === `${name}: ${told}`, `${name}: the page says: ${await page.status()}`);
+      await slideLeast(70);
+      await page.statusIs(/^2 of 3 words have 70 or more$/);
+    }
+    await menu('built-in');
+    await page.factsAre(/built-in list/);
+  },
+
   async 'several lists, and my own words'() {
     await forget();
     await reload();

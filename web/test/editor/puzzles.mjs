@@ -1,11 +1,59 @@
-// Cases of whole puzzles, and grids that the page makes.
+// Cases of whole puzzles.
 import { writeFileSync } from 'node:fs';
 import { join } from 'node:path';
 import { Xw } from '../../dist/xw.js';
-import { begin, choosing, filledLights, hasWord, judged, menu, openFile, openGraded, saved, showGrids, wholePuzzle, writeClues } from '../doing.mjs';
-import { browser, expect, module, page, picture, reload, room, runAlone } from '../page.mjs';
+import { begin, choosing, filledLights, hasWord, judged, menu, openRecord, print, saved, showGrids, wholePuzzle, writeClues } from '../doing.mjs';
+import { browser, expect, module, page, picture, pictures, reload, runAlone } from '../page.mjs';
+
+// The pages that are printed, each with its head, its height in millimetres and how many clues or answers it has. None of these is cut, and each section
+// is one page.
+async function printedPages(name, paper, parts) {
+  await browser.press('Control+p');
+  await browser.until("document.getElementById('print-dialog').open");
+  await browser.click(`[name=paper][value=${paper}]`);
+  await browser.click(`[name=parts][value=${parts}]`);
+  await print();
+  const pdf = await browser.pdf();
+  if (pictures) writeFileSync(join(pictures, `${name}-${paper}-${parts}.pdf`), pdf);
+  const pages = await browser.value(`[...document.querySelectorAll('#sheet .page')].map((page) => ({
+    head: page.querySelector('h1').textContent, address: page.querySelector('header p')?.textContent, clues: page.querySelectorAll('.clues p, .answers td:first-child').length,
+    grids: page.querySelectorAll('svg').length,
+  }))`);
+  const count = (pdf.toString('latin1').match(/\/Type\s*\/Page\b/g) ?? []).length;
+  expect(count === pages.length, `${name}, ${paper}, ${parts}: ${pages.length} pages with a head, and ${count} are printed`);
+  return pages;
+}
 
 export const CASES = {
+  async 'pages of a print that each have their head'() {
+    const address = ['A. Setter', '1 Grid Road', 'Third floor', 'Crossing', 'XW1 5AA'];
+    for (const [pattern, size] of [[1, 15], [7, 21]]) {
+      await begin(pattern);
+      await page.factsAre(new RegExp(`^${size} × ${size}`));
+      const record = (await saved('crossword.xw', () => menu('save-session'))).toString();
+      const names = Xw.open(module, { record }).line('lights').lines.map((line) => line.split(' ').slice(0, 2).join(' '));
+      const clues = names.map((name, at) => `clue ${name} Was first in a long line of people who wait for ${'their clues '.repeat(at % 4)}to be read`);
+      await openRecord([record.trimEnd(), 'text title A puzzle', 'text author A. Setter', 'text notes One line of notes.', ...clues, ''].join('\n'));
+      await browser.press('Control+p');
+      await browser.click('[name=parts][value=submission]');
+      await browser.value(`document.getElementById('print-address').value = ${JSON.stringify(address.join('\n'))}`);
+      await browser.click('#print-dialog [value=cancel]');
+      for (const paper of ['letter', 'A4']) {
+        const pages = await printedPages(size, paper, 'both');
+        expect(pages.every(({ head, address: name }) => head.startsWith('A puzzle') && name === 'A. Setter'), `${size}, ${paper}: a page without its title or name: ${JSON.stringify(pages)}`);
+        expect(pages.reduce((sum, { clues: count }) => sum + count, 0) === names.length, `${size}, ${paper}: the clues are on ${JSON.stringify(pages)}`);
+        const sent = await printedPages(size, paper, 'submission');
+        const isSent = ({ head, address: lines }) => head.startsWith('A puzzle') && lines === [...address, `${size} × ${size}`].join('\n');
+        expect(sent.every(isSent), `${size}, ${paper}: a page without its title, name and address: ${JSON.stringify(sent)}`);
+        expect(sent.reduce((sum, { clues: count }) => sum + count, 0) === names.length && sent.reduce((sum, { grids }) => sum + grids, 0) === 2, `${size}, ${paper}: ${JSON.stringify(sent)}`);
+      }
+    }
+    await browser.press('Control+p');
+    await browser.value("document.getElementById('print-address').value = ''");
+    await browser.click('[name=parts][value=both]');
+    await browser.click('#print-dialog [value=cancel]');
+  },
+
   async 'a puzzle from blank to .puz'() {
     await begin(6);
     await menu('save-puz');
@@ -60,80 +108,6 @@ export const CASES = {
     return judged('across-and-down.puz');
   },
 
-  async 'grids around theme entries'() {
-    await menu('themes');
-    await browser.insert('chocolate cake\nmint\nstrawberry pie\ntea');
-    await browser.click('#themes-show');
-    await browser.until("/MINT and TEA have no partner of the same length/.test(document.getElementById('themes-told').textContent)");
-    for (const style of ['barred', 'british', 'american']) {
-      await showGrids('piano\ndrum machine\nbass guitars', style);
-      await picture(`themes-${style}`);
-    }
-    await browser.click('#themes-grids .pattern');
-    await page.factsAre(/^15 × 15 · 27 of/);
-    const rows = await page.rows();
-    expect(['PIANO', 'DRUMMACHINE', 'BASSGUITARS'].every((word) => hasWord(rows, word)), `an entry is lost: ${rows}`);
-    const isBlock = rows.join('').split('').map((cell) => cell === '#');
-    expect(isBlock.every((block, at) => block === isBlock[224 - at]), 'the grid is not its half turn');
-    await browser.click('#tab-puzzle');
-    await browser.until("document.querySelector('#checks [data-cell]')");
-    expect((await page.count('#checks .warning')) === 0, `${await browser.value("document.querySelector('#checks .warning')?.textContent")}`);
-    // entries of one's own are words of the puzzle
-    await browser.until("['DRUMMACHINE', 'BASSGUITARS'].every((word) => document.querySelector(`#changed [data-keep=${word}]`)) && !document.querySelector('#changed [data-keep=PIANO]')");
-    expect(!(await browser.value("/not in your lists/.test(document.getElementById('checks').textContent)")) && (await page.count('.cell.faulty')) === 0, 'an entry is called unlisted');
-  },
-
-  async 'grids under other symmetries, judged'() {
-    await menu('themes');
-    for (const [style, sym] of [['american', 'leftright'], ['british', 'quarter'], ['barred', 'none']]) {
-      const verdicts = await showGrids('gardening\nflowerpot', style, sym);
-      expect(verdicts.every((text) => /it fills|no fill|words? for the tightest light|no word/.test(text)), `a grid is not judged: ${verdicts}`);
-    }
-    // a list in which no word crosses the entries
-    await browser.press('Escape');
-    writeFileSync(join(room, 'lonely.txt'), 'gardening\nflowerpot\nzzzz\n');
-    await openFile(join(room, 'lonely.txt'));
-    await page.factsAre(/lonely.txt, 3 words/);
-    await menu('themes');
-    const verdicts = await showGrids('gardening\nflowerpot', 'american');
-    expect(verdicts.every((text) => /^\d+ entries have no word: [A-Z.]+$/.test(text)), `the verdicts are ${verdicts}`);
-    expect((await page.count('#themes-grids .pattern .dead')) === verdicts.length, 'the lights without a word are not shown');
-    await browser.press('Escape');
-    await menu('built-in');
-    await page.factsAre(/built-in list/);
-  },
-
-  async 'grids within limits, the best words first'() {
-    await openGraded();
-    await menu('themes');
-    const limit = (id, most) => browser.value(`document.getElementById('themes-${id}').value = '${most}'`);
-    const shown = () => browser.value("[...document.querySelectorAll('#themes-grids .pattern')].map(({ innerText }) => innerText.replaceAll('\\n', ' '))");
-    try {
-      await limit('size', 9);
-      await limit('words', 28);
-      await limit('threes', 13);
-      const verdicts = await showGrids('', 'american');
-      for (const text of await shown()) {
-        const [, words, threes = 0] = /(\d+) words, \d+ blocks(?:, (\d+) of 3)?/.exec(text) ?? [];
-        expect(words <= 28 && threes <= 13, `a grid is beyond the limits: ${text}`);
-      }
-      expect(await browser.value("[...document.querySelectorAll('#themes-grids .pattern')].every((card) => card.scrollWidth <= card.clientWidth)"), 'what is said of a grid does not fit its card');
-      const figures = verdicts.map((text) => /^it fills: worst (\d+), mean (\d+)$/.exec(text)?.slice(1).map(Number)).filter(Boolean);
-      const sorted = [...figures].sort((a, b) => b[0] - a[0] || b[1] - a[1]);
-      expect(figures.length > 1 && JSON.stringify(figures) === JSON.stringify(sorted), `the grids come as ${verdicts}`);
-      await picture('grids-within-limits');
-      // no grid is as small as this
-      await limit('words', 3);
-      await browser.click('#themes-show');
-      await browser.until("/^No such grid was found: try higher limits/.test(document.getElementById('themes-told').textContent)");
-    } finally {
-      for (const [id, most] of [['size', 15], ['words', ''], ['threes', '']]) await limit(id, most);
-      await browser.press('Escape');
-    }
-    await menu('built-in');
-    await page.factsAre(/built-in list/);
-  },
-
   async 'a themed 15 by 15 from four entries'() {
     await menu('themes');
     await showGrids('raindrops\nsnowstorm\nsunsets\nseaside', 'american');
@@ -159,6 +133,7 @@ export const CASES = {
 
 // What cases need that not every browser can do.
 export const NEEDS = {
+  'pages of a print that each have their head': ['pdf'],
   'a puzzle from blank to .puz': ['blur'],
   'a whole 15 by 15': ['blur'],
   'a themed 15 by 15 from four entries': ['blur'],

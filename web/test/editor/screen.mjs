@@ -98,25 +98,28 @@ export const CASES = {
   async 'messages that cover no facts and no candidate'() {
     await intoDeadEnd();
     try {
-      for (const [width, height] of [[1920, 1080], [1400, 900], [1180, 800], [1000, 700], [768, 1024], [390, 844]]) {
+      const sizes = [[1920, 1080], [1400, 900], [1180, 800], [1024, 768], [1000, 700], [768, 1024], [390, 844]];
+      for (const [width, height, isRaising] of sizes.flatMap((size) => [[...size, false], [...size, true]])) {
         await browser.view(width, height);
         await browser.press('?');
         await page.statusIs(/no word, by/);
+        // the longest one, of a raising
+        if (isRaising) await browser.value("document.getElementById('status').textContent = 'worst 62, mean 81; no fill is better than 84; all but 14 Down, 23 Across and 31 Across have 61 or more; looking for 63 or more of these; 12 s'");
         const covered = await browser.until(`(() => {
           const boxOf = (element) => element.getBoundingClientRect();
           const toast = boxOf(document.getElementById('toast'));
           if (!toast.width) return null;
           // what the panel does not show can be scrolled to
-          const end = (element) => (element.closest('.panel') ? boxOf(element.closest('.panel')).bottom : Infinity);
+          const end = (element) => (element.closest('.panel, .board') ? boxOf(element.closest('.panel, .board')).bottom : Infinity);
           const isOver = (element) => {
             const { left, right, top, bottom, width } = boxOf(element);
             return width > 0 && left < toast.right && right > toast.left && top < toast.bottom && Math.min(bottom, end(element)) > toast.top;
           };
-          const others = ['facts', 'candidates', 'letters', 'crossing-candidates'].filter((id) => isOver(document.getElementById(id)));
+          const others = ['facts', 'candidates', 'letters', 'crossing-candidates', 'grid'].filter((id) => isOver(document.getElementById(id)));
           return { others, isIn: toast.left >= 0 && toast.right <= innerWidth && toast.bottom <= innerHeight && toast.width > 200 };
         })()`);
         expect(covered.isIn && !covered.others.length, `${width}: the message covers ${covered.others}, or is out of sight`);
-        await picture(`toast-${width}`);
+        await picture(`toast-${width}${isRaising ? '-raising' : ''}`);
       }
     } finally {
       await browser.view(1400, 900);

@@ -3,7 +3,7 @@ import { writeFileSync } from 'node:fs';
 import { join } from 'node:path';
 import { Xw } from '../../dist/xw.js';
 import { PATTERNS, recordOf, rowsOf } from '../../editor/patterns.js';
-import { begin, beginBlank, menu, openFile, openWords, saved } from '../doing.mjs';
+import { begin, beginBlank, menu, openFile, openGraded, openWords, saved } from '../doing.mjs';
 import { isDrafted } from '../holding.mjs';
 import { LIST, PAGE, browser, expect, module, page, picture, ready, room, runAlone } from '../page.mjs';
 
@@ -95,6 +95,37 @@ export const CASES = {
     await browser.press('Tab');
     await browser.until(`${ghosts} === ''`);
     expect((await page.row(1)).startsWith('T...'), `the row is ${await page.row(1)}`);
+  },
+
+  async 'a candidate that is pointed at is whole'() {
+    await openGraded();
+    try {
+      for (const letters of [3, 5, 8, 15]) {
+        await beginBlank(letters, 1);
+        for (const [width, height] of [[1400, 900], [1024, 768], [1920, 1080], [390, 844]]) {
+          await browser.view(width, height);
+          await browser.press('F2');
+          await browser.until(`document.querySelector('#candidates[aria-busy=false] li')?.dataset.word.length === ${letters}`);
+          await browser.press('ArrowDown');
+          const cut = await browser.until(`(() => {
+            const row = document.querySelector('#candidates [aria-selected=true]');
+            if (!row) return null;
+            const { left, right } = row.getBoundingClientRect();
+            const shown = [...row.children].filter((part) => getComputedStyle(part).display !== 'none');
+            const isCut = (part) => part.scrollWidth > part.clientWidth + 1 && part.clientWidth > 0 || part.getBoundingClientRect().left < left || part.getBoundingClientRect().right > right + 0.5;
+            return { parts: shown.filter(isCut).map(({ textContent, className, scrollWidth, clientWidth }) => [textContent, className, scrollWidth, clientWidth].join(' ')), grades: shown.filter(({ className }) => className === 'grade').length };
+          })()`);
+          expect(!cut.parts.length && cut.grades === 2, `${width}, ${letters} letters: ${cut.parts.join(', ')} is cut; ${cut.grades} buttons`);
+          await picture(`pointed-${letters}-${width}`);
+          await browser.press('Escape');
+        }
+        await browser.view(1400, 900);
+      }
+    } finally {
+      await browser.view(1400, 900);
+    }
+    await menu('built-in');
+    await page.factsAre(/built-in list/);
   },
 
   async 'words that are graded where they stand'() {

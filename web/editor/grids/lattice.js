@@ -1,50 +1,39 @@
-// Grids with blocks by the usual rules, around entries that have their places: American grids, in which every cell is checked, and British
-// lattices, which have blocks in every other cell of every other row.
-import { shuffled } from './random.js';
+// British lattices by the usual rules, around entries that have their places: they have blocks in every other cell of every other row.
+import { shuffled } from '../random.js';
 
-/** @typedef {'american' | 'british'} Style */
-
-// the most cells of a light that is no theme entry, the most blocks, as a part of the cells, and the most words, by the size of the grid
-const LONGEST_LIGHT = { american: 9, british: 10 };
-const MOST_BLOCKS = { american: 0.2, british: 0.42 };
-const MOST_WORDS_OF = { 15: 78, 21: 140 };
+// the most cells of a light that is no theme entry, and the most blocks, as a part of the cells
+const LONGEST_LIGHT = 10;
+const MOST_BLOCKS = 0.42;
 // the most cells of a light, side by side, that no other light crosses
 const MOST_UNCHECKED = 2;
 const MOST_PARTINGS = 60;
-// lights of so many cells are parted if there is room for more words
-const LEAST_PARTED = 7;
 
-export class Draft {
+export class Lattice {
   /**
    * @param {number} size
-   * @param {Style} style
    * @param {import('./symmetry.js').Turns} turns
-   * @param {number[]} lattice the parity of the rows and of the columns in which a lattice has its blocks
+   * @param {number[]} parities those of the rows and of the columns that have the blocks
    */
-  constructor(size, style, turns, lattice = [1, 1]) {
+  constructor(size, turns, [top, left]) {
     this.size = size;
-    this.style = style;
     this.turns = turns;
+    this.parities = [top, left];
     /** @type {Set<number>} */
     this.blocks = new Set();
-    // cells of the places of entries, which stay open, and letters
+    // cells of the places of entries, which stay open
     /** @type {Set<number>} */
     this.held = new Set();
-    /** @type {Map<number, string>} */
-    this.letters = new Map();
     // the places of entries, as the names of their runs
     /** @type {Set<string>} */
     this.places = new Set();
-    const [top, left] = lattice;
-    if (style === 'british') for (let row = top; row < size; row += 2) for (let column = left; column < size; column += 2) this.blocks.add(row * size + column);
+    for (let row = top; row < size; row += 2) for (let column = left; column < size; column += 2) this.blocks.add(row * size + column);
   }
 
-  /** @returns {Draft} */
+  /** @returns {Lattice} */
   copy() {
-    const other = new Draft(this.size, this.style, this.turns);
+    const other = new Lattice(this.size, this.turns, this.parities);
     other.blocks = new Set(this.blocks);
     other.held = this.held;
-    other.letters = this.letters;
     other.places = this.places;
     return other;
   }
@@ -93,14 +82,10 @@ export class Draft {
     return runs;
   }
 
-  #isShort(run) {
-    return run.length === 2 || (run.length === 1 && this.style === 'american');
-  }
-
   // Blocks what is too short for a light; returns whether all runs are long enough then.
   mend() {
     for (let round = 0; round < this.size; round++) {
-      const short = this.runs.filter((run) => this.#isShort(run));
+      const short = this.runs.filter(({ length }) => length === 2);
       if (!short.length) return this.#isConnected;
       if (!short.every((run) => run.every((cell) => this.block(cell)))) return false;
     }
@@ -126,39 +111,24 @@ export class Draft {
     return this.runs.filter((run) => run.length > 1);
   }
 
-  // Parts the longest lights with blocks until none is too long; returns the draft, or null.
-  /** @returns {Draft | null} */
+  // Parts the longest lights with blocks until none is too long; returns the lattice, or null.
+  /** @returns {Lattice | null} */
   parted(random) {
-    const longest = LONGEST_LIGHT[this.style];
-    /** @type {Draft} */
-    let draft = this;
+    /** @type {Lattice} */
+    let lattice = this;
     for (let round = 0; round < MOST_PARTINGS; round++) {
-      const long = draft.#longerThan(longest);
-      if (!long.length) return draft.#isChecked ? draft.#filledUp(random) : null;
-      const parted = draft.#part(long[0], random);
+      const [long] = lattice.#longLights;
+      if (!long) return lattice.#isChecked ? lattice : null;
+      const parted = lattice.#part(long, random);
       if (!parted) return null;
-      draft = parted;
+      lattice = parted;
     }
     return null;
   }
 
-  // The lights of more cells that are no places of entries, the longest first.
-  #longerThan(length) {
-    return this.lights.filter((run) => run.length > length && !this.places.has(run.join())).sort((a, b) => b.length - a.length);
-  }
-
-  // Parts lights of an American grid as long as it has few words: the more there are, the easier it is to fill.
-  /** @returns {Draft} */
-  #filledUp(random) {
-    if (this.style !== 'american') return this;
-    /** @type {Draft} */
-    let draft = this;
-    for (let round = 0; round < MOST_PARTINGS; round++) {
-      const parted = draft.#longerThan(LEAST_PARTED - 1).map((run) => draft.#part(run, random)).find(Boolean);
-      if (!parted) return draft;
-      draft = parted;
-    }
-    return draft;
+  // The lights that are too long and are no places of entries, the longest first.
+  get #longLights() {
+    return this.lights.filter((run) => run.length > LONGEST_LIGHT && !this.places.has(run.join())).sort((a, b) => b.length - a.length);
   }
 
   #part(run, random) {
@@ -170,13 +140,11 @@ export class Draft {
   }
 
   get isUsual() {
-    const most = this.style === 'american' ? MOST_WORDS_OF[this.size] ?? Infinity : Infinity;
-    return this.blocks.size <= MOST_BLOCKS[this.style] * this.size ** 2 && this.lights.length <= most;
+    return this.blocks.size <= MOST_BLOCKS * this.size ** 2;
   }
 
   // Whether half of the cells of each light are checked, but for one, and no three unchecked ones stand side by side.
   get #isChecked() {
-    if (this.style === 'american') return true;
     const crossed = new Map();
     for (const run of this.lights) for (const cell of run) crossed.set(cell, (crossed.get(cell) ?? 0) + 1);
     return this.lights.every((run) => {

@@ -1,44 +1,28 @@
-// Grids by the usual rules, of a size, a style and a symmetry, around theme entries or without any.
+// British grids around theme entries or without any: lattices with blocks, and barred grids. A seed makes each grid, or none.
+import { randoms, shuffled } from '../random.js';
 import { barredGrid, edgeAfter } from './barred.js';
-import { Draft } from './blocked.js';
-import { randoms, shuffled } from './random.js';
+import { crossingPatterns, threesOf } from './grid.js';
+import { Lattice } from './lattice.js';
 import { Turns } from './symmetry.js';
 
-/** @typedef {import('./blocked.js').Style | 'barred'} GridStyle */
-/** @typedef {import('./symmetry.js').Symmetry} Symmetry */
-// A light is a list of cells.
-/** @typedef {{ size: number, sym: Symmetry, blocks: Set<number>, bars: Set<number>, letters: Map<number, string>, lights: number[][] }} Grid */
+/** @typedef {import('./grid.js').Grid} Grid */
+/** @typedef {import('./grid.js').Wanted} Wanted */
 
 // the least room beside an entry, if there is some: a block and a light of three cells
 const LEAST_ROOM = 4;
-// how many of the entries may read down in grids with blocks
+// how many of the entries may read down in a lattice
 const DOWN = 0.1;
-// the rows at the border in which American theme entries do not stand
-const BORDER = 2;
-
-// Throws what keeps entries from standing in a grid under a half turn.
-function checkPairs(entries, size) {
-  const left = [...entries].sort((a, b) => b.length - a.length);
-  const alone = [];
-  while (left.length) {
-    const entry = left.shift();
-    if (left[0]?.length === entry.length) left.shift();
-    else alone.push(entry);
-  }
-  if (alone.length > 1) throw new Error(`${alone.slice(0, 2).join(' and ')} have no partner of the same length: under a half turn one entry at most stands alone, in the middle`);
-  if (alone.length && alone[0].length % 2 !== size % 2) throw new Error(`${alone[0]} cannot stand in the middle: its length is not ${size % 2 ? 'odd' : 'even'}`);
-}
 
 // The places of entries: runs of cells, with the images of each under the symmetry.
 class Places {
-  constructor(size, style, turns, random) {
+  constructor(size, isBarred, turns, random) {
     this.size = size;
-    this.style = style;
+    this.isBarred = isBarred;
     this.turns = turns;
     this.random = random;
     // as a rule a lattice has no blocks at the border; others give entries the middle row of some grids
     const parities = [1, random() < 0.5 ? 1 : 0];
-    this.lattice = random() < 0.5 ? [1, 1] : turns.isQuarter ? [parities[1], parities[1]] : shuffled(parities, random);
+    this.parities = random() < 0.5 ? [1, 1] : turns.isQuarter ? [parities[1], parities[1]] : shuffled(parities, random);
     // runs without an entry yet, and all runs, as lists of cells
     this.free = [];
     this.runs = [];
@@ -58,8 +42,8 @@ class Places {
       this.#enter(word, free);
       return true;
     }
-    // as a rule entries read across in grids with blocks
-    const isMixed = this.style === 'barred' || this.turns.isQuarter || this.random() < DOWN;
+    // as a rule entries of a lattice read across
+    const isMixed = this.isBarred || this.turns.isQuarter || this.random() < DOWN;
     const down = isMixed ? [false, true] : [false];
     for (const run of shuffled(down.flatMap((isDown) => this.#possible(word.length, isDown)), this.random)) {
       const images = this.turns.runs(run);
@@ -87,7 +71,7 @@ class Places {
     const { size } = this;
     const runs = [];
     for (let line = 0; line < size; line++) {
-      if (!this.#isLine(line, isDown)) continue;
+      if (!this.isBarred && line % 2 === this.parities[isDown ? 1 : 0]) continue;
       for (let first = 0; first + length <= size; first++) {
         if (!this.#hasRoom(first, size - first - length, length)) continue;
         runs.push(Array.from({ length }, (_, at) => (isDown ? (first + at) * size + line : line * size + first + at)));
@@ -96,15 +80,9 @@ class Places {
     return runs;
   }
 
-  // Whether entries may stand in a row or a column.
-  #isLine(line, isDown) {
-    if (this.style === 'british') return line % 2 !== this.lattice[isDown ? 1 : 0];
-    return this.style === 'barred' || (line >= BORDER && line < this.size - BORDER);
-  }
-
   // Whether what is left on each side of an entry is nothing, or has room for a light. An entry that fits nowhere else stands at the border.
   #hasRoom(before, after, length) {
-    if (this.style === 'barred') return true;
+    if (this.isBarred) return true;
     if (length > this.size - LEAST_ROOM) return before === 0 || after === 0;
     return [before, after].every((room) => room === 0 || room >= LEAST_ROOM);
   }
@@ -118,7 +96,7 @@ class Places {
     return [...this.runs, ...others].every((other) => {
       const otherDown = other[1] !== other[0] + 1;
       if (other.includes(before) || other.includes(after)) return false;
-      return isDown === otherDown ? !other.some((cell) => cells.has(cell) || (this.style !== 'barred' && around.has(cell))) : !isAtEnd(run, other) && !isAtEnd(other, run);
+      return isDown === otherDown ? !other.some((cell) => cells.has(cell) || (!this.isBarred && around.has(cell))) : !isAtEnd(run, other) && !isAtEnd(other, run);
     });
   }
 }
@@ -129,19 +107,20 @@ function isAtEnd(run, other) {
   return other.includes(run[0] - step) || other.includes(run.at(-1) + step);
 }
 
-// A grid with blocks around places; or null.
+const gridOf = (size, sym, made) => ({ width: size, height: size, sym, blocks: new Set(), bars: new Set(), ...made, cost: -made.lights.length });
+
+// A lattice around places; or null.
 /** @returns {Grid | null} */
-function blockedGrid(places, size, style, sym, turns, random) {
-  const draft = new Draft(size, style, turns, places.lattice);
-  draft.letters = places.letters;
-  if (!draft.hold(places.runs) || !draft.mend() || !draft.isUsual) return null;
-  const parted = draft.parted(random);
-  return parted && { size, sym, blocks: parted.blocks, bars: new Set(), letters: places.letters, lights: parted.lights };
+function latticeAround(places, size, sym, turns, random) {
+  const lattice = new Lattice(size, turns, places.parities);
+  if (!lattice.hold(places.runs) || !lattice.mend() || !lattice.isUsual) return null;
+  const parted = lattice.parted(random);
+  return parted && gridOf(size, sym, { blocks: parted.blocks, letters: places.letters, lights: parted.lights });
 }
 
 // A grid with bars around places; or null.
 /** @returns {Grid | null} */
-function gridOfBars(places, size, sym, turns, seed) {
+function barsAround(places, size, sym, turns, seed) {
   const [open, closed] = [new Set(), new Set()];
   for (const run of places.runs) {
     const isDown = run[1] !== run[0] + 1;
@@ -152,7 +131,7 @@ function gridOfBars(places, size, sym, turns, seed) {
   }
   if ([...open].some((edge) => closed.has(edge))) return null;
   const bars = barredGrid({ size, turns, open, closed }, seed);
-  return bars && { size, sym, blocks: new Set(), bars, letters: places.letters, lights: lightsBetween(bars, size) };
+  return bars && gridOf(size, sym, { bars, letters: places.letters, lights: lightsBetween(bars, size) });
 }
 
 // The lights between bars.
@@ -174,47 +153,63 @@ function lightsBetween(bars, size) {
   return lights;
 }
 
-/** @typedef {{ entries: string[], size: number, style: GridStyle, sym: Symmetry }} Wanted */
-
-// Throws why there can be no such grid.
-/** @param {Wanted} wanted */
-export function checkWanted({ entries, size, style, sym }) {
-  const long = entries.find((entry) => entry.length > size);
-  if (long) throw new Error(`${long} is too long for a grid of ${size}`);
-  if (sym === 'half') checkPairs(entries, size);
-  if (style === 'british' && size % 2 === 0) throw new Error('a lattice has an odd number of rows');
-}
-
 // Tries to make a grid from a seed; null if that one makes none.
 /**
- * @param {Wanted} wanted
+ * @param {Pick<Wanted, 'entries' | 'width' | 'style' | 'sym'>} wanted
  * @returns {Grid | null}
  */
-export function gridFrom({ entries, size, style, sym }, seed) {
-  const turns = new Turns(sym, size);
+export function gridFrom({ entries, width, style, sym }, seed) {
+  const turns = new Turns(sym, width);
   const random = randoms(seed);
-  const places = new Places(size, style, turns, random);
+  const places = new Places(width, style === 'barred', turns, random);
   // the longest first, and those of one length in any order
   const order = shuffled(entries, random).sort((a, b) => b.length - a.length);
   if (!places.takes(order) || (places.free.length && sym !== 'quarter')) return null;
-  return style === 'barred' ? gridOfBars(places, size, sym, turns, seed) : blockedGrid(places, size, style, sym, turns, random);
+  return style === 'barred' ? barsAround(places, width, sym, turns, seed) : latticeAround(places, width, sym, turns, random);
 }
 
-// The lights of a grid that cross entries, with a dot for each cell without a letter, those with the most letters first.
-/** @param {Grid} grid */
-export function crossingPatterns({ lights, letters }) {
-  const patterns = lights.map((light) => light.map((cell) => letters.get(cell) ?? '.').join('')).filter((pattern) => /[A-Z]/.test(pattern) && pattern.includes('.'));
-  const known = (pattern) => pattern.replaceAll('.', '').length;
-  return patterns.sort((a, b) => known(b) - known(a));
-}
+// Grids from seeds, one after another, as Search makes American ones.
+export class BritishSearch {
+  #wanted;
+  #counts;
+  #seed;
+  tried = 0;
+  isPossible = true;
+  /** @type {Map<string, number>} */
+  faults = new Map();
+  /** @type {import('./grid.js').Miss | null} */
+  nearest = null;
 
-// The record of a grid.
-/** @param {Grid} grid */
-export function recordOfGrid({ size, sym, blocks, bars, letters }) {
-  const at = (cell) => `${Math.floor(cell / size) + 1} ${(cell % size) + 1}`;
-  const lines = [
-    `size ${size} ${size}`, ...[...bars].map((edge) => `bar ${at(edge >> 1)} ${edge & 1 ? 'below' : 'right'}`), ...[...blocks].map((cell) => `block ${at(cell)}`),
-    `sym ${sym}`, ...[...letters].map(([cell, letter]) => `set ${at(cell)} ${letter}`),
-  ];
-  return `${lines.join('\n')}\n`;
+  /**
+   * @param {Wanted} wanted
+   * @param {import('./counts.js').Counts} counts
+   */
+  constructor(wanted, counts, seed) {
+    this.#wanted = { ...wanted, entries: [...wanted.entries, ...wanted.seeds] };
+    this.#counts = counts;
+    this.#seed = seed;
+  }
+
+  // A grid within the limits whose crossing lights have words, or null.
+  /** @returns {Grid | null} */
+  next() {
+    this.tried++;
+    const grid = gridFrom(this.#wanted, this.#seed++);
+    if (!grid) return this.#miss(['places']);
+    const { limits } = this.#wanted;
+    const figures = { words: grid.lights.length, blocks: grid.blocks.size, threes: threesOf(grid), dead: this.#deadIn(grid) };
+    const faults = Object.keys(figures).filter((name) => figures[name] > (limits[name] ?? 0));
+    return faults.length ? this.#miss(faults, grid) : grid;
+  }
+
+  #deadIn(grid) {
+    const codes = (pattern) => Array.from(pattern, (letter) => (letter === '.' ? -1 : letter.charCodeAt(0) - 65));
+    return crossingPatterns(grid).filter((pattern) => !this.#counts.count(codes(pattern))).length;
+  }
+
+  #miss(faults, grid = null) {
+    for (const fault of faults) this.faults.set(fault, (this.faults.get(fault) ?? 0) + 1);
+    if (grid) this.nearest ??= { grid, faults };
+    return null;
+  }
 }

@@ -1,0 +1,63 @@
+// How many words match a pattern: a set of bits for each length, place and letter.
+import { ones } from './bits.js';
+
+/** @typedef {{ count(pattern: ArrayLike<number>): number }} Counts patterns are codes of letters, A being 0, and -1 for any letter */
+
+const A = 'A'.charCodeAt(0);
+// what a word that is not good counts as: a light that only weak words fit costs nearly as much as one without any
+const REST = 0.05;
+
+export class WordCounts {
+  /** @type {Map<number, { count: number, bits: Uint32Array[] }>} */
+  #lengths = new Map();
+
+  /** @param {string[]} words in capitals */
+  constructor(words) {
+    for (const length of new Set(words.map((word) => word.length))) this.#add(length, words.filter((word) => word.length === length));
+  }
+
+  #add(length, words) {
+    const bits = Array.from({ length: 26 * length }, () => new Uint32Array(Math.ceil(words.length / 32)));
+    words.forEach((word, at) => {
+      for (let place = 0; place < length; place++) bits[26 * place + word.charCodeAt(place) - A][at >> 5] |= 1 << (at & 31);
+    });
+    this.#lengths.set(length, { count: words.length, bits });
+  }
+
+  /** @param {ArrayLike<number>} pattern */
+  count(pattern) {
+    const words = this.#lengths.get(pattern.length);
+    if (!words) return 0;
+    const sets = [];
+    for (let place = 0; place < pattern.length; place++) if (pattern[place] >= 0) sets.push(words.bits[26 * place + pattern[place]]);
+    return sets.length ? common(sets) : words.count;
+  }
+}
+
+// How many bits all sets have.
+/** @param {Uint32Array[]} sets */
+function common(sets) {
+  let count = 0;
+  for (let at = 0; at < sets[0].length; at++) {
+    let both = sets[0][at];
+    for (let other = 1; other < sets.length; other++) both &= sets[other][at];
+    count += ones(both);
+  }
+  return count;
+}
+
+// The count of good words, and of the others at a lower rate.
+export class GradedCounts {
+  /**
+   * @param {string[]} words in capitals
+   * @param {(word: string) => boolean} isGood
+   */
+  constructor(words, isGood) {
+    this.good = new WordCounts(words.filter(isGood));
+    this.rest = new WordCounts(words.filter((word) => !isGood(word)));
+  }
+
+  count(pattern) {
+    return this.good.count(pattern) + REST * this.rest.count(pattern);
+  }
+}

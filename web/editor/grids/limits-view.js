@@ -1,0 +1,125 @@
+// What a new grid is for, its size and symmetry, and its limits in a table, which a setter can change: the browser keeps what is changed for an outlet.
+import { keepLimits, keptLimits } from '../keep.js';
+import { LIMITS, OUTLETS, limitsAt, wholeLimits } from './outlets.js';
+
+/** @typedef {import('./outlets.js').Limit} Limit */
+
+const NAMES = /** @type {Limit[]} */ (Object.keys(LIMITS));
+// what the groups of outlets are called
+const STYLES = { american: 'American', british: 'British lattices', barred: 'Barred grids' };
+
+export class LimitsView {
+  #elements;
+  // what is changed, by the outlet and the size
+  /** @type {Record<string, Partial<Record<Limit, number | null>>>} */
+  #changed = keptLimits();
+  /** @type {Map<Limit, HTMLInputElement>} */
+  #fields = new Map();
+
+  // `elements`: `outlet`, `width`, `height`, `sym`, `table`, `summary`, `reset`.
+  constructor(elements) {
+    this.#elements = elements;
+    elements.outlet.append(...Object.keys(STYLES).map(groupOf));
+    for (const name of NAMES) elements.table.append(this.#row(name));
+    elements.outlet.addEventListener('change', () => this.#choose());
+    for (const side of [elements.width, elements.height]) side.addEventListener('change', () => this.#show());
+    elements.reset.addEventListener('click', () => this.#forget());
+    this.#choose();
+  }
+
+  #row(name) {
+    const row = document.createElement('tr');
+    const field = Object.assign(document.createElement('input'), { type: 'number', min: '0', id: `themes-${name}` });
+    const label = Object.assign(document.createElement('label'), { textContent: LIMITS[name], htmlFor: field.id });
+    const [head, cell, source] = ['th', 'td', 'td'].map((tag) => document.createElement(tag));
+    head.append(label);
+    cell.append(field);
+    row.append(head, cell, source);
+    field.addEventListener('change', () => this.#change(name));
+    this.#fields.set(name, field);
+    return row;
+  }
+
+  get #outlet() {
+    return OUTLETS.find(({ name }) => name === this.#elements.outlet.value);
+  }
+
+  get #size() {
+    return { width: Number(this.#elements.width.value), height: Number(this.#elements.height.value) };
+  }
+
+  get #key() {
+    const { width, height } = this.#size;
+    return `${this.#outlet.name} ${width} ${height}`;
+  }
+
+  // What a search is to find: its style, size, symmetry and limits.
+  get wanted() {
+    const { width, height } = this.#size;
+    const limits = Object.fromEntries([...this.#fields].filter(([, { value }]) => value !== '').map(([name, { value }]) => [name, Number(value)]));
+    return { style: this.#outlet.style, width, height, sym: this.#elements.sym.value, limits: wholeLimits(limits, width, height) };
+  }
+
+  #choose() {
+    const { width, height, sym } = this.#outlet;
+    Object.assign(this.#elements.width, { value: width });
+    Object.assign(this.#elements.height, { value: height });
+    Object.assign(this.#elements.sym, { value: sym });
+    this.#show();
+  }
+
+  #change(name) {
+    const { value } = this.#fields.get(name);
+    this.#changed[this.#key] = { ...this.#changed[this.#key], [name]: value === '' ? null : Number(value) };
+    keepLimits(this.#changed);
+    this.#show();
+  }
+
+  #forget() {
+    delete this.#changed[this.#key];
+    keepLimits(this.#changed);
+    this.#show();
+  }
+
+  // Shows the limits of the outlet at this size, and where each comes from.
+  #show() {
+    const [outlet, { width, height }, changed] = [this.#outlet, this.#size, this.#changed[this.#key] ?? {}];
+    const listed = limitsAt(outlet, width, height);
+    const isAtSize = width === outlet.width && height === outlet.height;
+    const isAmerican = outlet.style === 'american';
+    for (const [name, field] of this.#fields) {
+      const isOwn = name in changed;
+      const limit = isOwn ? changed[name] : listed[name];
+      field.value = limit === null || limit === undefined ? '' : String(limit);
+      const row = field.closest('tr');
+      row.hidden = !isAmerican && !['words', 'blocks', 'threes'].includes(name);
+      row.lastElementChild.textContent = sourceOf(outlet, name, { isOwn, isAtSize, isNone: field.value === '' });
+    }
+    this.#elements.reset.disabled = !Object.keys(changed).length;
+    this.#elements.summary.textContent = this.#summary(outlet, isAtSize);
+  }
+
+  #summary({ published }, isAtSize) {
+    const shown = { words: 'words', blocks: 'blocks', threes: 'words of 3', cheaters: 'cheaters' };
+    const parts = Object.entries(shown).flatMap(([name, text]) => {
+      const { value } = this.#fields.get(/** @type {Limit} */ (name));
+      return value === '' ? [] : [`${value} ${text}`];
+    });
+    const known = isAtSize && published.length ? ` (published: ${published.join(' and ')})` : '';
+    return `Limits: ${parts.join(', ') || 'none'}${known}`;
+  }
+}
+
+// Where a limit comes from.
+function sourceOf({ published }, name, { isOwn, isAtSize, isNone }) {
+  if (isOwn) return 'yours';
+  if (isNone) return '';
+  if (!isAtSize) return 'by the size';
+  return published.includes(name) ? 'published' : 'usual';
+}
+
+function groupOf(style) {
+  const group = Object.assign(document.createElement('optgroup'), { label: STYLES[style] });
+  group.append(...OUTLETS.filter((outlet) => outlet.style === style).map(({ name }) => new Option(name, name)));
+  return group;
+}
