@@ -2,6 +2,7 @@
 //
 //   ask(xw, 'words', '1 across', 10)  →  { total: 55, words: ['CAB', ..] }
 //   await best(xw, { progress: ({ placements, grade, bound }) => isStopped })  →  { answer: 'filled', grade: 62, bound: 80 }
+import { SPAN, Slices } from './slices.js';
 import { Fault } from './xw.js';
 
 // ---- answers
@@ -69,30 +70,57 @@ const READERS = {
   best: bestOf,
 };
 
+// The commands that change the session. They answer the cells that the watch lists.
+const CHANGES = new Set([
+  'add', 'strike', 'least', 'size', 'sym', 'set', 'clear', 'place', 'erase', 'block', 'bar', 'watch', 'clue', 'title', 'author', 'copyright', 'notes', 'text',
+  'more', 'circle',
+]);
+
+function readerOf(command) {
+  if (Object.hasOwn(READERS, command)) return READERS[command];
+  if (CHANGES.has(command)) return READERS.cells;
+  throw new TypeError(`${command} is not a command of ask`);
+}
+
 // What a command answers with these arguments. A change answers the cells that the watch lists. A refused command throws a Fault with the status
-// `Refused`, whose answer is the name of the refusal.
+// `Refused`, whose answer is the name of the refusal. A TypeError is thrown for a name that is no command, and nothing is sent.
 export function ask(xw, command, ...given) {
+  const read = readerOf(command);
   const { lines, refusal } = xw.line([command, ...given].join(' '));
   if (refusal !== null) throw new Fault('Refused', refusal);
-  return (Object.hasOwn(READERS, command) ? READERS[command] : READERS.cells)(lines);
+  return read(lines);
 }
 
 // ---- searches
 
-// The placements of the first slices of a search, and how many slices later they get twice as many: a slice that is too short for a hard grid never ends
-// the search.
-const SLICE = 1000;
-const SLICES = 5;
+const isWhole = (value) => Number.isSafeInteger(value) && value >= 0;
+const isNames = (value) => Array.isArray(value) && value.every((name) => typeof name === 'string');
 
-// The placements of each slice of a search, and those made after it.
-function* slicesOf(limit) {
-  let made = 0;
-  for (let number = 0; made < limit || number === 0; number++) {
-    const due = Math.min(SLICE * 2 ** Math.min(Math.floor(number / SLICES), 32), limit - made);
-    made += due;
-    yield [due, made];
+// The options of a search: what each may be, and the error for anything else.
+const OPTIONS = {
+  limit: [(value) => value === Infinity || isWhole(value), RangeError, 'a whole number or Infinity'],
+  seed: [isWhole, RangeError, 'a whole number'],
+  lights: [isNames, TypeError, 'an array of names of lights'],
+  progress: [(value) => typeof value === 'function', TypeError, 'a function'],
+  every: [(value) => value > 0 && Number.isFinite(value), RangeError, 'a number of milliseconds above 0'],
+  least: [(value) => isWhole(value) && value <= 100, RangeError, 'a grade from 0 to 100'],
+};
+const AUTOFILL = ['limit', 'seed', 'lights', 'progress', 'every'];
+const BEST = [...AUTOFILL, 'least'];
+
+// Throws a TypeError or a RangeError that names an option which the search does not take, or whose value it cannot have. An option that is undefined is left
+// out.
+function expectOptions(search, names, options) {
+  if (!options || typeof options !== 'object') throw new TypeError(`the options of ${search} are not an object`);
+  for (const [name, value] of Object.entries(options)) {
+    if (!names.includes(name)) throw new TypeError(`${name} is not an option of ${search}, which takes ${names.slice(0, -1).join(', ')} and ${names.at(-1)}`);
+    const [isSound, Fitting, wanted] = OPTIONS[name];
+    if (value !== undefined && !isSound(value)) throw new Fitting(`${name} is not ${wanted}`);
   }
 }
+
+// The slices of a search with these options.
+const slicesFor = ({ limit = Infinity, progress, every = SPAN }) => new Slices(limit, progress ? every : null);
 
 // Lets other events come, such as a click on a stop button, and asks whether the search ends.
 async function isEnded(progress, told) {
@@ -100,12 +128,15 @@ async function isEnded(progress, told) {
   return Boolean(progress && (await progress(told)));
 }
 
-// Fills lights, in slices of some 0.1 s.
-export async function autofill(xw, { limit = Infinity, seed = 0, lights = [], progress } = {}) {
-  for (const [due, made] of slicesOf(limit)) {
-    const answer = ask(xw, 'autofill', due, seed, ...lights);
-    if (answer !== 'limit' || (await isEnded(progress, { placements: made, grade: null, bound: 101 }))) return answer;
-  }
+// Fills lights, in slices.
+export async function autofill(xw, options = {}) {
+  expectOptions('autofill', AUTOFILL, options);
+  const { seed = 0, lights = [], progress } = options;
+  const slices = slicesFor(options);
+  do {
+    const answer = slices.run((placements) => ask(xw, 'autofill', placements, seed, ...lights));
+    if (answer !== 'limit' || (await isEnded(progress, { placements: slices.made, grade: null, bound: 101 }))) return answer;
+  } while (!slices.isOver);
   return 'limit';
 }
 
@@ -126,23 +157,26 @@ function enter(xw, rows) {
 }
 
 // Searches for better and better fills. Between two slices the grid is as it was at the start. Returns what was found, with its rows.
-async function climb(xw, told, { limit = Infinity, seed = 0, lights = [], least = 0, progress }) {
+async function climb(xw, told, options) {
+  const { seed = 0, lights = [], least = 0, progress } = options;
   const start = rowsOf(xw);
-  for (const [due, made] of slicesOf(limit)) {
+  const slices = slicesFor(options);
+  do {
     const above = told.grade === null ? least : told.grade + 1;
     ask(xw, 'least', above);
-    const { answer, grade, bound } = ask(xw, 'best', due, seed, ...lights);
+    const { answer, grade, bound } = slices.run((placements) => ask(xw, 'best', placements, seed, ...lights));
     told.bound = Math.min(told.bound, bound ?? above);
     if (answer === 'filled') Object.assign(told, { answer, grade, rows: rowsOf(xw) });
     else if (told.grade === null) told.answer = answer;
     if (answer === 'filled') enter(xw, start);
     const isEnd = told.answer === 'nofill' || (told.grade !== null && told.bound <= told.grade + 1);
-    if (isEnd || (await isEnded(progress, { placements: made, grade: told.grade, bound: told.bound }))) return;
-  }
+    if (isEnd || (await isEnded(progress, { placements: slices.made, grade: told.grade, bound: told.bound }))) return;
+  } while (!slices.isOver);
 }
 
 // Looks for the fill whose worst new word has the best grade, in slices. However it ends, the best fill stands in the grid whole, or the grid is as it was.
 export async function best(xw, options = {}) {
+  expectOptions('best', BEST, options);
   const told = { answer: 'limit', grade: null, bound: 101, rows: null };
   try {
     await climb(xw, told, options);

@@ -91,6 +91,15 @@ export class Xw {
   /** The record of the session, for `open`. */
   record(): Uint8Array;
 
+  /**
+   * Replays a record in this session, and returns what was not taken from it, as `reports`. Throws a `Fault` with the status `NoCommand` if a line is not a
+   * command; the lines before it were executed, so close the session then.
+   */
+  resume(record: Source): string;
+
+  /** The version of the engine, as `xw --version` prints it. */
+  readonly version: string;
+
   /** Closes the session, and lets its memory go. Every later call throws a `Fault` with the status `Closed`, except `close`. */
   close(): void;
 }
@@ -108,7 +117,11 @@ export interface Cell {
 /** What a search found: a fill, that there is none, which is proved, or neither. */
 export type Found = 'filled' | 'nofill' | 'limit';
 
-/** The answer to `best`. `grade` is that of the worst new word of the fill. No fill has only words of the grade `bound` and better. */
+/**
+ * The answer to `best`. `grade` is that of the worst new word of the fill. There is no fill of which all new words have the grade `bound` or a better one. If
+ * `bound` is `grade + 1`, no fill is better. Since no grade is above 100, a bound of 101 alone says nothing. A grid that was full has no new word: its grade is
+ * 100, and the bound 101.
+ */
 export interface Best {
   answer: Found;
   grade: number | null;
@@ -167,7 +180,10 @@ export type Change =
   | 'add' | 'strike' | 'least' | 'size' | 'sym' | 'set' | 'clear' | 'place' | 'erase' | 'block' | 'bar' | 'watch'
   | 'clue' | 'title' | 'author' | 'copyright' | 'notes' | 'text' | 'more' | 'circle';
 
-/** What a command answers, with its arguments. Throws a `Fault` with the status `Refused` for a refused command, with the name as its `answer`. */
+/**
+ * What a command answers, with its arguments. Throws a `Fault` with the status `Refused` for a refused command, with the name as its `answer`, and a `TypeError`
+ * for a name that is no command.
+ */
 export function ask<C extends keyof Answers>(xw: Xw, command: C, ...given: (string | number)[]): Answers[C];
 export function ask(xw: Xw, command: Change, ...given: (string | number)[]): Cell[];
 
@@ -177,20 +193,25 @@ export interface Progress {
   placements: number;
   /** The grade of the worst new word of the best fill, if `best` found one. */
   grade: number | null;
-  /** No fill has only words of this grade and better. */
+  /** There is no fill of which all new words have this grade or a better one; 101 says nothing. */
   bound: number;
 }
 
-/** What to search for. */
+/** What to search for. A search throws a `TypeError` for an option that it does not take, and a `RangeError` for a number that the option cannot be. */
 export interface Search {
-  /** The most placements. */
+  /** The most placements; a whole number, or `Infinity`. */
   limit?: number;
   /** Another seed takes another way. */
   seed?: number;
   /** The lights to fill, as `1 across`; all, if none is named. */
   lights?: readonly Light[];
-  /** Is called after each slice of some 0.1 s. A true value ends the search, as if its placements were used up. */
+  /**
+   * Is called after each slice. A true value ends the search, as if its placements were used up. Without it the slices get longer, up to a tenth of the time so
+   * far.
+   */
   progress?: (progress: Progress) => unknown;
+  /** A slice takes about so many milliseconds; 100 by default. */
+  every?: number;
 }
 
 /**

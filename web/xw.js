@@ -364,6 +364,22 @@ export class Xw {
     return this.#file('xw_record');
   }
 
+  // Replays a record in this session, and returns what was not taken from it, as `reports` of `open`. Throws a Fault with the status `NoCommand` if a line
+  // is not a command; the lines before it were executed.
+  resume(record) {
+    const bytes = bytesOf(record, 'record');
+    this.#expectOpen();
+    return this.#resume(bytes);
+  }
+
+  // The version of the engine, as the program prints it.
+  get version() {
+    this.#expectOpen();
+    const block = this.#fit(this.#output, 1);
+    const length = Number(this.#calls.xw_version(BigInt(block), BigInt(this.#output.length)));
+    return toText(this.#heap.bytes(block, length));
+  }
+
   // Closes the session, and lets its memory go. Every later call throws a Fault with the status `Closed`, except `close`, which does nothing.
   close() {
     this.#calls = this.#heap = null;

@@ -1,0 +1,53 @@
+// Searches in slices. No command stops a search that runs, so each one is sent with some of its placements after another.
+
+// The placements of the first slice, and the fewest of a later one.
+const [FIRST, FEWEST] = [1000, 100];
+// The most in a millisecond: a slice that ended early says little of the next.
+const FASTEST = 1000;
+/** How long a slice takes, in milliseconds. */
+export const SPAN = 100;
+// The part of the time so far that a slice may take where nothing is told between slices. Each slice begins at the grid again, so only a search whose slices
+// grow is sure to end.
+const PART = 0.1;
+
+/**
+ * The slices of a search, which has `limit` placements in all. Each takes about `span` milliseconds: it has as many placements as the last one made in this time,
+ * and at most twice as many as the last one. Without a span the slices get longer with the search.
+ */
+export class Slices {
+  #limit;
+  #span;
+  #due = FIRST;
+  #spent = 0;
+  /** At most so many placements were made. */
+  made = 0;
+
+  constructor(limit, span = null) {
+    this.#limit = limit;
+    this.#span = span;
+  }
+
+  /** Runs a slice, and returns what it found. The time between two slices does not count. */
+  run(search) {
+    const placements = Math.min(this.#due, this.#limit - this.made);
+    const began = performance.now();
+    const found = search(placements);
+    const taken = performance.now() - began;
+    this.made += placements;
+    this.#spent += taken;
+    this.#due = this.#after(placements, taken);
+    return found;
+  }
+
+  // The placements of the slice after one that took so long.
+  #after(placements, taken) {
+    const span = this.#span ?? Math.max(SPAN, PART * this.#spent);
+    const growth = taken > 0 ? Math.min(2, span / taken) : 2;
+    return Math.max(FEWEST, Math.min(Math.floor(placements * growth), Math.floor(span * FASTEST)));
+  }
+
+  /** Whether all placements are made. */
+  get isOver() {
+    return this.made >= this.#limit;
+  }
+}
