@@ -32,6 +32,7 @@ import argparse
 import itertools
 import os
 import pathlib
+import shutil
 import subprocess
 import sys
 
@@ -398,7 +399,7 @@ def main():
     parser.add_argument("--sym", metavar="KIND", default="half", help="symmetry of a new grid (default: %(default)s)")
     parser.add_argument("--keys", metavar="FILE", help="take the keys from a file, separated by white space (`up space enter "
                         "^F A`), and print the last screen, without a terminal")
-    parser.add_argument("--xw", metavar="PROGRAM", default=TOP / "xw", help="the program (default: %(default)s)")
+    parser.add_argument("--xw", metavar="PROGRAM", default=shutil.which("xw", path=TOP) or "xw", help="the program (default: %(default)s)")
     options = parser.parse_args()
     call = [options.xw, "edit", *(["--dict", options.dict] if options.dict else [])]
     try:

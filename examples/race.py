@@ -11,6 +11,7 @@ import argparse
 import os
 import pathlib
 import selectors
+import shutil
 import subprocess
 
 TOP = pathlib.Path(__file__).resolve().parent.parent
@@ -85,7 +86,7 @@ def main():
     parser.add_argument("record", help="the commands that make the grid")
     parser.add_argument("--processes", metavar="N", type=int, default=os.cpu_count(), help="how many race (default: %(default)s)")
     parser.add_argument("--limit", metavar="K", type=int, default=1000000, help="placements with one seed (default: %(default)s)")
-    parser.add_argument("--xw", metavar="PROGRAM", default=TOP / "xw", help="the program (default: %(default)s)")
+    parser.add_argument("--xw", metavar="PROGRAM", default=shutil.which("xw", path=TOP) or "xw", help="the program (default: %(default)s)")
     options = parser.parse_args()
     session = Session(options.xw, options.words, "--resume", options.record)
     session.ask("stats")  # builds the program, if it is ./xw and not up to date, before the racers start

@@ -5,9 +5,10 @@
 //
 // RECORD is a file of commands, such as examples/themeless15.xw or what `--save` wrote, and K is the number of placements of the first slices.
 // A line on standard input stops the search, and so does its end. The last line is `filled`, `nofill` or `stopped`; after `filled` the grid
-// stands above it. It needs ./build web.
+// stands above it. It needs the package xw, or in a checkout ./build web.
 import { readFileSync } from 'node:fs';
-import { Xw, load } from '../web/dist/xw.js';
+
+const { Xw, load } = await import('xw').catch(() => import('../web/dist/xw.js'));
 
 // After so many slices they get twice as long. Each slice begins at the grid, so one that is too short for a hard grid never ends the search.
 const SLICES = 5;

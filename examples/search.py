@@ -10,6 +10,7 @@ import argparse
 import itertools
 import pathlib
 import select
+import shutil
 import subprocess
 import sys
 
@@ -64,7 +65,7 @@ def main():
     parser.add_argument("words", help="a word list")
     parser.add_argument("record", help="the commands that make the grid")
     parser.add_argument("--slice", metavar="K", type=int, default=2000, help="placements of the first slices (default: %(default)s)")
-    parser.add_argument("--xw", metavar="PROGRAM", default=TOP / "xw", help="the program (default: %(default)s)")
+    parser.add_argument("--xw", metavar="PROGRAM", default=shutil.which("xw", path=TOP) or "xw", help="the program (default: %(default)s)")
     options = parser.parse_args()
     with Session(options.xw, options.words, options.record) as session:
         answer = search(session, options.slice, is_stopped)

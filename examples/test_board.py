@@ -1,7 +1,7 @@
 #!/usr/bin/env python3
 """Runs the board with keys from a file and compares its last screen with a screen written by hand; and once in a terminal.
 
-usage: examples/test_board.py [PROGRAM]   (the program that the board drives: ./xw by default)
+usage: examples/test_board.py [PROGRAM]   (the program that the board drives: by default ./xw, or xw on the PATH)
 
 Most cases use a lattice of 5 by 5 with six lights, which cross in letters 1, 3 and 5 of their words. SHADE and STARE have S A E
 there, ALONE and ATONE have A O E, ELEGY and ENEMY have E E Y. So each of these pairs is feasible in two lights, and TABLE in none.
@@ -10,6 +10,7 @@ The last line is 'N passed, M failed'.
 import os
 import pathlib
 import pty
+import shutil
 import signal
 import subprocess
 import sys
@@ -359,7 +360,7 @@ def terminals(program):
 
 
 def main():
-    program = sys.argv[1] if len(sys.argv) > 1 else EXAMPLES.parent / "xw"
+    program = sys.argv[1] if len(sys.argv) > 1 else shutil.which("xw", path=EXAMPLES.parent) or "xw"
     subprocess.run([program, "--version"], stdout=subprocess.DEVNULL, check=True)  # builds ./xw if it is not up to date
     passed = [*screens(program), *saved_logs(program), *terminals(program)]
     print(f"{passed.count(True)} passed, {passed.count(False)} failed")

@@ -10,10 +10,11 @@
 from .answers import Best, Cell, Choice, Entry, Light, LightName, Progress, Suggestion, Tally, Words
 from .errors import Error, Fault, Refusal
 from .library import STATUSES, version
+from .lists import Listed
 from .session import Session
 from .text import decode, encode
 
 __all__ = [
-    "Best", "Cell", "Choice", "Entry", "Error", "Fault", "Light", "LightName", "Progress", "Refusal", "STATUSES", "Session", "Suggestion", "Tally", "Words",
-    "decode", "encode", "version",
+    "Best", "Cell", "Choice", "Entry", "Error", "Fault", "Light", "LightName", "Listed", "Progress", "Refusal", "STATUSES", "Session", "Suggestion", "Tally",
+    "Words", "decode", "encode", "version",
 ]

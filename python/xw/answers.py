@@ -68,7 +68,7 @@ class Suggestion(NamedTuple):
 
 class Progress(NamedTuple):
     """How far a search is: at most so many placements were made. `best` also tells the grade of the worst new word of the best fill so far, or None,
-    and a grade that no fill has; 101 says nothing."""
+    and the bound: no fill has this grade or a better one, and 101 says nothing."""
 
     placements: int
     grade: Optional[int] = None
@@ -76,8 +76,9 @@ class Progress(NamedTuple):
 
 
 class Best(NamedTuple):
-    """A fill: the grade of its worst new word, a grade that no fill has, and the rows of the grid with `#` for a block and `-` for an empty
-    cell. The fill is the best one if the bound is one more than the grade."""
+    """A fill: the grade of its worst new word, the bound, and the rows of the grid with `#` for a block and `-` for an empty cell. No fill has the
+    grade `bound` or a better one, so the fill is the best one if the bound is one more than the grade. A bound of 101 says nothing. A fill of a
+    grid that was full before has no new word, and the grade 100."""
 
     grade: int
     bound: int

@@ -3,6 +3,7 @@ import ctypes
 import functools
 import os
 import pathlib
+import threading
 from typing import Tuple
 
 from .errors import Fault
@@ -40,39 +41,48 @@ def _calls() -> ctypes.CDLL:
 def version() -> str:
     """The version of the engine and of its protocol, such as `xw 0.2.0 (protocol 1)`."""
     room = ctypes.create_string_buffer(200)
-    return room.raw[: _calls().xw_version(room, len(room))].decode()
+    length: int = _calls().xw_version(room, len(room))
+    return room.raw[:length].decode()
 
 
 class Handle:
-    """An open session of the library."""
+    """An open session of the library. Threads that hold `lock` have it to themselves."""
 
     def __init__(self, words: bytes, puzzle: bytes):
+        self.lock = threading.RLock()
         self._calls = _calls()
         self._xw = _Xw()
         # room for answers, which grows
         self._room = ctypes.create_string_buffer(4096)
-        status = self.call("open", words, puzzle)
+        status, _ = self.ask("open", words, puzzle)
         if status != "Accepted":
             raise Fault(status)
 
-    def call(self, name: str, *texts: bytes) -> str:
-        """Makes a call, and returns its status."""
+    def ask(self, name: str, *texts: bytes) -> Tuple[str, bytes]:
+        """Makes a call. Returns its status, and what it wrote."""
+        # a call lets other threads run, and their calls would write other answers
+        with self.lock:
+            return self._call(name, *texts), self._answer()
+
+    def _call(self, name: str, *texts: bytes) -> str:
         given = [part for text in texts for part in (text, len(text))]
         status: int = getattr(self._calls, f"xw_{name}")(ctypes.byref(self._xw), *given)
         return STATUSES[status] if status < len(STATUSES) else f"status {status}"
 
-    def answer(self) -> bytes:
-        """What the last call wrote."""
+    def _answer(self) -> bytes:
         while True:
             length: int = self._calls.xw_answer(ctypes.byref(self._xw), self._room, len(self._room))
             if length <= len(self._room):
-                return self._room.raw[:length]
+                return ctypes.string_at(self._room, length)
             self._room = ctypes.create_string_buffer(length)
 
-    def line(self, line: bytes) -> Tuple[str, bytes]:
-        """Answers a line. Returns the status and the answer."""
-        return self.call("line", line), self.answer()
+    @property
+    def is_open(self) -> bool:
+        # the library takes the session out of the struct for the time of a call
+        with self.lock:
+            return bool(self._xw.is_open)
 
     def close(self) -> None:
         """Frees the session. May be called again."""
-        self._calls.xw_close(ctypes.byref(self._xw))
+        with self.lock:
+            self._calls.xw_close(ctypes.byref(self._xw))

@@ -2,49 +2,24 @@
 from __future__ import annotations
 
 import itertools
-import os
-import pathlib
 from types import TracebackType
-from typing import Any, Callable, FrozenSet, Generator, Iterable, Iterator, List, Mapping, Optional, Tuple, Type, Union
+from typing import Any, Callable, FrozenSet, Generator, Iterable, Iterator, List, Mapping, NoReturn, Optional, Tuple, Type
 
 from .answers import Best, Cell, Choice, Entry, Light, LightName, Progress, Suggestion, Tally, Words
 from .errors import Fault, Refusal
 from .ipuz import clues_of, commands_of
 from .library import Handle
+from .lists import Listed, Puzzle, Source, WordList, bytes_of, lines_in, list_of, puzzle_of
+from .slices import SECONDS, Slices
 from .text import decode, encode, escape, unescape
 
-Word = Union[str, Tuple[str, int]]
-# A word list: its bytes or text, a file, or words, each alone or with a grade.
-WordList = Union[bytes, str, "os.PathLike[str]", Iterable[Word]]
-# A puzzle: the bytes of a file, a file, an object of the package `puz`, or one of the package `ipuz`.
-Puzzle = Union[bytes, "os.PathLike[str]", Mapping[str, Any], Any]
 # Told how far a search is; ends the search by a true value.
 Told = Callable[[Progress], Any]
 
-# The placements of the first slices of a search, and how many slices later they get twice as many: a slice that is too short for a hard grid
-# never ends the search.
-SLICE, SLICES = 1000, 5
 # The bytes of a text that fit into one line with the rest of a command.
 PIECE = 1500
-
-
-def _bytes_of(source: Union[bytes, str, "os.PathLike[str]"]) -> bytes:
-    if isinstance(source, os.PathLike):
-        return pathlib.Path(source).read_bytes()
-    return encode(source) if isinstance(source, str) else bytes(source)
-
-
-def _file_of(puzzle: Puzzle) -> bytes:
-    """The bytes of a puzzle file; none for a mapping, whose commands make the puzzle."""
-    if isinstance(puzzle, Mapping):
-        return b""
-    return _bytes_of(puzzle.tobytes() if hasattr(puzzle, "tobytes") else puzzle)
-
-
-def _list_of(words: WordList) -> bytes:
-    if isinstance(words, (bytes, str, os.PathLike)):
-        return _bytes_of(words)
-    return encode("".join(f"{word}\n" if isinstance(word, str) else f"{word[0]};{word[1]}\n" for word in words))
+# The length of the longest word.
+LONGEST = 255
 
 
 def _name(light: LightName) -> str:
@@ -64,15 +39,17 @@ def _letters(text: str) -> FrozenSet[str]:
 
 class Session:
     """A session over a word list, on a puzzle or an empty grid of 15 by 15, after the commands of a record. Use it in a `with` statement, or
-    call `close`. One thread at a time may use it.
+    call `close`. Threads may share it: a command of one waits for that of another, and each slice of a search is a command.
 
     A command that is refused raises `Refusal` and changes nothing. Rows and columns are counted from 1.
     """
 
-    def __init__(self, words: WordList = b"", puzzle: Puzzle = b"", record: Union[bytes, str, "os.PathLike[str]"] = b""):
-        lines = _bytes_of(record)
-        self._handle: Optional[Handle] = Handle(_list_of(words), _file_of(puzzle))
+    def __init__(self, words: WordList = b"", puzzle: Puzzle = b"", record: Source = b""):
+        lines, listed = bytes_of(record), list_of(words)
+        self._handle = Handle(listed, puzzle_of(puzzle))
         try:
+            # How many words the list added, and how many of its lines were skipped.
+            self.listed = self._counted(listed)
             # What was not taken from the record, a line each: the end that was cut off, and each line that was refused.
             self.reports = self._resume(lines)
             if isinstance(puzzle, Mapping):
@@ -80,6 +57,12 @@ class Session:
         except BaseException:
             self.close()
             raise
+
+    def _counted(self, listed: bytes) -> Listed:
+        """Counts the words of a list that the dictionary has taken, before any command changes it."""
+        # the answer has a line for each word, and `ok`
+        added = sum(self.answer(b"match " + b"." * length).count(b"\n") - 1 for length in range(2, LONGEST + 1)) if listed else 0
+        return Listed(added, lines_in(listed) - added)
 
     def _take(self, puzzle: Mapping[str, Any]) -> None:
         """Makes the grid, the texts and the clues of an object of the package `ipuz`."""
@@ -95,38 +78,40 @@ class Session:
         self.close()
 
     def __del__(self) -> None:
-        self.close()
+        # there is no handle if the library refused to open a session
+        if hasattr(self, "_handle"):
+            self.close()
+
+    def __reduce__(self) -> NoReturn:
+        """Refuses `copy` and `pickle`: the memory of the library cannot be copied, and a second owner would free it twice."""
+        raise TypeError("a session cannot be copied or pickled; open another one by Session(words, record=session.record())")
 
     def close(self) -> None:
         """Frees the session. Every later call raises `Fault("Closed")`, except `close`."""
-        handle, self._handle = getattr(self, "_handle", None), None
-        if handle:
-            handle.close()
+        self._handle.close()
+
+    @property
+    def closed(self) -> bool:
+        return not self._handle.is_open
 
     # ---- lines
 
-    def _open(self) -> Handle:
-        if not self._handle:
-            raise Fault("Closed")
-        return self._handle
+    def _ask(self, name: str, *texts: bytes, done: Tuple[str, ...] = ("Accepted",)) -> bytes:
+        """Makes a call, and returns what it wrote. Raises a fault for a status that is not one of these."""
+        status, answer = self._handle.ask(name, *texts)
+        if status not in done:
+            raise Fault(status, decode(answer).rstrip("\n"))
+        return answer
 
     def _resume(self, record: bytes) -> List[str]:
-        handle = self._open()
-        status = handle.call("resume", record)
-        reports = decode(handle.answer())
-        if status not in ("Accepted", "Refused", "Cut"):
-            raise Fault(status, reports.rstrip("\n"))
-        return reports.splitlines()
+        return decode(self._ask("resume", record, done=("Accepted", "Refused", "Cut"))).splitlines()
 
     def answer(self, line: bytes) -> bytes:
         """Answers a line of commands in bytes, as `xw edit` does: lines and then `ok`, or `no NAME`, each with a line feed. Nothing is answered
         to a blank line or a note."""
         if b"\n" in line:
             raise ValueError("a line has no line feed")
-        status, answer = self._open().line(line)
-        if status == "Memory":
-            raise Fault(status)
-        return answer
+        return self._ask("line", line, done=("Accepted", "Refused", "Silent"))
 
     def line(self, command: str) -> List[str]:
         """Answers a line of commands. Returns the lines before `ok`."""
@@ -243,47 +228,46 @@ class Session:
         (answer,) = self.line(f"fill {limit}")
         return answer
 
-    def autofill(self, limit: Optional[int] = None, seed: int = 0, lights: Iterable[LightName] = (), progress: Optional[Told] = None) -> str:
-        """Fills the named lights, or all of them. Returns `filled`, `nofill`, which is proved, or `limit`: after so many placements, or when
-        `progress`, which is called after each slice of some 0.1 s, returns a true value. Nothing is entered then."""
+    def autofill(
+        self, limit: Optional[int] = None, seed: int = 0, lights: Iterable[LightName] = (), progress: Optional[Told] = None, every: float = SECONDS
+    ) -> str:
+        """Fills the named lights, or all of them. Returns `filled`, `nofill`, which is proved, or `limit`: after so many placements, or when `progress`
+        returns a true value. Nothing is entered then. `progress` is called after each slice, about every so many seconds. Without it the slices get longer,
+        up to a tenth of the time so far."""
         named = " ".join(map(_name, lights))
-        for placements, made in self._slices(limit, progress is None):
-            (answer,) = self.line(f"autofill {placements} {seed} {named}")
-            if answer != "limit" or (progress and progress(Progress(made))):
+        slices = Slices(limit, every if progress else None)
+        while True:
+            (answer,) = slices.run(lambda placements: self.line(f"autofill {placements} {seed} {named}"))
+            if answer != "limit" or (progress and progress(Progress(slices.made))) or slices.is_over:
                 return answer
-        return "limit"
-
-    @staticmethod
-    def _slices(limit: Optional[int], is_whole: bool) -> Iterator[Tuple[int, int]]:
-        """The placements of each slice of a search, and those made after it."""
-        made = 0
-        for number in itertools.count():
-            due = SLICE * 2 ** (number // SLICES)
-            if limit is not None:
-                due = limit - made if is_whole else min(due, limit - made)
-            made += due
-            yield due, made
-            if made == limit:
-                return
 
     def best(
-        self, limit: Optional[int] = None, seed: int = 0, lights: Iterable[LightName] = (), least: int = 0, progress: Optional[Told] = None
+        self,
+        limit: Optional[int] = None,
+        seed: int = 0,
+        lights: Iterable[LightName] = (),
+        least: int = 0,
+        progress: Optional[Told] = None,
+        every: float = SECONDS,
     ) -> Generator[Best, None, str]:
         """Yields better and better fills of the named lights, or of all of them, with words of the grade `least` and better. Each stands in the
-        grid when it is yielded. It ends when no fill is better, after so many placements, or when `progress` returns a true value. Leave it
-        at any time: the last fill stays in the grid. The session is left with the least grade `least`. The generator returns `filled`, `nofill` or
-        `limit`."""
-        return _Climb(self, seed, " ".join(map(_name, lights)), least).run(limit, progress)
+        grid when it is yielded. It ends when no fill is better, after so many placements, or when `progress` returns a true value. `progress` and `every` are
+        those of `autofill`. Leave it at any time: the last fill stays in the grid. The session is left with the least grade `least`. The generator
+        returns `filled`, `nofill` or `limit`.
+
+        In a grid without an empty cell no word is new: it is its own fill, with the grade 100 and the bound 101, unless a word is in it twice."""
+        return _Climb(self, seed, " ".join(map(_name, lights)), least).run(Slices(limit, every if progress else None), progress)
 
     # ---- clues, texts and circles
 
     def clue(self, light: LightName, text: str) -> None:
         """Sets the clue of a light; an empty text removes it."""
         name = _name(light)
-        found = next((it for it in self.lights() if it.name == name), None)
-        if not found:
-            raise Refusal("NoLight", f"clue {name} {text}")
-        self._put(f"clue {found.row} {found.column} {found.direction}", text)
+        with self._handle.lock:
+            found = next((it for it in self.lights() if it.name == name), None)
+            if not found:
+                raise Refusal("NoLight", f"clue {name} {text}")
+            self._put(f"clue {found.row} {found.column} {found.direction}", text)
 
     def title(self, text: str) -> None:
         self._put("title", text)
@@ -298,11 +282,16 @@ class Session:
         self._put("notes", text)
 
     def _put(self, field: str, text: str) -> None:
-        """Sets a text of any length, in pieces. Encodes all of it before it sends any."""
+        """Sets a text of any length, in pieces. Looks at all of it before it sends any."""
         encode(text)
         pieces = [text[at : at + PIECE] for at in range(0, len(text), PIECE)] or [""]
-        for command, piece in zip(itertools.chain(["text"], itertools.repeat("more")), pieces):
-            self.line(f"{command} {field} {escape(piece)}")
+        commands = [f"{command} {field} {escape(piece)}" for command, piece in zip(itertools.chain(["text"], itertools.repeat("more")), pieces)]
+        for command in commands:
+            if "\0" in command:
+                raise Refusal("NulByte", command)
+        with self._handle.lock:
+            for command in commands:
+                self.line(command)
 
     def texts(self) -> Mapping[str, str]:
         """The texts that are not empty: `title`, `author`, `copyright`, `notes`, and the clues by the names of their lights."""
@@ -321,24 +310,17 @@ class Session:
 
     # ---- files
 
-    def _file(self, name: str) -> bytes:
-        handle = self._open()
-        status = handle.call(name)
-        if status != "Accepted":
-            raise Fault(status)
-        return handle.answer()
-
     def record(self) -> bytes:
         """The session as commands, for `Session(words, record=...)` over the same words."""
-        return self._file("record")
+        return self._ask("record")
 
     def to_puz(self) -> bytes:
         """The puzzle as a `.puz` file. Raises `Fault` if the format cannot hold it."""
-        return self._file("puz")
+        return self._ask("puz")
 
     def to_text(self) -> bytes:
         """The puzzle as a text file. Raises `Fault` if the format cannot hold it."""
-        return self._file("text")
+        return self._ask("text")
 
 
 class _Climb:
@@ -346,44 +328,51 @@ class _Climb:
 
     def __init__(self, session: Session, seed: int, named: str, least: int):
         self.session, self.seed, self.named, self.least = session, seed, named, least
+        self.lock = session._handle.lock
         self.start = session.rows()
         self.bound, self.found = 101, None  # type: int, Optional[Best]
 
-    def run(self, limit: Optional[int], progress: Optional[Told]) -> Generator[Best, None, str]:
+    def run(self, slices: Slices, progress: Optional[Told]) -> Generator[Best, None, str]:
         try:
-            for placements, made in self.session._slices(limit, False):
-                least = self.found.grade + 1 if self.found else self.least
-                self.session.least(least)
-                if self.is_better(placements, least):
-                    self.session.least(self.least)
+            while True:
+                if self.is_better(slices):
                     yield self.found  # type: ignore[misc]
                     self.enter(self.start)
-                if self.is_proved() or (progress and progress(Progress(made, self.found.grade if self.found else None, self.bound))):
-                    break
-            return "filled" if self.found else "nofill" if self.is_proved() else "limit"
+                told = Progress(slices.made, self.found.grade if self.found else None, self.bound)
+                if self.is_proved() or (progress and progress(told)) or slices.is_over:
+                    return "filled" if self.found else "nofill" if self.is_proved() else "limit"
         finally:
-            self.session.least(self.least)
-            if self.found:
-                self.enter(self.found.rows)
+            # a generator that was left may end after its session
+            if not self.session.closed:
+                self.session.least(self.least)
+                if self.found:
+                    self.enter(self.found.rows)
 
     def is_proved(self) -> bool:
         """Whether nothing is left to search for: there is no fill, or no better one."""
         return self.bound <= (self.found.grade + 1 if self.found else self.least)
 
-    def is_better(self, placements: int, least: int) -> bool:
-        """Searches with so many placements. Returns whether it found a better fill."""
-        answer = dict(line.partition(" ")[::2] for line in self.session.line(f"best {placements} {self.seed} {self.named}"))
-        self.bound = min(self.bound, least if "nofill" in answer else int(answer["bound"]))
-        if "filled" not in answer:
-            return False
-        self.found = Best(int(answer["least"]), self.bound, self.session.rows())
-        return True
+    def is_better(self, slices: Slices) -> bool:
+        """Searches a slice. Returns whether it found a better fill, which then stands in the grid."""
+        # other threads do not see the grid before it is read, nor the least grade of the search with it
+        with self.lock:
+            least = self.found.grade + 1 if self.found else self.least
+            self.session.least(least)
+            lines = slices.run(lambda placements: self.session.line(f"best {placements} {self.seed} {self.named}"))
+            answer = dict(line.partition(" ")[::2] for line in lines)
+            self.bound = min(self.bound, least if "nofill" in answer else int(answer["bound"]))
+            if "filled" not in answer:
+                return False
+            self.found = Best(int(answer["least"]), self.bound, self.session.rows())
+            self.session.least(self.least)
+            return True
 
     def enter(self, rows: Tuple[str, ...]) -> None:
         """Makes the letters of the grid those of these rows."""
-        for row, (now, wanted) in enumerate(zip(self.session.rows(), rows), 1):
-            for column, (old, new) in enumerate(zip(now, wanted), 1):
-                if new == "-" != old:
-                    self.session.clear(row, column)
-                elif new != old:
-                    self.session.set(row, column, new)
+        with self.lock:
+            for row, (now, wanted) in enumerate(zip(self.session.rows(), rows), 1):
+                for column, (old, new) in enumerate(zip(now, wanted), 1):
+                    if new == "-" != old:
+                        self.session.clear(row, column)
+                    elif new != old:
+                        self.session.set(row, column, new)
