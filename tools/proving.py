@@ -14,6 +14,7 @@ import sys
 import threading
 import time
 from concurrent import futures
+from shlex import quote
 
 TOP = pathlib.Path(os.path.realpath(__file__)).parent.parent
 OUT = TOP / "crates/xw/out"
@@ -109,8 +110,8 @@ def keeping_toolchain():
     shutil.copytree(tools, folder, copy_function=os.symlink)
     clang = folder / "bin/clang"
     clang.unlink()
-    keeps = f'for word; do case $word in *.bc) cp "$word" "{MODULE}" ;; esac; done'
-    clang.write_text(f'#!/bin/sh\n{keeps}\nexec "{tools}/bin/clang" "$@"\n')
+    keeps = f'for word; do case $word in *.bc) cp "$word" {quote(str(MODULE))} ;; esac; done'
+    clang.write_text(f'#!/bin/sh\n{keeps}\nexec {quote(f"{tools}/bin/clang")} "$@"\n')
     clang.chmod(0o755)
     return folder
 

@@ -8,6 +8,8 @@ mod rows;
 #[cfg(test)]
 mod searching;
 #[cfg(test)]
+mod ticks;
+#[cfg(test)]
 mod words;
 #[cfg(test)]
 mod writing;
