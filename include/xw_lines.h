@@ -13,7 +13,7 @@
  *     }
  *     xw_forget(&asked);
  *
- * SEARCHING. xw_autofill and xw_best search in slices of some 0.1 s. Between two of them they call a function of yours, which can end them:
+ * SEARCHING. xw_autofill and xw_best search in slices of about 0.1 s. Between two of them they call a function of yours, which can end them:
  *
  *     static bool told(void *data, const struct xw_progress *progress) { return stop_was_clicked(data, progress->placements); }
  *
@@ -31,6 +31,7 @@
 
 #include <stdlib.h>
 #include <string.h>
+#include <time.h>
 
 #ifdef __cplusplus
 extern "C" {
@@ -212,12 +213,18 @@ struct xw_progress {
     uint64_t placements;
     /* xw_best: the grade of the worst new word of the best fill so far, if one was found */
     uint32_t worst;
-    /* xw_best: no fill has only words of this grade and better. If it is worst + 1, no fill is better. 101 says nothing */
+    /*
+     * xw_best: there is no fill of which all new words have this grade or a better one. If it is worst + 1, no fill is better. Since no grade is above 100, 101
+     * alone says nothing. A grid that was full has no new word: worst is 100, and bound is 101
+     */
     uint32_t bound;
 };
 
 /* Is told how far a search is, and returns whether it ends here. It must not use the session. */
 typedef bool xw_told(void *data, const struct xw_progress *progress);
+
+/* A time in seconds. */
+typedef double xw_clock(void);
 
 /* What to search for. Begin with XW_SEARCH, and set what differs. */
 struct xw_search {
@@ -229,15 +236,29 @@ struct xw_search {
     uint32_t least;
     /* the names of the lights to fill, as in "1 across 2 down", or "" for all lights */
     const char *lights;
-    /* is called between two slices, unless it is null, with `data` */
+    /* is called between two slices, unless it is null, with `data`. Without it the slices get longer, up to a tenth of the time so far */
     xw_told *told;
     void *data;
+    /* about so many milliseconds pass between two calls of `told`; 0 for 100 */
+    uint32_t every;
+    /* the clock by which slices are measured, or null for that of the system */
+    xw_clock *clock;
 };
 
-#define XW_SEARCH {0, 0, 0, "", NULL, NULL}
+#define XW_SEARCH {0, 0, 0, "", NULL, NULL, 0, NULL}
 
-/* The placements of the first slices, and how many slices later they get twice as many: a slice that is too short for a hard grid never ends the search. */
-enum { XW_SLICE = 1000, XW_SLICES = 5 };
+/* The placements of the first slice, and the fewest of a later one. */
+#define XW_OWN_FIRST 1000
+#define XW_OWN_FEWEST 100
+/* The most in a second: a slice that ended early says little of the next. */
+#define XW_OWN_FASTEST 1e6
+/* How long a slice takes, in seconds. */
+#define XW_OWN_SPAN 0.1
+/*
+ * The part of the time so far that a slice may take where nothing is told between slices. Each slice begins at the grid again, so only a search whose slices grow
+ * is sure to end.
+ */
+#define XW_OWN_PART 0.1
 
 /* A search at work. */
 struct xw_own_work {
@@ -248,10 +269,27 @@ struct xw_own_work {
     /* the line that is sent */
     char *line;
     size_t size;
+    /* the placements of the next slice, and how many seconds the earlier ones took */
+    uint64_t due;
+    double spent;
 };
 
+/* The time by the clock of the search, or of the system. In C99 that is the time of the processor. */
+static inline double xw_own_time(const struct xw_search *search) {
+    if (search->clock)
+        return search->clock();
+#ifdef TIME_UTC
+    {
+        struct timespec now;
+        if (timespec_get(&now, TIME_UTC) == TIME_UTC)
+            return (double)now.tv_sec + (double)now.tv_nsec / 1e9;
+    }
+#endif
+    return (double)clock() / (double)CLOCKS_PER_SEC;
+}
+
 static inline bool xw_own_begin(struct xw_own_work *work, struct xw *xw, const struct xw_search *search) {
-    static const struct xw_own_work none = {NULL, NULL, {XW_LIMIT, 0, 0, 101}, XW_NOT_ASKED, NULL, 0};
+    static const struct xw_own_work none = {NULL, NULL, {XW_LIMIT, 0, 0, 101}, XW_NOT_ASKED, NULL, 0, XW_OWN_FIRST, 0};
     *work = none;
     work->xw = xw;
     work->search = search;
@@ -292,14 +330,31 @@ static inline uint32_t xw_own_send(struct xw_own_work *work, const char *command
     return xw_ask(work->xw, work->line, &work->asked);
 }
 
-/* Sends a slice of a search. Its number grows the slices. */
-static inline uint32_t xw_own_slice(struct xw_own_work *work, const char *command, uint32_t number) {
-    uint64_t due = (uint64_t)XW_SLICE << (number / XW_SLICES < 32 ? number / XW_SLICES : 32), rest = work->search->limit - work->progress.placements;
-    uint64_t numbers[2];
-    numbers[0] = work->search->limit && rest < due ? rest : due;
+/* The placements of the slice after one that took so many seconds: as many as it made in the time of a slice, and at most twice as many as it had. */
+static inline uint64_t xw_own_after(const struct xw_own_work *work, uint64_t placements, double taken) {
+    double span = work->search->every ? (double)work->search->every / 1000 : XW_OWN_SPAN, due = (double)placements * 2;
+    if (!work->search->told && work->spent * XW_OWN_PART > span)
+        span = work->spent * XW_OWN_PART;
+    if (taken > 0 && span / taken < 2)
+        due = (double)placements * (span / taken);
+    if (due > span * XW_OWN_FASTEST)
+        due = span * XW_OWN_FASTEST;
+    return due < XW_OWN_FEWEST ? XW_OWN_FEWEST : (uint64_t)due;
+}
+
+/* Sends a slice of a search, and measures it. */
+static inline uint32_t xw_own_slice(struct xw_own_work *work, const char *command) {
+    uint64_t rest = work->search->limit - work->progress.placements, numbers[2];
+    double began = xw_own_time(work->search), taken;
+    uint32_t status;
+    numbers[0] = work->search->limit && rest < work->due ? rest : work->due;
     numbers[1] = work->search->seed;
     work->progress.placements += numbers[0];
-    return xw_own_send(work, command, numbers, 2, work->search->lights);
+    status = xw_own_send(work, command, numbers, 2, work->search->lights);
+    taken = xw_own_time(work->search) - began;
+    work->spent += taken;
+    work->due = xw_own_after(work, numbers[0], taken);
+    return status;
 }
 
 /* Whether a search that has decided nothing ends after a slice: its placements are used up, or the caller ends it. */
@@ -318,10 +373,10 @@ static inline bool xw_own_is_over(const struct xw_own_work *work) {
  */
 static inline uint32_t xw_autofill(struct xw *xw, const struct xw_search *search, struct xw_progress *progress) {
     struct xw_own_work work;
-    uint32_t status = xw_own_begin(&work, xw, search) ? XW_ACCEPTED : XW_MEMORY, number = 0;
+    uint32_t status = xw_own_begin(&work, xw, search) ? XW_ACCEPTED : XW_MEMORY;
     while (status == XW_ACCEPTED) {
         struct xw_span answer, line;
-        status = xw_own_slice(&work, "autofill", number++);
+        status = xw_own_slice(&work, "autofill");
         answer = work.asked.answer;
         if (status == XW_ACCEPTED && xw_next_line(&answer, &line))
             work.progress.found = xw_is(line, "filled") ? XW_FILLED : xw_is(line, "nofill") ? XW_NOFILL : XW_LIMIT;
@@ -424,10 +479,10 @@ static inline bool xw_own_is_proved(const struct xw_progress *progress) {
 
 /* Searches for better and better fills. Between two slices the grid is as it was at the start. `best` gets the cells of the best fill. */
 static inline uint32_t xw_own_climb(struct xw_own_work *work, const struct xw_own_cells *start, struct xw_own_cells *best) {
-    uint32_t status = XW_ACCEPTED, number = 0;
+    uint32_t status = XW_ACCEPTED;
     do {
         uint32_t least = work->progress.found == XW_FILLED ? work->progress.worst + 1 : work->search->least;
-        if ((status = xw_own_set_least(work, least)) != XW_ACCEPTED || (status = xw_own_slice(work, "best", number++)) != XW_ACCEPTED)
+        if ((status = xw_own_set_least(work, least)) != XW_ACCEPTED || (status = xw_own_slice(work, "best")) != XW_ACCEPTED)
             return status;
         if (xw_own_read_best(work, least)) {
             if ((status = xw_own_copy_cells(work, best)) != XW_ACCEPTED || (status = xw_own_turn(work, best, start)) != XW_ACCEPTED)

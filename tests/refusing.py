@@ -290,7 +290,9 @@ class Call:
         ample = self.wanted(indices)
         compare(what + "status", status, FAILED)
         told = errors.replace(MESSAGE, b"") if self.writes_both else errors.removesuffix(MESSAGE)
-        assert ample[2].startswith(told), f"{what}messages {errors!r}"
+        # where the session is not saved, no old file of it is kept
+        is_told = ample[2].startswith(told) or self.writes_both and ample[2].endswith(told)
+        assert is_told, f"{what}messages {errors!r}"
         if output:
             compare(what + "other answers", [it for it in answers_of(output) if it != REFUSAL], answers_of(ample[1]))
         for name, data in left.items():

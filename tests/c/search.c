@@ -3,8 +3,9 @@
  *
  *   search WORDS RECORD autofill|best LIMIT STOP SEED [LIGHTS]
  *
- * The search is ended when the function has been called STOP times; 0 for never. It runs in a copy of the session, whose first is closed. The last lines are how
- * the search ended, and the grid.
+ * By the clock of the search each slice takes as long as it may, and each fifth half as long, so that slices have twice as many placements after every five; with
+ * the variable PACE each takes so many milliseconds. The search is ended when the function has been called STOP times; 0 for never. It runs in a copy of the
+ * session, whose first is closed. The last lines are how the search ended, and the grid.
  */
 #include <xw_lines.h>
 
@@ -19,6 +20,17 @@ static bool told(void *data, const struct xw_progress *progress) {
     struct steps *steps = (struct steps *)data;
     printf("%llu %d %u\n", (unsigned long long)progress->placements, progress->found == XW_FILLED ? (int)progress->worst : -1, (unsigned)progress->bound);
     return steps->is_counted && --steps->left == 0;
+}
+
+/* How long a slice may take, in milliseconds. */
+#define SPAN 125.0
+
+/* A clock that is read when a slice begins, and when it ends; it begins at 0 with each slice. */
+static double paced(void) {
+    static unsigned reads = 0;
+    const char *pace = getenv("PACE");
+    double span = pace ? atof(pace) : reads % 10 == 9 ? SPAN / 2 : SPAN;
+    return reads++ % 2 ? span / 1000 : 0;
 }
 
 /* The bytes of a file, which the caller frees; null if it cannot be read. */
@@ -64,6 +76,8 @@ int main(int count, char **words) {
     search.seed = (uint32_t)atoi(words[6]);
     search.lights = count > 7 ? words[7] : "";
     search.told = told;
+    search.clock = paced;
+    search.every = getenv("PACE") ? 0 : (uint32_t)SPAN;
     search.data = &steps;
     if (status == XW_ACCEPTED)
         status = strcmp(words[3], "best") ? xw_autofill(&xw, &search, &progress) : xw_best(&xw, &search, &progress);

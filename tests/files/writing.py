@@ -17,6 +17,8 @@ def written(name, typed, data):
 def unwritten(name, typed, fault, location=None):
     """Changes the plain puzzle by some commands, and checks why it is not written."""
     errors = explained(name, fault, location).encode()
+    # no file keeps the session
+    errors += b"xw: the session is not kept; --save or --journal keeps it\n" if fault == "NotFilled" else b""
     return [write("plain", PLAIN), run(f"edit --explain --from plain --to {name}", typed, b"ok\n" * typed.count(b"\n"), errors, FORMAT)]
 
 

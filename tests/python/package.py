@@ -1,23 +1,39 @@
 """Tests of the Python package beside its answers: texts, what a session takes, searches that are left, and the examples of docs/python.md.
 
-python3 tests/python/package.py WHEEL
+python3 tests/python/package.py WHEEL [TEST..]
 
-The package and its library are found by PYTHONPATH and XW_LIBRARY; WHEEL is unpacked and used without them. The last line is 'N passed, M failed'.
+The package and its library are found by PYTHONPATH and XW_LIBRARY; WHEEL is unpacked and used without them. All tests are run, or the named ones. One that needs
+something that is not installed is skipped. The last line is 'N passed, M failed', and ', K skipped' follows if tests were skipped.
 """
+import concurrent.futures
+import copy
 import doctest
 import inspect
 import os
 import pathlib
+import pickle
+import re
+import shutil
+import signal
 import subprocess
 import sys
 import tempfile
+import threading
+import time
 import traceback
 import zipfile
 
 import xw
+import xw.slices
 from xw import Entry, Fault, Light, Refusal, Session
 
+sys.dont_write_bytecode = True
 TOP = pathlib.Path(__file__).resolve().parents[2]
+sys.path.insert(0, str(TOP / "tests"))
+
+from counts import last_line
+from needs import Skipped, needs
+
 SQUARE = ["as", "at", "so", "to"]
 # grades with which the best fill of a square has the worst word 60
 GRADED = [("as", 90), ("at", 80), ("so", 60), ("to", 70), ("ti", 50), ("si", 40)]
@@ -63,6 +79,17 @@ def strange_texts_are_not_sent():
 
 
 @test
+def texts_with_a_nul_change_nothing():
+    session = square()
+    session.title("One")
+    session.clue("1 across", "First")
+    for text in ("\0", "x" * 2000 + "\0", "x" * 1499 + "\0" + "x" * 3000):
+        raises(Refusal, lambda: session.title(text), name="NulByte")
+        raises(Refusal, lambda: session.clue("1 across", text), name="NulByte")
+        assert session.texts() == {"title": "One", "1 across": "First"}, len(text)
+
+
+@test
 def texts_come_back():
     session = square()
     for text in ("", " a\tb ", "one\ntwo\\n", "x" * 5000, " " * 4000, "\n" * 4000, "a\\" * 3000):
@@ -80,6 +107,52 @@ def lists_are_taken_in_each_form(room):
         session = Session(words)
         session.least(51)
         assert session.match("..") == ["AS"], words
+
+
+@test
+def open_files_and_mappings_are_lists(room):
+    (room / "list.txt").write_bytes(b"as;90\r\nat\n")
+    for mode in ("r", "rb"):
+        with open(room / "list.txt", mode) as file:
+            assert Session(file).listed == (2, 0), mode
+    with open(room / "list.txt") as file:
+        session = Session(line for line in file)
+    session.least(51)
+    assert session.match("..") == ["AS"] and session.listed == (2, 0)
+    session = Session({"as": 90, "at": 40})
+    session.least(41)
+    assert session.match("..") == ["AS"]
+
+
+@test
+def words_are_counted():
+    # the example of docs/formats.md, "Word lists"
+    assert Session(b"CAT;50\nco-t\n\nx\ncat\nDOG;x\n").listed == (3, 3)
+    assert Session().listed == (0, 0) and Session(b"\n").listed == (0, 1) and Session(b"\xef\xbb\xbfcat").listed == (1, 0)
+    longest = "a" * 255
+    assert Session([longest, longest + "a", "a", "caf\u00e9", "as", "AS", ("at", 0)]).listed == (3, 4)
+    session = Session(["as", "at"], record=b"strike as\nadd so\n")
+    assert session.listed == (2, 0) and session.match("..") == ["AT", "SO"]
+
+
+@test
+def what_is_no_list_is_refused(room):
+    (room / "list.txt").write_bytes(b"as\n")
+    for words in (str(room / "list.txt"), "cat"):
+        raises(ValueError, lambda: Session(words), args=(f"words is the string {words!r}, which has no line; pass pathlib.Path(...) for a file",))
+    raises(ValueError, lambda: Session(puzzle="a.puz"))
+    raises(FileNotFoundError, lambda: Session(room / "none.txt"))
+    for grade in (200, -1, 101, "x", "50", 50.5, None):
+        told = f"the grade of 'cat' is {grade!r}, which is not a whole number from 0 to 100"
+        raises(ValueError, lambda: Session(["as", ("cat", grade)]), args=(told,))
+        raises(ValueError, lambda: Session({"cat": grade}), args=(told,))
+    for item in (5, None, b"cat", ("cat",), ("cat", 5, 6), (5, "cat"), ["cat", 5]):
+        raises(TypeError, lambda: Session([item]), args=(f"{item!r} is neither a string nor a tuple of a string and a grade",))
+    for item, word in (("cat\ndog", "cat\ndog"), (("cat\n", 5), "cat\n"), (("cat;9", 5), "cat;9")):
+        raises(ValueError, lambda: Session([item]), args=(f"{word!r} is not one word",))
+    for number in (5, [1, 2]):
+        raises(TypeError, lambda: Session(record=number))
+    assert Session([("cat", 0), ("cot", 100)]).listed == (2, 0) and Session("").listed == (0, 0)
 
 
 @test
@@ -147,6 +220,20 @@ def best_is_left():
 
 
 @test
+def full_grids_are_their_own_fills():
+    session = square([("as", 90), ("at", 80), ("so", 60), ("to", 70)])
+    session.fill(9)
+    rows = session.rows()
+    # docs/commands.md, `best`: no word is new then, so the grade is 100 if no cell is empty
+    assert list(session.best()) == [(100, 101, rows)] and session.rows() == rows and next(session.best()).is_best
+    # words that were entered are not judged, but no fill has one twice
+    session.set(1, 1, "x")
+    assert list(session.best()) == [(100, 101, ("X" + rows[0][1], rows[1]))]
+    session.set(2, 1, session.rows()[0][1])
+    assert list(session.best()) == []
+
+
+@test
 def progress_ends_a_search():
     told = []
     session = Session(["cat", "cot", "dog", "tag"])
@@ -154,14 +241,193 @@ def progress_ends_a_search():
     assert told in ([], [1000]), told
 
 
+class Searched(Session):
+    """A session whose searches find nothing: it notes the placements of each, which takes so many seconds by the clock of the slices."""
+
+    def __init__(self, seconds_of):
+        super().__init__()
+        self.seconds_of, self.sent, self.now = seconds_of, [], 0.0
+        xw.slices.clock = lambda: self.now
+
+    def line(self, command):
+        if not command.startswith(("autofill", "best")):
+            return super().line(command)
+        self.sent.append(int(command.split()[1]))
+        self.now += self.seconds_of(self.sent[-1])
+        return ["limit", "bound 101"][: 1 + command.startswith("best")]
+
+
+def searched(seconds_of, kind, **options):
+    """What a search of such a session sends."""
+    session = Searched(seconds_of)
+    try:
+        if kind == "best":
+            assert not list(session.best(**options))
+        else:
+            assert session.autofill(**options) == "limit"
+    finally:
+        xw.slices.clock = time.monotonic
+    return session.sent
+
+
+@test
+def slices_take_a_tenth_of_a_second():
+    watched = {"limit": 200_000, "progress": lambda told: False}
+    for kind in ("autofill", "best"):
+        # a slow grid, one with 12,500 placements a second, and a fast one: the slices grow twofold at most
+        assert set(searched(lambda placements: placements / 4000, kind, **watched)) == {1000}
+        sent = searched(lambda placements: placements / 12500, kind, **watched)
+        assert set(sent[1:-1]) == {1250} and sent[0] == 1000 and sum(sent) == 200_000
+        sent = searched(lambda placements: placements / 64000, kind, **watched)
+        assert sent[:6] == [1000, 2000, 4000, 6400, 6400, 6400] and max(sent) == 6400 and sum(sent) == 200_000
+        assert searched(lambda placements: placements / 8000, kind, **{**watched, "every": 0.5})[:4] == [1000, 2000, 4000, 4000]
+    # a slice that took long is followed by a short one, and one that took no time by one of twice as many
+    times = iter([0.05, 0.4, 0, 0.1, 0.1])
+    assert searched(lambda placements: next(times), "autofill", limit=6500, progress=lambda told: False) == [1000, 2000, 1000, 2000, 500]
+    # a search that ends at once never gets slices that would take long if the next one did not
+    assert max(searched(lambda placements: 0, "autofill", limit=10**7, progress=lambda told: False)) == 100_000
+
+
+@test
+def slices_that_nothing_is_told_grow_with_the_time():
+    for kind in ("autofill", "best"):
+        sent = searched(lambda placements: placements / 10000, kind, limit=2_000_000)
+        for number, placements in enumerate(sent[:-1]):
+            before = sum(sent[:number])
+            assert placements <= max(1000, before / 10 + 1), (kind, number, placements)
+        assert max(sent) > 100_000 and sum(sent) == 2_000_000
+
+
+@test
+def an_interrupt_ends_a_search():
+    """Without `progress` too: it comes between two slices, and the grid is as it was."""
+
+    def interrupted(placements):
+        if len(session.sent) == 2:
+            signal.raise_signal(signal.SIGINT)
+        return 0.1
+
+    for call in (lambda: session.autofill(10**6), lambda: list(session.best(10**6))):
+        session = Searched(interrupted)
+        session.set(1, 1, "a")
+        try:
+            raises(KeyboardInterrupt, call)
+        finally:
+            xw.slices.clock = time.monotonic
+        assert session.sent == [1000, 1000] and session.rows()[0] == "A" + "-" * 14
+
+
 @test
 def sessions_are_closed():
     with square() as session:
-        pass
+        assert not session.closed
+        fills = session.best()
+        next(fills)
+    assert session.closed
     session.close()
-    for call in (session.show, session.record, session.to_puz):
+    calls = [session.show, session.record, session.to_puz, session.to_text, session.texts, session.lights, session.autofill, session.best]
+    calls += [lambda: session.set(1, 1, "a"), lambda: session.title("x"), lambda: session.clue("1 across", "x"), lambda: session.line("")]
+    for call in [*calls, lambda: session.answer(b"show"), lambda: session.fill(9), lambda: next(fills)]:
         raises(Fault, call, status="Closed")
+    # a generator that is left after its session says nothing
+    left = square().best()
+    next(left)
+    left.gi_frame.f_locals["self"].session.close()
+    left.close()
     raises(ValueError, lambda: square().line("show\nshow"))
+
+
+@test
+def sessions_are_not_copied():
+    session = square()
+    session.set(1, 1, "a")
+    told = "a session cannot be copied or pickled; open another one by Session(words, record=session.record())"
+    for call in (copy.copy, copy.deepcopy, pickle.dumps):
+        raises(TypeError, lambda: call(session), args=(told,))
+    assert session.rows() == ("A-", "--") and Session(SQUARE, record=session.record()).rows() == ("A-", "--")
+
+
+def refused(name, command):
+    """Raises a refusal, in a worker."""
+    raise Refusal(name, command)
+
+
+def at_fault(status, message):
+    raise Fault(status, message)
+
+
+@test
+def errors_are_pickled():
+    for error, text in ((Refusal("NoLight", "clue 9 down x"), "NoLight: clue 9 down x"), (Fault("Closed"), "Closed"), (Fault("Full", "a list"), "Full: a list")):
+        for other in (copy.copy(error), copy.deepcopy(error), *(pickle.loads(pickle.dumps(error, it)) for it in range(pickle.HIGHEST_PROTOCOL + 1))):
+            assert (type(other), str(other), vars(other)) == (type(error), text, vars(error)), other
+    with concurrent.futures.ProcessPoolExecutor(1) as pool:
+        raises(Refusal, pool.submit(refused, "OnBlock", "set 1 1 A").result, name="OnBlock", command="set 1 1 A")
+        raises(Fault, pool.submit(at_fault, "NotFilled", "").result, status="NotFilled", message="")
+
+
+@test
+def versions_are_those_of_the_sources():
+    (version,) = re.findall('^pub const VERSION: &str = "(.*)";$', (TOP / "crates/xw_commands/src/version.rt").read_text(), re.M)
+    assert xw.version() == version
+
+
+def in_threads(*calls):
+    """Runs calls side by side, and raises what one of them raises."""
+    with concurrent.futures.ThreadPoolExecutor(len(calls)) as pool:
+        for done in [pool.submit(call) for call in calls]:
+            done.result()
+
+
+@test
+def threads_get_their_own_answers():
+    session = square()
+
+    def asks(command, answer):
+        for _ in range(2000):
+            assert session.line(command) == answer, command
+
+    before = sys.getswitchinterval()
+    sys.setswitchinterval(1e-6)
+    try:
+        in_threads(lambda: asks("match a.", ["AS", "AT"]), lambda: asks("match .o", ["SO", "TO"]), lambda: asks("letters 1 1", ["A"]))
+    finally:
+        sys.setswitchinterval(before)
+    # a text of many pieces is set whole
+    texts = [letter * 9000 for letter in "abc"]
+    in_threads(*(lambda text=text: [session.notes(text) for _ in range(20)] for text in texts))
+    assert session.texts()["notes"] in texts
+
+
+@test
+def threads_ask_between_slices():
+    """Another thread is answered while a search goes on."""
+    session, answered, told = Searched(lambda placements: 0.1), threading.Event(), []
+    searched = session.line
+
+    def line(command):
+        # a call of the library lets other threads run
+        with session._handle.lock:
+            time.sleep(0.001)
+            return searched(command)
+
+    def asks():
+        while not told:
+            pass
+        for _ in range(20):
+            session.answer(b"show")
+        answered.set()
+
+    def progress(step):
+        told.append(step)
+        return answered.is_set() or len(told) == 100_000
+
+    session.line = line
+    try:
+        in_threads(asks, lambda: session.autofill(progress=progress))
+    finally:
+        xw.slices.clock = time.monotonic
+    assert len(told) < 100_000
 
 
 @test
@@ -208,18 +474,9 @@ def mappings_are_puzzles():
     raises(Fault, lambda: Session(puzzle=puzzle), status="BadCell")
 
 
-def runs(tool):
-    try:
-        return not subprocess.run([tool, "--version"], capture_output=True).returncode
-    except OSError:
-        return False
-
-
 @test
 def package_is_typed():
-    if not runs("mypy"):
-        print("left out: the types, since there is no mypy")
-        return
+    needs("mypy")
     ended = subprocess.run(["mypy", "--strict", "--cache-dir", os.devnull, TOP / "python/xw"], capture_output=True, text=True)
     assert not ended.returncode, ended.stdout
 
@@ -232,33 +489,42 @@ def documents_run():
 
 @test
 def wheel_stands_alone(room, wheel):
+    """The package of the wheel is used outside the checkout, with the document and the example as they are installed."""
     with zipfile.ZipFile(wheel) as archive:
         archive.extractall(room / "site")
     (room / "list.txt").write_text("".join(f"{word};{grade}\n" for word, grade in GRADED))
     (room / "grid.xw").write_text("size 2 2\n")
+    (room / "doc/examples").mkdir(parents=True)
+    shutil.copy(TOP / "docs/python.md", room / "doc")
+    (example,) = re.findall(r"\bexamples/\w+\.py", (TOP / "docs/python.md").read_text())
+    shutil.copy(TOP / example, room / "doc/examples")
     bare = {name: value for name, value in os.environ.items() if name not in ("PYTHONPATH", "XW_LIBRARY", "LD_LIBRARY_PATH")}
     code = "import xw, sys; print(xw.version(), xw.__file__)"
     called = lambda *words: subprocess.run([sys.executable, *words], cwd=room, env={**bare, "PYTHONPATH": str(room / "site")}, capture_output=True, text=True)
     assert called("-c", code).stdout.split() == [*xw.version().split(), str(room / "site/xw/__init__.py")]
-    filled = called(TOP / "examples/fill.py", "list.txt", "grid.xw", "--puz", "made.puz")
+    told = called("-m", "doctest", room / "doc/python.md")
+    assert told.returncode == 0, told.stdout
+    filled = called(room / "doc" / example, "list.txt", "grid.xw", "--puz", "made.puz")
     assert filled.returncode == 0 and (room / "made.puz").stat().st_size, filled.stderr
 
 
-def main(wheel):
-    passed = failed = 0
-    for test in TESTS:
+def main(wheel, *names):
+    passed = failed = skipped = 0
+    for test in (it for it in TESTS if not names or it.__name__ in names):
         with tempfile.TemporaryDirectory() as folder:
             there = {"room": pathlib.Path(folder), "wheel": wheel}
             try:
                 test(**{name: there[name] for name in inspect.signature(test).parameters})
                 passed += 1
+            except Skipped as reason:
+                skipped += 1
+                print(f"skipped: {test.__name__}: {reason}")
             except Exception:
                 failed += 1
                 print(f"FAILED: {test.__name__}\n{traceback.format_exc()}")
-    print(f"{passed} passed, {failed} failed")
+    print(last_line(passed, failed, skipped))
     return failed
 
 
 if __name__ == "__main__":
-    sys.dont_write_bytecode = True
-    sys.exit(bool(main(sys.argv[1])))
+    sys.exit(bool(main(*sys.argv[1:])))

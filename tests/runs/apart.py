@@ -4,10 +4,10 @@ import os
 import threading
 
 from samples import PLAIN, TEXT
-from steps import ACCEPTED, FAILED, FIRST, REFUSED, USAGE, absent, compare, holds, link, run, run_between, write
+from steps import ACCEPTED, FAILED, FIRST, REFUSED, SECONDS, USAGE, absent, compare, holds, link, run, run_between, write
 
 from runs.journals import Session, record
-from runs.refused_lines import LIST, LOADED, MINE, UNKNOWN, WITHOUT, backed_up
+from runs.refused_lines import LIST, LOADED, MINE, UNKNOWN, WITHOUT, backed_up, unread_kept
 from runs.replacing import folder, is_link, is_none, set_mode
 
 OLD = b"what stood there"
@@ -68,13 +68,17 @@ def is_unwritable(name, *steps):
     return step
 
 
+LEFT = b"xw: inner/mine.xw: not saved; the session is kept as mine.xw~\n"
+
+
 def loses_its_folder(room, program):
     """The folder of the session goes while it runs: it cannot be saved, and the puzzle is written all the same."""
     session = Session(room, program, "edit --save inner/mine.xw --to new.txt")
     for line in (b"size 2 1", b"place 1 across AT", b"clue 1 across a"):
         session.ask(line, b"ok\n")
     (room / "inner").rmdir()
-    compare("end", session.end(), (b"", b"xw: inner/mine.xw: cannot write\n", FAILED))
+    compare("end", session.end(), (b"", LEFT + b"xw: inner/mine.xw: cannot write\n", FAILED))
+    assert (room / "mine.xw~").read_bytes().startswith(FIRST)
     assert b"<GRID>" in (room / "new.txt").read_bytes()
 
 
@@ -83,7 +87,7 @@ def loses_its_folder_unfilled(room, program):
     session = Session(room, program, "edit --save inner/mine.xw --to new.puz")
     session.ask(b"size 2 1", b"ok\n")
     (room / "inner").rmdir()
-    compare("end", session.end(), (b"", b"xw: inner/mine.xw: cannot write\nxw: new.puz: NotFilled\n", FAILED))
+    compare("end", session.end(), (b"", LEFT + b"xw: inner/mine.xw: cannot write\nxw: new.puz: NotFilled\n", FAILED))
     compare("new.puz exists", (room / "new.puz").exists(), False)
 
 
@@ -157,14 +161,17 @@ def is_in_use(words, name, typed=b"size 9 9\n"):
 
 
 def is_piped(words, wanted, errors=b""):
-    """Runs the program while a thread reads the pipe `pipe`, which is opened and written once."""
+    """Runs the program while a thread reads the pipe `pipe`, which is open to read before and is written once."""
 
     def step(room, program):
         found = []
-        reader = threading.Thread(target=lambda: found.append((room / "pipe").read_bytes()), daemon=True)
+        # The first read must wait for the program to write.
+        both_ends = os.open(room / "pipe", os.O_RDWR)
+        reader = threading.Thread(target=lambda: found.append(os.read(both_ends, 100_000)), daemon=True)
         reader.start()
         run(words, errors=errors)(room, program)
-        reader.join(10)
+        reader.join(SECONDS)
+        os.close(both_ends)
         compare("what the pipe had", found, [wanted])
 
     return step
@@ -229,7 +236,11 @@ CASES = {
         link("l", "inner/y"),
         run("edit --to y --save inner/y", b"size 2 1\nplace 1 across AT\nclue 1 across a\n", b"ok\nok\nok\n"),
         holds("inner/y", record(b"set 1 1 A\n", b"set 1 2 T\n").replace(b"watch", b"text clue 1 1 across a\nwatch")),
-        run("edit --journal other/y --save l --to inner/z", b"size 2 1\nplace 1 across AT\nclue 1 across a\n", b"ok\nok\nok\n"),
+        run(
+            "edit --journal other/y --save l --to inner/z",
+            b"size 2 1\nplace 1 across AT\nclue 1 across a\n",
+            b"ok\nok\nok\n",
+        ),
         is_link("l"),
     ],
     # What becomes one file only while the session runs is seen before it is replaced.
@@ -248,10 +259,11 @@ CASES = {
         changes_before_the_end(
             "edit --to t --save s",
             hard_link("t", "s"),
-            errors=b"xw: s: the puzzle and the session cannot be written into one file\n",
+            errors=unread_kept("s") + b"xw: s: the puzzle and the session cannot be written into one file\n",
             status=USAGE,
         ),
         holds("t", OLD),
+        holds("s~", OLD),
     ],
     "one_file_at_the_end, the list": [
         write("d", b"AT\n"),
@@ -364,7 +376,8 @@ CASES = {
         # It may be what the session begins with.
         write("k.xw~", MINE),
         LIST,
-        run("edit --dict words.txt --resume k.xw~ --save k.xw", errors=LOADED),
+        run("edit --dict words.txt --resume k.xw~ --save k.xw", errors=LOADED + unread_kept("k.xw", 2)),
+        holds("k.xw~2", MINE),
         holds("k.xw", record(words=b"add OX\nstrike AT\n")),
         holds("k.xw~", MINE),
     ],
@@ -466,6 +479,13 @@ CASES = {
             run("edit --resume mine.xw --save other.xw", b"show\n", b"- -\nok\n"),
             holds("other.xw", record()),
         )
+    ],
+    # A pipe that nobody reads is not waited for.
+    "no_file, a pipe without a reader": [
+        write("plain.puz", PLAIN),
+        lambda room, program: os.mkfifo(room / "pipe"),
+        run("convert plain.puz pipe", errors=b"xw: pipe: cannot write\n", status=FAILED),
+        run("edit --from plain.puz --to pipe", errors=b"xw: pipe: cannot write\n", status=FAILED),
     ],
     # Anything but a regular file is written in place, as before.
     "no_file": [

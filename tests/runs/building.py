@@ -35,10 +35,13 @@ COMPLETIONS = {
     "_xw": "zsh/site-functions/_xw",
     "xw.fish": "fish/vendor_completions.d/xw.fish",
 }
-# the documents that others cite are installed too
+# the documents that others cite are installed too, with their pictures
 MANUAL = ("commands.md", "embedding.md", "formats.md", "front-ends.md", "glossary.md", "performance.md", "promises.md", "python.md",
-          "setters.md", "DECISIONS.md")
-EXAMPLES = ("board.py", "library.py", "race.py", "search.mjs", "search.py", "test_board.py", "themeless15.xw")
+          "setters.md", "editor.png", "DECISIONS.md")
+# the examples that are programs are installed as such
+PROGRAMS = ("board.py", "fill.py", "library.py", "race.py", "search.py", "test_board.py")
+FOLDERS = ("grids", "puzzles")
+EXAMPLES = (*PROGRAMS, "search.mjs", "themeless15.xw", *(str(it.relative_to(TOP / "examples")) for name in FOLDERS for it in (TOP / "examples" / name).iterdir()))
 
 
 def tree(room, program):
@@ -217,6 +220,35 @@ def installs(room, program):
     compare("program", subprocess.run([stage / "bin/xw"], capture_output=True, check=True).stdout, b"built\n")
 
 
+def installs_for_everyone(room, program):
+    """Everyone can enter the folders and read the files, whatever the mask of the user is."""
+    call(room, "program", capture_output=True, check=True)
+    ended = call(room, "install", "/usr/local", env={"DESTDIR": str(room / "stage")}, capture_output=True, umask=0o077)
+    compare("status", ended.returncode, ACCEPTED)
+    modes = {str(it.relative_to(room)): it.stat().st_mode & 0o777 for it in (room / "stage", *(room / "stage").rglob("*"))}
+    programs = ("stage/usr/local/bin/xw", *(f"stage/usr/local/share/doc/xw/examples/{name}" for name in PROGRAMS))
+    odd = {name: oct(mode) for name, mode in modes.items() if mode != (0o755 if (room / name).is_dir() or name in programs else 0o644)}
+    compare("modes", odd, {})
+
+
+def keeps_the_module(room, program):
+    """The module of a library is kept also where the path of the checkout has signs of the shell."""
+    top = room / 'a "$HOME" `x` folder'
+    (room / "top").rename(top)
+    clang = room / "kit/toolchain/bin/clang"
+    clang.parent.mkdir(parents=True)
+    clang.write_text("#!/bin/sh\necho compiled\n")
+    clang.chmod(0o755)
+    (top / "crates/xw/out/made").mkdir(parents=True)
+    (top / "crates/xw_c/out").mkdir(parents=True)
+    (room / "made.bc").write_text("a module")
+    code = "import proving, subprocess, sys; subprocess.run([proving.keeping_toolchain() / 'bin/clang', sys.argv[1]], check=True)"
+    words = [sys.executable, "-B", "-c", code, room / "made.bc"]
+    ended = subprocess.run(words, env={**environment(room), "PYTHONPATH": str(top / "tools")}, capture_output=True, timeout=SECONDS)
+    compare("status, output and messages", (ended.returncode, ended.stdout, ended.stderr), (ACCEPTED, b"compiled\n", b""))
+    compare("module", (top / "crates/xw_c/out/xw.bc").read_text(), "a module")
+
+
 def names_binaryen(room, program):
     """Without wasm-opt a build for the web ends before anything is proved."""
     ended = call(room, "web", env={"PATH": str(python_alone(room))}, capture_output=True)
@@ -238,6 +270,8 @@ CASES = {
         "a build that is stopped": stops,
         "help": explains,
         "install": installs,
+        "install, with a mask": installs_for_everyone,
+        "a path with signs of the shell": keeps_the_module,
         "web without binaryen": names_binaryen,
     }.items()
 }

@@ -118,6 +118,9 @@ def tipped(word, tip):
 # The tip for a file that may be the word list.
 LIST = "to load it as the word list, use '--dict {}'"
 
+# The tip for a file that may be a session.
+SESSION = "to go on with this session, use '--journal {}'"
+
 
 def missing(words, usage):
     return wrong("\n  ".join(["the following required arguments were not provided:", *words]), usage)
@@ -140,6 +143,9 @@ WRONG = {
     "edit words.txt": tipped("words.txt", LIST.format("words.txt")),
     "edit --dict a --sync b": tipped("b", LIST.format("b")),
     "edit mine.puz": tipped("mine.puz", "to start with this puzzle, use '--from mine.puz'"),
+    "edit mine.xw": tipped("mine.xw", SESSION.format("mine.xw")),
+    "edit --dict words.txt old/mine.xw": tipped("old/mine.xw", SESSION.format("old/mine.xw")),
+    "edit xw": tipped("xw", LIST.format("xw")),
     "edit -dict words.txt": tipped("-d", "a similar argument exists: '--dict'"),
     "edit --dict words.txt -journal mine.xw": tipped("-j", "a similar argument exists: '--journal'"),
     # The tip is that of the word that the error names, and of no word behind it.

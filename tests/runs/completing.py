@@ -1,10 +1,10 @@
 """The completions for bash, zsh and fish: they have the commands and options of the help, and puzzles where a puzzle is due."""
 import re
-import shutil
 import subprocess
 
 from documents import TOP
-from steps import SECONDS, LeftOut, call, compare
+from needs import needs
+from steps import SECONDS, call, compare
 
 FILES = TOP / "completions"
 COMMANDS = ("edit", "convert", "check")
@@ -49,11 +49,6 @@ complete-once() {
 zle -N complete-once
 bindkey '^I' complete-once
 """
-
-
-def needs(tool):
-    if not shutil.which(tool):
-        raise LeftOut(f"there is no {tool}")
 
 
 def told(room, *words):

@@ -1,14 +1,14 @@
 """The sessions, the Python and the calls of the documents, read from them."""
 import functools
 import os
-import pathlib
 import re
 import subprocess
 import sys
 from types import SimpleNamespace
 
 from documents import TOP, Manual, Unreadable, answers_in, block, blocks, compare_answers, lines_in, session_of, status_of, text_of, typed
-from steps import ACCEPTED, FORMAT, SECONDS, LeftOut, call, compare
+from needs import PACKAGES, needs
+from steps import ACCEPTED, FORMAT, SECONDS, call, compare
 
 
 # A fill of an open grid of 5 by 5.
@@ -18,17 +18,15 @@ MANUAL = Manual("docs/commands.md", text_of("docs/commands.md"))
 
 
 def session_runs(name):
-    """Runs the calls of the session of a document. It is left out if it reads a word list that is not installed."""
+    """Runs the calls of the session of a document. It is skipped if it reads a word list that is not installed."""
 
     def step(room, program):
         (room / "examples").symlink_to(TOP / "examples")
         for place, words, printed, examples in session_of(block(name, "$ ")):
             if words.startswith("apt-get install "):
-                package = words.removeprefix("apt-get install ")
+                compare(f"{place}: package", words.removeprefix("apt-get install ") in PACKAGES.values(), True)
             elif words.startswith(("grep ", "printf ")):
-                for path in re.findall("/usr/share/dict/[^ ]+", words):
-                    if not pathlib.Path(path).is_file():
-                        raise LeftOut(f"there is no {path}; the package {package} has it")
+                needs(*re.findall("/usr/share/dict/[^ ]+", words))
                 subprocess.run(words, shell=True, cwd=room, env={"PATH": os.defpath}, timeout=SECONDS, check=True)
             elif words.startswith(("xw edit ", "./xw edit ")):
                 ended = call(room, program, words.removeprefix("./").removeprefix("xw "), typed(examples))

@@ -1,10 +1,19 @@
 """Runs with `--explain`, which prints the location of a fault and a sentence that says what it means."""
+import os
+
 from samples import CIRCLED, PLAIN, TEXT, WRONG_SUM
-from steps import FAILED, FORMAT, USAGE, holds, run, write
+from steps import FAILED, FIRST, FORMAT, USAGE, holds, run, write
 
 # The sentences: docs/commands.md, "Where a fault is".
 CUT_OFF = "the file is cut off"
 NO_PUZZLE = "this is no puzzle file"
+# What follows an empty cell if no file keeps the session.
+LOST = "xw: the session is not kept; --save or --journal keeps it\n"
+SESSION = "this is a session; use --resume to go on with it"
+
+
+# The message for an empty grid of a session that is kept.
+EMPTY = b"xw: new.puz: NotFilled\nxw: row 1, column 1\nxw: the grid has empty cells, the first at row 1, column 1; nothing was written\n"
 
 
 def told(data, fault, location, sentence):
@@ -30,6 +39,7 @@ def is_no_command(option, data, line, fault, sentence):
 def is_not_written(file, typed, fault, sentence, location=None):
     """Runs commands on the plain puzzle, and checks the fault of writing it."""
     errors = f"xw: {file}: {fault}\n" + (f"xw: {location}\n" if location else "") + f"xw: {sentence}; nothing was written\n"
+    errors += LOST if fault == "NotFilled" else ""
     output = b"ok\n" * typed.count(b"\n")
     return [
         write("refused", PLAIN),
@@ -103,6 +113,26 @@ CASES = {
     "empty_cell_told": is_not_written("empty.puz", b"clear 2 1\nclear 2 2\n", "NotFilled", "the grid has empty cells, the first at row 2, column 1", "row 2, column 1"),
     "unspelled_clue_told": is_not_written("clue.txt", b"clue 2 down\n", "Field", "the file cannot hold one of the texts", "clue 3 (2 down)"),
     "unspelled_title_told": is_not_written("title.txt", b"title <x>\n", "Field", "the file cannot hold one of the texts", "title"),
+    "empty_cell_told, of a session that is kept": [
+        run(f"edit --explain --to new.puz {kept}", b"size 2 1\n", b"ok\n", EMPTY, FORMAT)
+        for kept in ("--save mine.xw", "--journal mine.journal")
+    ],
+    # A session is no puzzle.
+    "session_told": [
+        step
+        for data in (FIRST + b"size 2 1\n", FIRST, FIRST[:-1], b"\xef\xbb\xbf" + FIRST, FIRST[:-1] + b"\r\n")
+        for step in (
+            *told(data, "Header", "line 1", SESSION),
+            run("edit --explain --from told", errors=f"xw: told: Header\nxw: line 1\nxw: {SESSION}\n".encode(), status=FORMAT),
+        )
+    ],
+    "no_session_told, of another file": told(FIRST[:-2] + b"\n", "Header", "line 1", NO_PUZZLE),
+    # A journal has to be a regular file.
+    "device_told, a pipe as a journal": [
+        lambda room, program: os.mkfifo(room / "pipe"),
+        *fails("edit --journal pipe", "xw: pipe: cannot write\n", "not a regular file"),
+        *fails("edit --journal /dev/null", "xw: /dev/null: cannot write\n", "not a regular file"),
+    ],
     # Lines that are no commands.
     "no_journal_told": is_no_command("--journal", PLAIN, 1, "Command", "this is no journal; nothing in it was changed"),
     "no_list_as_journal_told": is_no_command("--journal", b"cat\ndog\n", 1, "Command", "this is no journal; nothing in it was changed"),

@@ -1,6 +1,8 @@
 """Calls of the system that fail, each in turn: a file is replaced whole or stays as it was, no answered command is lost, and what was not
 done is reported."""
 import errno
+import pathlib
+import re
 
 from failing import ALL, INPUT, OUTPUT, Failing, each_failing
 from samples import PLAIN, TEXT
@@ -19,6 +21,10 @@ NEW_FILE = ".xw-0.new"
 
 def is_reported(call):
     return call.split()[0] in REPORTED and call not in ON_THE_FOLDER
+
+
+def is_statx(call):
+    return call.startswith("statx ")
 
 
 def holds_now(room, name):
@@ -80,15 +86,69 @@ REFUSED_LINE = b"xw: mine.xw: line 3: OutOfGrid\n"
 KEPT_BESIDE = b"xw: mine.xw: refused lines; the old file is kept as mine.xw~\n"
 
 
+def is_left(room, ended, name, session):
+    """Checks the file in which a session is left that is not saved, if the messages name one, and takes both away. Returns whether there
+    was one."""
+    found = re.search(rf"xw: {name}: not saved; the session is kept as (.*)\n".encode(), ended.errors)
+    if found:
+        path = room / found[1].decode()
+        compare(f"{path} after {ended.what}", path.read_bytes(), session)
+        path.unlink()
+        ended.errors = ended.errors.replace(found[0], b"")
+    return found is not None
+
+
+def leaves_none(step):
+    """Takes away the files that a step leaves in /tmp. Where the call fails that removes a new file there, it stays."""
+
+    def stepped(room, program):
+        before = {*pathlib.Path("/tmp").glob("mine.xw~*")}
+        try:
+            step(room, program)
+        finally:
+            for path in {*pathlib.Path("/tmp").glob("mine.xw~*")} - before:
+                path.unlink()
+
+    return stepped
+
+
+UNREAD_KEPT = b"xw: mine.xw: the old file is kept as mine.xw~\n"
+
+
+@leaves_none
+def keeps_a_file_that_is_not_read(room, program):
+    """Saves a session over a file that the call did not read while calls fail: what the file has is never gone, nor is the session if one
+    call fails alone."""
+
+    def run(first, last):
+        put_back(room, {"mine.xw": OLD, "mine.xw~": None, "mine.xw~2": None})
+        return Failing(room, program, "edit --save mine.xw", b"size 2 1\n", first=first, last=last, piece=30)
+
+    for ended in each_failing(run):
+        was_left = is_left(room, ended, "mine.xw", record())
+        is_saved = ended.status == ACCEPTED
+        compare(f"mine.xw after {ended.what}", holds_now(room, "mine.xw"), record() if is_saved else OLD)
+        beside = holds_now(room, "mine.xw~")
+        unkept = (None, b"") if "unlink mine.xw~" in ended.failed else (None,)
+        assert beside == OLD or (beside in unkept and not is_saved), f"mine.xw~ after {ended.what}: {beside}"
+        unsaved = [message("mine.xw", "cannot read"), message("mine.xw", "cannot write"), message("mine.xw~", "cannot write")]
+        unsaved.append(UNREAD_KEPT + unsaved[1])
+        assert ended.errors == UNREAD_KEPT if is_saved else ended.errors in unsaved, f"{ended.what}: {ended.errors}"
+        assert is_saved or was_left or len(ended.failed) > 1 or not ended.output, f"{ended.what}: the session is lost"
+        is_swept(room, ended)
+
+
 def keeps_the_old_file(old):
     """Saves a session into its own file while calls fail: the old lines are never gone."""
 
+    @leaves_none
     def step(room, program):
         def run(first, last):
-            put_back(room, {"mine.xw": MINE, "mine.xw~": old, "mine.xw~2": None})
+            put_back(room, {"mine.xw": MINE, "mine.xw~": old, "mine.xw~2": None, "mine.xw~3": None})
             return Failing(room, program, "edit --resume mine.xw --save mine.xw", first=first, last=last)
 
         for ended in each_failing(run):
+            is_left(room, ended, "mine.xw", record())
             is_saved = ended.status == REFUSED
             compare(f"mine.xw after {ended.what}", holds_now(room, "mine.xw"), record() if is_saved else MINE)
             beside = holds_now(room, "mine.xw~")
@@ -101,8 +161,11 @@ def keeps_the_old_file(old):
             unread, *unwritten = message("mine.xw", "cannot read"), message("mine.xw", "cannot write"), message("mine.xw~", "cannot write")
             # The message has the name that was tried when the call failed.
             unwritten += [message("mine.xw~2", "cannot write")] if old is not None else []
-            unsaved = [unread, unwritten[0], *(REFUSED_LINE + why for why in (unread, *unwritten, told + unwritten[0]))]
-            assert ended.errors == REFUSED_LINE + told if is_saved else ended.errors in unsaved, f"{ended.what}: {ended.errors}"
+            # Where the call fails that tells which file is read, the one that is replaced counts as another.
+            kept_told = [told, told.replace(b"refused lines; ", b"")] if any(map(is_statx, ended.failed)) else [told]
+            unsaved = [unread, unwritten[0], *(REFUSED_LINE + why for why in (unread, *unwritten, *(it + unwritten[0] for it in kept_told)))]
+            saved = [REFUSED_LINE + it for it in kept_told]
+            assert ended.errors in (saved if is_saved else unsaved), f"{ended.what}: {ended.errors}"
             is_swept(room, ended)
 
     return step
@@ -192,6 +255,8 @@ def breaks_off(typed, fault, output, saved, **how):
     """A session whose input or output fails: what was answered until then, and which words it has."""
 
     def step(room, program):
+        # a file that a call does not read is kept
+        (room / "new.xw").unlink(missing_ok=True)
         ended = Failing(room, program, "edit --save new.xw", typed, **how)
         ended.ends(FAILED, output, f"xw: {fault}\n".encode())
         words = [line[4:].decode() for line in holds_now(room, "new.xw").splitlines() if line.startswith(b"add ")]
@@ -272,7 +337,7 @@ CASES = {
         link("two.puz", "real.puz"),
         *(replaces("convert plain.txt one.puz", "real.puz", PLAIN, old, read=["plain.txt"], links=["one.puz", "two.puz"]) for old in (OLD, None)),
     ],
-    "file_replaced, by a session": [replaces("edit --save mine.xw", "mine.xw", record(), OLD, b"size 2 1\n")],
+    "file_replaced, by a session": [keeps_a_file_that_is_not_read],
     "old_file_kept_beside": [keeps_the_old_file(None), keeps_the_old_file(OLD)],
     "line_not_lost, of a new journal": [Journaling(None, FIRST, BEGINNING + MORE, " --sync")],
     "line_not_lost, of an empty journal": [Journaling(b"", FIRST, BEGINNING + MORE, "", piece=12)],

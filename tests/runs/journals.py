@@ -6,7 +6,7 @@ import signal
 import subprocess
 
 from samples import ALL_TEXTS, PLAIN, STARTED, TEXT
-from steps import ACCEPTED, FAILED, FIRST, FORMAT, REFUSED, USAGE, absent, compare, end, exists, holds, link, remove, run, write
+from steps import ACCEPTED, FAILED, FIRST, FORMAT, REFUSED, SECONDS, USAGE, absent, compare, end, exists, holds, link, remove, run, write
 
 from runs.devices import fails
 from runs.replacing import folder, has_mode, is_link, is_no_file, set_mode
@@ -181,6 +181,23 @@ def loses_its_journal(*changes, line=b"set 1 1 A", words="edit --journal mine.xw
     return step
 
 
+def append(name, data):
+    def step(room, program):
+        with open(room / name, "ab") as file:
+            file.write(data)
+
+    return step
+
+
+def writes_messages_into_its_journal(room, program):
+    """The message of the cut line comes into the journal: the shell's `2>>`."""
+    with open(room / "mine.xw", "ab") as messages:
+        streams = {"input": b"set 1 1 A\nset 1 2 B\n", "stdout": subprocess.PIPE, "stderr": messages, "timeout": SECONDS}
+        ended = subprocess.run(["xw", "edit", "--journal", "mine.xw"], executable=program, cwd=room, env={}, **streams)
+    compare("output and status", (ended.stdout, ended.returncode), (b"", FAILED))
+    is_begun_by("mine.xw", FIRST + b"size 2 1\n" + CUT)(room, program)
+
+
 def loses_by_a_search(room, program):
     """The letters of a search are a change, and a search that finds none is no change."""
     session = Session(room, program, "edit --journal mine.xw")
@@ -200,7 +217,8 @@ def loses_a_folder(words, name):
         for line in BEGUN.splitlines():
             session.ask(line, b"ok\n")
         (room / name).rmdir()
-        compare("end", session.end(), (b"", b"xw: inner/new.xw: cannot write\n", FAILED))
+        left = b"xw: inner/new.xw: not saved; the session is kept as new.xw~\n"
+        compare("end", session.end(), (b"", left + b"xw: inner/new.xw: cannot write\n", FAILED))
 
     return step
 
@@ -515,7 +533,17 @@ CASES = {
         holds("new.xw", record(b"set 1 1 A\n", b"set 1 2 T\n")),
         holds("kept.puz", b"old"),
     ],
+    # Another program that writes into the journal itself is noticed by its length, and what it left stays.
+    "replaced, by an empty one in place": [loses_its_journal(write("mine.xw", b""), kept=b"")],
+    "replaced, by an empty one in place, at the end": [loses_its_journal(write("mine.xw", b""), line=None, kept=b"")],
+    "replaced, by a longer one in place": [loses_its_journal(append("mine.xw", b"# a note\n"), kept=FIRST + b"size 2 1\n# a note\n")],
+    "replaced, by a longer one in place, at the end": [
+        loses_its_journal(append("mine.xw", b"set 1 2 B\n"), line=None, kept=FIRST + b"size 2 1\nset 1 2 B\n")
+    ],
+    "replaced, by a message": [write("mine.xw", FIRST + b"size 2 1\nset"), writes_messages_into_its_journal],
     "replaced, and there again": [finds_its_journal_again, holds("mine.xw", record(b"set 1 1 A\n"))],
+    # A byte order mark before the first line is dropped.
+    "begun_behind_a_byte_order_mark": [write("mine.xw", b"\xef\xbb\xbf" + KEPT), grows((b"set 1 2 T", b"ok\n", b"set 1 2 T\n"), begun=KEPT)],
     # Anything but a regular file is refused, and a pipe is not waited for.
     "no_file, a folder": [folder("mine.xw"), cannot_write("mine.xw"), is_no_file("mine.xw")],
     "no_file, a pipe": [pipe("mine.xw"), cannot_write("mine.xw"), is_no_file("mine.xw")],
@@ -616,6 +644,7 @@ CASES = {
                 fails(f"edit --journal mine.xw --save new.xw --to {name}", "input fault", can_be_read=False),
                 holds("mine.xw", LONG + FILLED),
                 holds("new.xw", record(b"set 1 1 A\n", b"set 1 2 T\n")),
+                remove("new.xw"),
             )
         ),
         holds("kept.puz", b"old"),

@@ -1,4 +1,5 @@
 """Word lists, and dictionaries of many words: which lines are words, and where a word stands."""
+from samples import PLAIN
 from steps import REFUSED, run, write
 
 LETTERS = "ABCDEFGHIJKLMNOPQRSTUVWXYZ"
@@ -89,6 +90,7 @@ CASES = {
     "noted, colon": is_noted(b"cat:70\n", 1, 0, graded(0, 1), misplaced("a colon")),
     "noted, other lines": is_noted(b"cat, 70 lives\n70,cat\nno. 1\n", 3, 0, graded(0, 3)),
     "noted, UTF-16": is_noted("cat\n".encode("utf-16"), 0, 2, graded(0, 2), "the list looks like UTF-16; save it as UTF-8"),
+    "noted, a puzzle file": is_noted(PLAIN, 0, 1, graded(0, 1), "this is a puzzle file; use --from to start with it"),
     "noted, UTF-16 without a mark": is_noted("cat".encode("utf-16-be"), 1, 0, graded(0, 1), "the list looks like UTF-16; save it as UTF-8"),
     "noted, carriage returns": is_noted(b"cat\rdog\r", 1, 0, graded(0, 1), "the lines end in carriage returns alone; end them in line feeds"),
     "grades": is_loaded(

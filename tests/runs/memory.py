@@ -225,7 +225,7 @@ FILES = {
     "edits.xw": EDITS,
 }
 
-NEW_PUZ, NEW_TEXT, NEW_XW = {"new.puz": OLD}, {"new.txt": None}, {"new.xw": OLD}
+NEW_PUZ, NEW_TEXT, NEW_XW = {"new.puz": OLD}, {"new.txt": None}, {"new.xw": OLD, "new.xw~": None}
 
 # Each allocation of these calls is refused: the words of the call, the lines that are typed, and the files that it may write.
 CALLS = {

@@ -16,6 +16,11 @@ def backed_up(name, number=""):
     return f"xw: {name}: refused lines; the old file is kept as {name}~{number}\n".encode()
 
 
+def unread_kept(name, number=""):
+    """The message of a file that is kept because the call did not read it."""
+    return f"xw: {name}: the old file is kept as {name}~{number}\n".encode()
+
+
 def loses_its_journal(room, program):
     session = Session(room, program)
     session.ask(b"show", b"- -\nok\n")
@@ -107,11 +112,11 @@ CASES = {
     "saved, into another file": [
         write("mine.xw", MINE),
         write("other.xw", b"old"),
-        run("edit --resume mine.xw --save other.xw", errors=UNKNOWN, status=REFUSED),
+        run("edit --resume mine.xw --save other.xw", errors=UNKNOWN + unread_kept("other.xw"), status=REFUSED),
         holds("mine.xw", MINE),
         holds("other.xw", WITHOUT),
         absent("mine.xw~"),
-        absent("other.xw~"),
+        holds("other.xw~", b"old"),
     ],
     # What is kept is never replaced: the second run of a session without its list keeps another file.
     "saved, twice": [
@@ -158,19 +163,35 @@ CASES = {
         holds("mine.xw~3", MINE + b"place 1 across OX\nclue 1 across an ox\n"),
         run("check mine.xw~2", output=b"text 2x1 1 lights\n"),
     ],
-    # A word that is known already is not lost.
+    # A word that the list has is lost too: it is not in the session that is saved, and the list may be another one next time.
     "saved, a word that is known": [
-        write("mine.xw", FIRST + b"add AT\nadd OX\nsize 2 1\n"),
+        write("mine.xw", FIRST + b"add AT 90\nadd OX\nsize 2 1\n"),
         LIST,
-        run("edit --dict words.txt --resume mine.xw --save mine.xw", errors=LOADED + b"xw: mine.xw: line 2: Known\n", status=REFUSED),
-        holds("mine.xw", record(words=b"add OX\n")),
-        absent("mine.xw~"),
-        write("mine.xw", FIRST + b"add AT\nsize 2 1\nset 9 9 A\n"),
         run(
-            "edit --dict words.txt --resume mine.xw --save mine.xw",
-            errors=LOADED + b"xw: mine.xw: line 2: Known\nxw: mine.xw: line 4: OutOfGrid\n" + backed_up("mine.xw"),
+            "edit --dict words.txt --resume mine.xw --save mine.xw", errors=LOADED + b"xw: mine.xw: line 2: Known\n" + backed_up("mine.xw"), status=REFUSED
+        ),
+        holds("mine.xw", record(words=b"add OX\n")),
+        holds("mine.xw~", FIRST + b"add AT 90\nadd OX\nsize 2 1\n"),
+        run("edit --resume mine.xw~", b"match ..\n", b"AT\nOX\nok\n"),
+    ],
+    "saved, a word that is known, explained": [
+        write("mine.xw", FIRST + b"add AT\nsize 2 1\nset 9 9 A\nadd SO\n"),
+        LIST,
+        run(
+            "edit --dict words.txt --resume mine.xw --save mine.xw --explain",
+            errors=LOADED
+            + b"xw: 0 of 2 lines have a grade\n"
+            + b"xw: mine.xw: line 2: Known\nxw: the list has this word\nxw: mine.xw: line 4: OutOfGrid\n"
+            + b"xw: mine.xw: line 5: Known\nxw: the list has this word\n"
+            + backed_up("mine.xw"),
             status=REFUSED,
         ),
-        holds("mine.xw~", FIRST + b"add AT\nsize 2 1\nset 9 9 A\n"),
+        holds("mine.xw~", FIRST + b"add AT\nsize 2 1\nset 9 9 A\nadd SO\n"),
+    ],
+    "journal, a word that is known": [
+        write("mine.xw", FIRST + b"add AT 90\nsize 2 1\n"),
+        LIST,
+        run("edit --dict words.txt --journal mine.xw", errors=LOADED + b"xw: mine.xw: line 2: Known\n", status=REFUSED),
+        holds("mine.xw", FIRST + b"add AT 90\nsize 2 1\n"),
     ],
 }

@@ -6,7 +6,7 @@ import subprocess
 
 from failing import Failing
 from samples import PLAIN, TEXT
-from steps import ACCEPTED, FAILED, absent, compare, end, holds, link, run, write
+from steps import ACCEPTED, FAILED, SECONDS, absent, compare, end, holds, link, run, write
 
 OLD = b"what stood there"
 
@@ -114,6 +114,37 @@ def is_synced(words, typed=b""):
     return step
 
 
+def writes_what_is_open(open_file, words, wanted, typed=b""):
+    """Runs the program with an open file that has no name, which the words name as NAME. It gets the bytes, and no other file is made."""
+
+    def step(room, program):
+        file = open_file(room)
+        before = sorted(room.iterdir())
+        name = f"/dev/fd/{file}"
+        how = {"input": typed, "capture_output": True, "timeout": SECONDS, "pass_fds": [file]}
+        ended = subprocess.run(["xw", *words.replace("NAME", name).split()], executable=program, cwd=room, env={}, **how)
+        told = ended.stderr.replace(f"xw: {name}: written as text\n".encode(), b"")
+        compare("messages and status", (told, ended.returncode), (b"", ACCEPTED))
+        compare("the open file", os.pread(file, 10_000, 0), wanted)
+        compare("files", sorted(room.iterdir()), before)
+        os.close(file)
+
+    return step
+
+
+def deleted_file(room):
+    (room / "gone").write_bytes(OLD)
+    file = os.open(room / "gone", os.O_RDWR)
+    (room / "gone").unlink()
+    return file
+
+
+def memory_file(room):
+    file = os.memfd_create("made")
+    os.write(file, OLD)
+    return file
+
+
 CASES = {
     # Links are followed: the target is replaced and keeps its mode, and the link stays. A dangling link gets its target
     # created. A loop of links is refused.
@@ -195,6 +226,15 @@ CASES = {
         set_mode("closed/shut", 0o444),
         rights_kept,
     ],
+    # A file without a name is written in place: it has all the bytes, and no file gets the text of its link as a name.
+    **{
+        f"no_name, {kind}": [
+            write("plain.puz", PLAIN),
+            writes_what_is_open(open_file, "convert plain.puz NAME", TEXT),
+            writes_what_is_open(open_file, "edit --from plain.puz --to NAME", TEXT),
+        ]
+        for kind, open_file in (("a deleted file", deleted_file), ("a file in memory", memory_file))
+    },
     # A full device is not a regular file.
     "full_device": [write("plain.puz", PLAIN), is_not_replaced("/dev/full"), is_no_file("/dev/full")],
 }

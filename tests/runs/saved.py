@@ -1,6 +1,11 @@
 """Sessions that are saved and resumed."""
+import os
+
 from samples import PLAIN
-from steps import FAILED, FIRST, FORMAT, REFUSED, USAGE, absent, call, compare, differs, holds, run, write
+from steps import ACCEPTED, FAILED, FIRST, FORMAT, REFUSED, USAGE, absent, call, compare, differs, holds, link, run, write
+
+from runs.journals import Session, record, rename
+from runs.refused_lines import unread_kept
 
 
 def resumed(lines, typed, **wanted):
@@ -99,6 +104,24 @@ def replayed_as_typed(lines, errors):
     return [step]
 
 
+def meanwhile(*changes, words="edit --save mine.xw", errors, status=ACCEPTED):
+    """Does something to files while a session of one line runs, and then ends its input."""
+
+    def step(room, program):
+        session = Session(room, program, words)
+        session.ask(b"size 2 1", b"ok\n")
+        for change in changes:
+            change(room, program)
+        compare("end", session.end(), (b"", errors, status))
+
+    return step
+
+
+MARK = b"\xef\xbb\xbf"
+
+# A session that was saved before.
+MINE = record(b"set 1 1 A\n", b"set 1 2 T\n")
+
 # Lines of the file get no answers. Refused lines are reported with their numbers.
 CASES = {
     # The last line has no LF.
@@ -169,6 +192,14 @@ CASES = {
         word_list_resumed("--resume words.txt --save new.xw"),
         absent("new.xw"),
     ],
+    # A byte order mark before the first line, as some editors add, counts for nothing.
+    "lines_resumed, behind a byte order mark": resumed(MARK + FIRST + b"size 2 1\nset 1 1 A\n", b"show\n", output=b"A -\nok\n"),
+    "lines_resumed, behind a byte order mark, cut": resumed(
+        MARK + FIRST + b"size 2 1\nset 1 1 A\nset 1", b"show\n", output=b"A -\nok\n", errors=b"xw: mine.xw: an incomplete last command is ignored\n"
+    ),
+    "lines_resumed, a byte order mark without the first line": resumed(
+        MARK + b"size 2 1\n", b"show\n", errors=b"xw: mine.xw: line 1: Command\n", status=FORMAT
+    ),
     "session_goes_on": [BEGUN, goes_on_as_saved],
     # A saved session is the first line and the record; the command `record` does not list the first line.
     "first_line": [
@@ -193,7 +224,7 @@ CASES = {
     "sessions_saved": [
         write("plain", PLAIN),
         write("kept.xw", b"old"),
-        run("edit --save kept.xw", b"frob\nadd CAT\n", output=b"no Command\nok\n", status=REFUSED),
+        run("edit --save kept.xw", b"frob\nadd CAT\n", output=b"no Command\nok\n", errors=unread_kept("kept.xw"), status=REFUSED),
         differs("kept.xw", b"old"),
         absent("kept.puz"),
         write("kept.xw", b"old"),
@@ -201,15 +232,107 @@ CASES = {
             "edit --save kept.xw --to kept.puz",
             b"frob\nadd CAT\n",
             output=b"no Command\nok\n",
-            errors=b"xw: kept.puz: NotFilled\n",
+            errors=unread_kept("kept.xw", 2) + b"xw: kept.puz: NotFilled\n",
             status=FORMAT,
         ),
         differs("kept.xw", b"old"),
         absent("kept.puz"),
         write("kept.xw", b"old"),
-        run("edit --from plain --save=kept.xw", b"frob\nadd CAT\n", output=b"no Command\nok\n", status=REFUSED),
+        run("edit --from plain --save=kept.xw", b"frob\nadd CAT\n", output=b"no Command\nok\n", errors=unread_kept("kept.xw", 3), status=REFUSED),
         differs("kept.xw", b"old"),
         absent("kept.puz"),
+    ],
+    # A file that the call did not read is kept, and no file is replaced for this. An empty one is nothing to keep.
+    "unread_kept, a session": [
+        write("mine.xw", MINE),
+        run("edit --save mine.xw", errors=unread_kept("mine.xw")),
+        holds("mine.xw~", MINE),
+        write("mine.xw", b"a letter"),
+        run("edit --save mine.xw", errors=unread_kept("mine.xw", 2)),
+        holds("mine.xw~", MINE),
+        holds("mine.xw~2", b"a letter"),
+        write("mine.xw", b""),
+        run("edit --save mine.xw"),
+        absent("mine.xw~3"),
+    ],
+    "unread_kept, by a link": [
+        write("mine.xw", MINE),
+        link("l", "mine.xw"),
+        run("edit --save l", b"size 2 1\n", b"ok\n", errors=unread_kept("l")),
+        holds("l~", MINE),
+        holds("mine.xw", record()),
+    ],
+    "unread_kept, with a journal": [
+        write("mine.xw", MINE),
+        run("edit --journal j --save mine.xw", b"size 2 1\n", b"ok\n", errors=unread_kept("mine.xw")),
+        holds("mine.xw~", MINE),
+        holds("mine.xw", record()),
+    ],
+    # What has the same bytes already is not lost.
+    "unread_kept, unless it is the same": [
+        write("mine.xw", record()),
+        run("edit --save mine.xw", b"size 2 1\n", b"ok\n"),
+        run("edit --journal j --save mine.xw", b"size 2 1\n", b"ok\n"),
+        run("edit --journal j --save mine.xw"),
+        holds("mine.xw", record()),
+        absent("mine.xw~"),
+    ],
+    # A file to write may have the name `-`, which is then not the input.
+    "unread_kept, a file named as the input": [
+        write("-", MINE),
+        run("edit --save -", b"size 2 1\n", b"ok\n", errors=unread_kept("-")),
+        holds("-", record()),
+        holds("-~", MINE),
+    ],
+    # Of two sessions on one file neither is lost.
+    "unread_kept, of two sessions": [
+        write("mine.xw", record()),
+        meanwhile(
+            run("edit --resume mine.xw --save mine.xw", b"set 1 1 A\nset 1 2 T\n", b"ok\nok\n"),
+            words="edit --resume mine.xw --save mine.xw",
+            errors=unread_kept("mine.xw"),
+        ),
+        holds("mine.xw", record()),
+        holds("mine.xw~", MINE),
+    ],
+    "unread_kept, a file that gets the name": [
+        write("words.txt", b"CAT\n"),
+        meanwhile(rename("words.txt", "mine.xw"), errors=unread_kept("mine.xw")),
+        holds("mine.xw", record()),
+        holds("mine.xw~", b"CAT\n"),
+    ],
+    # A session that cannot be saved is left in another file.
+    "left_elsewhere, beside it": [
+        meanwhile(
+            lambda room, program: (room / "mine.xw").mkdir(),
+            errors=b"xw: mine.xw: not saved; the session is kept as mine.xw~\nxw: mine.xw: cannot write\n",
+            status=FAILED,
+        ),
+        holds("mine.xw~", record()),
+    ],
+    "left_elsewhere, in the current folder": [
+        lambda room, program: (room / "inner").mkdir(),
+        write("mine.xw~", b"old"),
+        meanwhile(
+            lambda room, program: (room / "inner").rmdir(),
+            words="edit --save inner/mine.xw",
+            errors=b"xw: inner/mine.xw: not saved; the session is kept as mine.xw~2\nxw: inner/mine.xw: cannot write\n",
+            status=FAILED,
+        ),
+        holds("mine.xw~", b"old"),
+        holds("mine.xw~2", record()),
+    ],
+    # Nor is it waited for that somebody reads a pipe.
+    "left_elsewhere, a pipe without a reader": [
+        lambda room, program: os.mkfifo(room / "pipe"),
+        run(
+            "edit --save pipe",
+            b"size 2 1\n",
+            b"ok\n",
+            errors=b"xw: pipe: not saved; the session is kept as pipe~\nxw: pipe: cannot write\n",
+            status=FAILED,
+        ),
+        holds("pipe~", record()),
     ],
     # The record must not replace the word list or the puzzle.
     "record_kept_apart": [

@@ -210,9 +210,9 @@ CASES = {
         has_no_input("edit"),
         has_no_input("edit --save new.xw"),
         write("mine.xw", FIRST + b"size 2 1\nset 1 1 A\n"),
-        has_no_input("edit --journal mine.xw --save new.xw --to new.puz"),
+        has_no_input("edit --journal mine.xw --save saved.xw --to new.puz"),
         holds("mine.xw", FIRST + b"size 2 1\nset 1 1 A\n"),
-        holds("new.xw", record(b"set 1 1 A\n")),
+        holds("saved.xw", record(b"set 1 1 A\n")),
         has_no_input("edit --resume mine.xw --save other.xw"),
         holds("other.xw", record(b"set 1 1 A\n")),
         # A new journal has its first line only, if any.

@@ -44,7 +44,11 @@ def tells(words, messages, status=0):
 
 
 GREETING = b"xw: type one command per line; help lists them, and Ctrl D ends the session\n"
+# The greeting if no file keeps the session.
+UNKEPT = GREETING + b"xw: the session is not kept; --save or --journal keeps it\n"
 END = b"\x04"
+# What follows an empty cell if no file keeps the session.
+LOST = b"xw: the session is not kept; --save or --journal keeps it\n"
 
 
 def silent_terminal():
@@ -65,7 +69,7 @@ def read_up_to(stream, end):
     return found
 
 
-def greets(words, first=b""):
+def greets(words, first=b"", greeting=UNKEPT):
     """Types a command, and Ctrl D after its answer. `first` is told before the greeting."""
 
     def step(room, program):
@@ -73,7 +77,7 @@ def greets(words, first=b""):
         streams = {"stdin": other, "stdout": subprocess.PIPE, "stderr": other}
         with subprocess.Popen(["xw", *words.split()], executable=program, cwd=room, env={}, **streams) as started:
             os.close(other)
-            compare(f"greeting of xw {words}", read_up_to(terminal, told(GREETING)), told(first + GREETING))
+            compare(f"greeting of xw {words}", read_up_to(terminal, told(greeting)), told(first + greeting))
             os.write(terminal, b"set 1 1 A\n")
             compare(f"answer of xw {words}", read_up_to(started.stdout.fileno(), b"\n"), b"ok\n")
             os.write(terminal, END)
@@ -97,6 +101,33 @@ def greets_nobody(words):
     return step
 
 
+def shows(words, typed, output, messages, is_shown=(True, True)):
+    """Runs the program with terminals as standard output and standard error, or pipes, and checks what each gets."""
+
+    def step(room, program):
+        ends = [pty.openpty() if it else os.pipe() for it in is_shown]
+        (room / "typed").write_bytes(typed)
+        with open(room / "typed", "rb") as given:
+            streams = {"stdin": given, "stdout": ends[0][1], "stderr": ends[1][1]}
+            with subprocess.Popen(["xw", *words.split()], executable=program, cwd=room, env={}, **streams) as started:
+                for _, other in ends:
+                    os.close(other)
+                found = [read_all(end) for end, _ in ends]
+                started.wait(timeout=SECONDS)
+        wanted = [told(text) if it else text for it, text in zip(is_shown, (output, messages))]
+        compare(f"output and messages of xw {words}", found, wanted)
+
+    return step
+
+
+# A title and a clue with control characters: escape, carriage return, tab, DEL, and CSI in UTF-8; and the name of a file.
+CONTROLS = b"title A\x1b[2J\x7f\xc2\x9b\xc2\xa0\xc3\xa9\x01\ntexts\n"
+RAW = b"ok\ntitle A\x1b[2J\x7f\xc2\x9b\xc2\xa0\xc3\xa9\x01\nok\n"
+SHOWN = b"ok\ntitle A\\x1b[2J\\x7f\\x9b\xc2\xa0\xc3\xa9\\x01\nok\n"
+NAMED = "edit --dict a\x1b[2J\x80\x07b"
+RAW_NAME = "xw: a\x1b[2J\x80\x07b: 1 added, 0 skipped\n".encode()
+SHOWN_NAME = b"xw: a\\x1b[2J\\x80\\x07b: 1 added, 0 skipped\nxw: 0 of 1 lines have a grade\n"
+
 NOTED = b"xw: 0 of 1000001 lines have a grade\n"
 LONG = [write("long.txt", b"\n" * (MOST + 1))]
 COUNTED = b"xw: long.txt: 0 added, 1000001 skipped\n"
@@ -112,7 +143,7 @@ CASES = {
     "a grid with empty cells": [
         tells(
             "edit --to mine.puz",
-            b"xw: mine.puz: NotFilled\nxw: row 1, column 1\nxw: the grid has empty cells, the first at row 1, column 1; nothing was written\n",
+            b"xw: mine.puz: NotFilled\nxw: row 1, column 1\nxw: the grid has empty cells, the first at row 1, column 1; nothing was written\n" + LOST,
             FORMAT,
         ),
         absent("mine.puz"),
@@ -136,10 +167,27 @@ CASES = {
         tells("edit --dict long.txt --from bad.puz", b"xw: long.txt: loading\n" + COUNTED + NOTED + b"xw: bad.puz: NoNul\nxw: title\nxw: the file is cut off\n", FORMAT),
     ],
     "a greeting": [greets("edit")],
-    "a greeting with a journal": [greets("edit --journal mine.xw")],
+    "a greeting with a journal": [greets("edit --journal mine.xw", greeting=GREETING)],
     "a greeting after the reports of the files": [
         write("list", b"cat\n"),
-        greets("edit --dict list --save mine.xw", b"xw: list: 1 added, 0 skipped\nxw: 0 of 1 lines have a grade\n"),
+        greets("edit --dict list --save mine.xw", b"xw: list: 1 added, 0 skipped\nxw: 0 of 1 lines have a grade\n", GREETING),
+    ],
+    # Control characters of texts and names move no cursor. Elsewhere the bytes stay.
+    "control characters": [
+        lambda room, program: (room / NAMED.split()[-1]).write_bytes(b"cat\n"),
+        shows(NAMED, CONTROLS, SHOWN, SHOWN_NAME),
+        shows(NAMED, CONTROLS, SHOWN, RAW_NAME, (True, False)),
+        shows(NAMED, CONTROLS, RAW, SHOWN_NAME, (False, True)),
+        shows(NAMED, CONTROLS, RAW, RAW_NAME, (False, False)),
+    ],
+    # A character of two bytes may come in two writes: the second byte is shown as an escape.
+    "control characters, many": [
+        shows(
+            "edit",
+            b"title " + b"a" * 3000 + b"\xc2\x9b" * 400 + b"\n" + b"texts\n" * 40,
+            b"ok\n" + (b"title " + b"a" * 3000 + b"\\x9b" * 400 + b"\nok\n") * 40,
+            b"",
+        ),
     ],
     "no greeting, since the messages go elsewhere": [greets_nobody("edit")],
     "no greeting, since the lines come from elsewhere": [tells("edit", b"")],

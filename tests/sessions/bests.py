@@ -1,4 +1,4 @@
-"""Scripts on `best`, in a grid of 2 by 2 cells."""
+"""Scripts on `best`, in a grid of 2 by 2 cells and in one of six rows."""
 from steps import dialogues
 
 # Two squares: AB over CD, whose worst word is BD, and EF over GH, whose worst word is EG. Each can be entered in two ways, with the rows
@@ -443,4 +443,21 @@ no Command
 ok
 """
 
-CASES = dialogues(IN_THE_SQUARE, beginning=WORDS)
+# Six lights across, each with an empty cell below its first letter, and six words for them. So a fill of these lights has each of the words
+# once. The word down that begins with F has grade 40, so at a better grade five words are left for six lights, and there is no fill. Only a
+# search through the orders of the five shows that. The words across all have grade 100, so no part can raise the worst of them.
+LETTERS = "ABCDEF"
+SIX_WORDS = [f"add {it}ZZ 100" for it in LETTERS] + [f"add {it}Z {40 if it == 'F' else 100}" for it in LETTERS]
+SIX_ROWS = [f"block {row} {col}" for row in range(1, 19) for col in (1, 2, 3) if row % 3 == 0 or row % 3 == 2 and col > 1]
+BEGINNING = "".join(f"> {it}\nok\n" for it in ["size 3 18", *SIX_WORDS, *SIX_ROWS])
+
+IN_SIX_ROWS = """\
+@ grades_are_tried_where_no_part_can_be_drawn
+> best 300000 1 1 across 2 across 3 across 4 across 5 across 6 across
+filled
+least 40
+bound 41
+ok
+"""
+
+CASES = {**dialogues(IN_THE_SQUARE, beginning=WORDS), **dialogues(IN_SIX_ROWS, beginning=BEGINNING)}

@@ -1,5 +1,5 @@
 """The syntax of lines, with unusual bytes and lengths."""
-from steps import answers
+from steps import answers, run
 
 CASES = {
     # Silent lines, command names, and the number of words.
@@ -8,7 +8,8 @@ CASES = {
     "forms_of_lines: count of words": [answers(b"add\nadd CAT DOG\nadd CAT # x\nmatch\nstrike A B\n", b"no Arguments\n" * 5)],
     "forms_of_lines: carriage returns alone": [answers(b"\r\r\n\r \n", b"no Command\n" * 2)],
     "forms_of_lines: blanks and no last line feed": [answers(b" \tadd\t CAT \t\r\nmatch CAT", b"ok\nCAT\nok\n")],
-    "forms_of_lines: carriage return at the end": [answers(b"add CAT\r", b"ok\n")],
+    # The last line has no line feed, and changes the session, which is told.
+    "forms_of_lines: carriage return at the end": [run("edit", b"add CAT\r", b"ok\n", errors=b"xw: the last line had no end\n")],
     "forms_of_lines: other white space": [answers(
         b"add C\x00T\nadd\x0BCAT\nadd CAT\x0B\nadd \x85CAT\nad\x00d CAT\nadd CAT\x0C\nadd C\rT\n",
         b"no BadLetter\nno Command\nno BadLetter\nno BadLetter\nno Command\nno BadLetter\nno BadLetter\n",

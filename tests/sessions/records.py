@@ -13,6 +13,8 @@ ELSEWHERE = (
 
 def told(room, program, before, lines):
     """Runs `before` and then `lines` in a session with four words, and returns the answers to `lines`. No line may be refused."""
+    # a file that a call does not read is kept
+    (room / "saved.xw").unlink(missing_ok=True)
     counted = call(room, program, "edit --dict words --save saved.xw", before + lines)
     compare("messages and status", (counted.stderr, counted.returncode), (b"xw: words: 4 added, 0 skipped\n", 0))
     begun = call(room, program, "edit --dict words", before)

@@ -1,5 +1,5 @@
-// Tests of the module for the web beside its answers: texts, what `open` and `load` take, `close`, the lists of statuses, and the example of
-// docs/embedding.md.
+// Tests of the module for the web beside its answers: texts, what `open`, `load`, `ask` and the searches take, the slices of searches, `close`, the lists of
+// statuses, and the example of docs/embedding.md.
 //
 //   node --expose-gc tests/web/module.mjs
 //
@@ -11,7 +11,8 @@ import { tmpdir } from 'node:os';
 import { join } from 'node:path';
 import { fileURLToPath } from 'node:url';
 import { runInNewContext } from 'node:vm';
-import { Fault, STATUSES, Xw, load, toBytes, toText } from '../../web/dist/xw.js';
+import { Slices } from '../../web/dist/slices.js';
+import { Fault, STATUSES, Xw, ask, autofill, best, load, toBytes, toText } from '../../web/dist/xw.js';
 import { exampleOf } from './example.mjs';
 
 const MODULE = new URL('../../web/dist/xw.wasm', import.meta.url);
@@ -78,6 +79,19 @@ function searched(words, placements) {
     return execFileSync(process.execPath, asked, { cwd: room, input: '', encoding: 'latin1' }).trimEnd().split('\n');
   } finally {
     rmSync(room, { recursive: true });
+  }
+}
+
+// The placements of the first slices of a search that makes so many in a millisecond.
+function slicesAt(pace, count, span, limit = Infinity) {
+  const { now } = performance;
+  let time = 0;
+  performance.now = () => time;
+  try {
+    const slices = new Slices(limit, span);
+    return range(1, count).map(() => slices.run((placements) => ((time += placements / pace), placements)));
+  } finally {
+    performance.now = now;
   }
 }
 
@@ -160,11 +174,82 @@ const CASES = {
     for (const other of [undefined, 7, 'show']) throws(() => xw.answer(other), TypeError);
     ok(xw.line('show').ok);
   },
+  'ask takes commands': () => {
+    const xw = Xw.open(module, { list: 'at\n' });
+    for (const name of ['frob', 'words 1 across', 'Show', '', 'toString', undefined]) {
+      throws(() => ask(xw, name), { name: 'TypeError', message: `${name} is not a command of ask` });
+    }
+    // all that `help` lists are commands, and most of them lack an argument here
+    const commands = ask(xw, 'help').map((line) => line.split(' ')[0]);
+    ok(commands.includes('more') && commands.includes('best'));
+    for (const name of commands) {
+      try {
+        ask(xw, name);
+      } catch (fault) {
+        same([name, fault.status, fault.answer], [name, 'Refused', 'Arguments']);
+      }
+    }
+    throws(() => ask(xw, 'set', 9, 99, 'a'), { name: 'Fault', status: 'Refused', answer: 'OutOfGrid' });
+  },
+  'a search names an option that is wrong': async () => {
+    const xw = Xw.open(module, { list: 'at\n' });
+    const isOther = (name, search, names) => ({ name: 'TypeError', message: `${name} is not an option of ${search}, which takes ${names}` });
+    await rejects(autofill(xw, { limits: 5 }), isOther('limits', 'autofill', 'limit, seed, lights, progress and every'));
+    await rejects(autofill(xw, { least: 5 }), isOther('least', 'autofill', 'limit, seed, lights, progress and every'));
+    await rejects(best(xw, { Seed: 5 }), isOther('Seed', 'best', 'limit, seed, lights, progress, every and least'));
+    for (const search of [autofill, best]) {
+      for (const limit of [-1, 1.5, NaN, '5', null]) await rejects(search(xw, { limit }), { name: 'RangeError', message: 'limit is not a whole number or Infinity' });
+      for (const seed of [-1, 0.5, Infinity, '0']) await rejects(search(xw, { seed }), { name: 'RangeError', message: 'seed is not a whole number' });
+      for (const every of [0, -1, Infinity, NaN, '9']) await rejects(search(xw, { every }), { name: 'RangeError', message: 'every is not a number of milliseconds above 0' });
+      for (const lights of ['1 across', [1], null]) await rejects(search(xw, { lights }), { name: 'TypeError', message: 'lights is not an array of names of lights' });
+      for (const progress of [true, {}]) await rejects(search(xw, { progress }), { name: 'TypeError', message: 'progress is not a function' });
+      for (const options of [null, 5, 'limit']) await rejects(search(xw, options), { name: 'TypeError', message: `the options of ${search.name} are not an object` });
+    }
+    for (const least of [-1, 101, 0.5, '5']) await rejects(best(xw, { least }), { name: 'RangeError', message: 'least is not a grade from 0 to 100' });
+    // an option that is undefined is left out, and a refused search changes nothing
+    ok(xw.line('size 2 1').ok);
+    same(await autofill(xw, { limit: undefined, seed: undefined, lights: undefined, progress: undefined, every: undefined }), 'filled');
+  },
+  'slices follow their time': () => {
+    same(slicesAt(10, 4, 100), [1000, 1000, 1000, 1000]);
+    same(slicesAt(5, 3, 100), [1000, 500, 500]);
+    same(slicesAt(40, 4, 100), [1000, 2000, 4000, 4000]);
+    same(slicesAt(10, 4, 400), [1000, 2000, 4000, 4000]);
+    // a search that is too slow for its time gets on all the same, and one that ends at once says little of the next slice
+    same(slicesAt(0.01, 3, 100), [1000, 100, 100]);
+    same(slicesAt(Infinity, 9, 100), [1000, 2000, 4000, 8000, 16000, 32000, 64000, 100000, 100000]);
+    same(slicesAt(10, 3, 100, 2500), [1000, 1000, 500]);
+  },
+  'slices grow where nothing is told between them': () => {
+    const sizes = slicesAt(10, 60, null);
+    same(sizes.slice(0, 10), Array(10).fill(1000));
+    for (const at of range(11, 59)) {
+      const made = sizes.slice(0, at).reduce((sum, size) => sum + size);
+      ok(Math.abs(sizes[at] - made / 10) <= 1, `slice ${at} has ${sizes[at]} placements after ${made}`);
+    }
+  },
+  'best of a full grid': async () => {
+    // no word is new, and no grade is above 100
+    same(await best(filled()), { answer: 'filled', grade: 100, bound: 101 });
+  },
+  'a record is resumed later': () => {
+    const xw = Xw.open(module);
+    same(xw.resume('# xw session 1\nsize 2 1\nset 9 9 A\nset 1 1'), 'xw: record: an incomplete last command is ignored\nxw: record: line 3: OutOfGrid\n');
+    same([xw.line('show').lines, xw.reports], [['- -'], '']);
+    throws(() => xw.resume('set 1 1 A\nfrob\n'), { name: 'Fault', status: 'NoCommand', answer: 'xw: record: line 2: Command\n' });
+    throws(() => xw.resume(7), TypeError);
+    xw.close();
+    throws(() => xw.resume(''), isClosed);
+  },
+  'the version is that of the engine': () => {
+    const source = readFileSync(new URL('../../crates/xw_commands/src/version.rt', import.meta.url), 'utf8');
+    same(Xw.open(module).version, /VERSION: &str = "(.*)"/.exec(source)[1]);
+  },
   'a closed session answers nothing': () => {
     const xw = filled();
     xw.close();
     xw.close();
-    for (const call of [() => xw.line('show'), () => xw.answer(latin('show')), () => xw.puz(), () => xw.text(), () => xw.record()]) throws(call, isClosed);
+    for (const call of [() => xw.line('show'), () => xw.answer(latin('show')), () => xw.puz(), () => xw.text(), () => xw.record(), () => xw.version]) throws(call, isClosed);
   },
   'closed sessions hold no memory': async () => {
     const whileOpen = await memoriesLeft(() => {});

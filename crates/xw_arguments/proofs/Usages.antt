@@ -22,15 +22,15 @@ passed app words is kinds = subst (λ (a : App). is_simple_and_free a ≡ true �
 pub failed : (app : App) (words : List Text) (kind : ErrorKind) → app ≡ shapes.xw → (is_simple_and_free app ≡ true → (kind ≡ OutOfMemory) ⊎ IsAmong kind (fault_of app words)) → (kind ≡ OutOfMemory) ⊎ IsAmong kind (fault_of shapes.xw words)
 failed app words kind is kinds = subst (λ (a : App). is_simple_and_free a ≡ true → (kind ≡ OutOfMemory) ⊎ IsAmong kind (fault_of a words)) is kinds refl
 
-pub told_of : (kinds : Kinds) (words : List Text) (found : Option (Text × List Row)) (kind : ErrorKind) (usage : Usage) → (kind ≡ OutOfMemory) ⊎ IsAmong kind kinds → IsTold kind words usage → IsUsageOf kinds words found usage
-told_of kinds words found kind (Help text) (inl memory) told = elim told [
+pub told_of : (kinds : Kinds) (words : List Text) (found : Option (Text × List Row)) (kind : ErrorKind) (plain : Text) (usage : Usage) → (kind ≡ OutOfMemory) ⊎ IsAmong kind kinds → IsTold kind words plain usage → IsUsageOf kinds words found usage
+told_of kinds words found kind plain (Help text) (inl memory) told = elim told.0 [
   | inl help ↦ let bad : OutOfMemory ≡ DisplayHelp = sym memory ∙ help in cc
   | inr version ↦ let bad : OutOfMemory ≡ DisplayVersion = sym memory ∙ version in cc
 ]
-told_of kinds words found kind (Help text) (inr among) told = (kind, among, told)
-told_of kinds words found kind (Wrong text) (inl memory) told = absurd (told.2 memory)
-told_of kinds words found kind (Wrong text) (inr among) told = inl (kind, among, told)
-told_of kinds words found kind Memory has told = tt
+told_of kinds words found kind plain (Help text) (inr among) told = (kind, among, (plain, told))
+told_of kinds words found kind plain (Wrong text) (inl memory) told = absurd (told.2 memory)
+told_of kinds words found kind plain (Wrong text) (inr among) told = inl (kind, among, (plain, told))
+told_of kinds words found kind plain Memory has told = tt
 
 -- parsed arguments that are no call are reported
 pub no_call_told : (kinds : Kinds) (words : List Text) (found : Option (Text × List Row)) (reason : NoCall) (usage : Usage) → kinds ≡ [] → IsNoCallFor found reason → IsNoCallTold reason usage → IsUsageOf kinds words found usage

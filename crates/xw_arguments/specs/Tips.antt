@@ -1,5 +1,5 @@
 -- What to try in place of a word that is no argument.
-use Rattle.std.specs.Prelude.{◌≡◌, ◌++◌, ◌&&◌, ◌||◌, ◌==◌, not, Bool, true, List, [], ◌∷◌, Option, Some, None, codes, get_or, length, nat_eq, option_map, if◌then◌else◌}
+use Rattle.std.specs.Prelude.{◌≡◌, ◌⊎◌, ◌++◌, ◌&&◌, ◌||◌, ◌==◌, not, Bool, true, List, [], ◌∷◌, Option, Some, None, codes, get_or, length, nat_eq, option_map, if◌then◌else◌}
 use Rattle.std.specs.List.{list_any, starts_with, ends_with}
 use Rattle.std.specs.Str.{bytes_eq}
 use Rattle.clap.specs.Words.{Text}
@@ -20,10 +20,14 @@ list_line file = codes "\n\n  tip: to load it as the word list, use '--dict " ++
 abbrev pub puzzle_line : Text → Text
 puzzle_line file = codes "\n\n  tip: to start with this puzzle, use '--from " ++ file ++ codes "'\n"
 
+abbrev pub session_line : Text → Text
+session_line file = codes "\n\n  tip: to go on with this session, use '--journal " ++ file ++ codes "'\n"
+
 abbrev pub tip_text : Tip → Text
 tip_text (tips.Option option) = option_line option.now
 tip_text (tips.List file) = list_line file.now
 tip_text (tips.Puzzle file) = puzzle_line file.now
+tip_text (tips.Session file) = session_line file.now
 
 -- ---- which tip a word has
 
@@ -56,9 +60,12 @@ has_value word = starts_with nat_eq word (codes "--") && not (list_any (λ byte.
 abbrev pub is_puz : Text → Bool
 is_puz name = ends_with nat_eq name (codes ".puz")
 
+abbrev pub is_session : Text → Bool
+is_session name = ends_with nat_eq name (codes ".xw")
+
 -- the tip for a file that is given without an option
 abbrev pub file_tip : Text → Text
-file_tip file = if is_puz file then puzzle_line file else list_line file
+file_tip file = if is_puz file then puzzle_line file else if is_session file then session_line file else list_line file
 
 -- the tip for a word that is no option with a single dash: a file has one, and a word with a dash has none
 abbrev pub tip_unless : Text → Option Text
@@ -93,7 +100,7 @@ abbrev pub tip_due : ErrorKind → List Text → Option Text
 tip_due UnknownArgument words = tip_of words
 tip_due kind words = None
 
--- the text has the tip that is due
-abbrev pub HasTip : Option Text → Text → Type 0
-HasTip None text = Unit {0}
-HasTip (Some tip) text = (before : Text) × (after : Text) × (text ≡ before ++ tip ++ after)
+-- what is told for an error with this text: the text, with the tip that is due between two parts of it
+abbrev pub HasTip : Text → Option Text → Text → Type 0
+HasTip text None told = told ≡ text
+HasTip text (Some tip) told = (before : Text) × (after : Text) × ((text ≡ before ++ codes "\n" ++ after) ⊎ (text ≡ before ++ after)) × (told ≡ before ++ tip ++ after)

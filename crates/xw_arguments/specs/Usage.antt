@@ -17,11 +17,15 @@ use Rattle.xw_arguments.specs.declared.arguments.Usage.TheVariants.{Help, Wrong,
 abbrev pub IsHelp : ErrorKind → Type 0
 IsHelp kind = (kind ≡ DisplayHelp) ⊎ (kind ≡ DisplayVersion)
 
--- how an error of this kind in these words is reported
-abbrev pub IsTold : ErrorKind → List Text → Usage → Type 0
-IsTold kind words (Help text) = IsHelp kind
-IsTold kind words (Wrong text) = (kind ≢ DisplayHelp) × (kind ≢ DisplayVersion) × (kind ≢ OutOfMemory) × HasTip (tip_due kind words) text.bytes.items
-IsTold kind words Memory = Unit {0}
+-- how an error of this kind in these words, with this text, is reported
+abbrev pub IsTold : ErrorKind → List Text → Text → Usage → Type 0
+IsTold kind words text (Help told) = IsHelp kind × (told.bytes.items ≡ text)
+IsTold kind words text (Wrong told) = (kind ≢ DisplayHelp) × (kind ≢ DisplayVersion) × (kind ≢ OutOfMemory) × HasTip text (tip_due kind words) told.bytes.items
+IsTold kind words text Memory = Unit {0}
+
+-- how an error of this kind in these words is reported, whatever its text
+abbrev pub IsToldOf : ErrorKind → List Text → Usage → Type 0
+IsToldOf kind words usage = (text : Text) × IsTold kind words text usage
 
 -- the parsed arguments describe no call
 abbrev pub IsNoCall : Option (Text × List Row) → Type 0
@@ -58,7 +62,7 @@ IsMisnamedIn found usage = (call : Call) × IsCall call found × IsMisnamed call
 -- Help is for arguments that ask for it. Wrong is for arguments with another error, or with no error but no call
 -- either, or a call whose names are no names of files.
 abbrev pub IsUsageOf : Kinds → List Text → Option (Text × List Row) → Usage → Type 0
-IsUsageOf kinds words found (Help text) = (kind : ErrorKind) × IsAmong kind kinds × IsTold kind words (Help text)
+IsUsageOf kinds words found (Help text) = (kind : ErrorKind) × IsAmong kind kinds × IsToldOf kind words (Help text)
 IsUsageOf kinds words found (Wrong text) =
-    ((kind : ErrorKind) × IsAmong kind kinds × IsTold kind words (Wrong text)) ⊎ ((kinds ≡ []) × (IsNoCallIn found (Wrong text) ⊎ IsMisnamedIn found (Wrong text)))
+    ((kind : ErrorKind) × IsAmong kind kinds × IsToldOf kind words (Wrong text)) ⊎ ((kinds ≡ []) × (IsNoCallIn found (Wrong text) ⊎ IsMisnamedIn found (Wrong text)))
 IsUsageOf kinds words found Memory = Unit {0}

@@ -402,7 +402,10 @@ pub fn arguments<'a, S: AsStr>(alloc: Global, words: &'a [S]) -> Result<Call<'a>
     let command = command(alloc)?;
     let matches = match command.try_get_matches_from(words) {
         Ok(matches) => matches,
-        Err(error) => return Err(explanation(alloc, words, &error)),
+        Err(error) => {
+            let text = error.to_string(alloc)?;
+            return Err(explanation(alloc, words, &error, text));
+        }
     };
     match call_of(alloc, &matches) {
         Ok(call) => named(alloc, call),
@@ -567,21 +570,18 @@ impl From<AllocError> for Usage {
     }
 }
 
-/// Returns what to print for an error of `clap` in these words.
-fn explanation<S: AsStr>(alloc: Global, words: &[S], error: &Error) -> Usage
-    ensures { IsTold (kind_of error.now) (map S.text words.now) result }
+/// Returns what to print for an error of `clap` in these words, with this text.
+fn explanation<S: AsStr>(alloc: Global, words: &[S], error: &Error, text: String) -> Usage
+    ensures { IsTold (kind_of error.now) (map S.text words.now) text.bytes.items result }
 {
     if error.kind() == ErrorKind::OutOfMemory {
         return Usage::Memory;
     }
-    match error.to_string(alloc) {
-        Ok(text) if error.use_stderr() => {
-            match with_tip(alloc, text, tip_due(error.kind(), words)) {
-                Ok(told) => Usage::Wrong(told),
-                Err(_) => Usage::Memory,
-            }
-        }
-        Ok(text) => Usage::Help(text),
+    if !error.use_stderr() {
+        return Usage::Help(text);
+    }
+    match with_tip(alloc, text, tip_due(error.kind(), words)) {
+        Ok(told) => Usage::Wrong(told),
         Err(_) => Usage::Memory,
     }
 }

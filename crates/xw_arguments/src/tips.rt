@@ -1,6 +1,6 @@
 //! Tips for words that are no arguments.
 ghost use Rattle.std.specs.Prelude.{◌≡◌, ◌++◌, map, option_map, IfOk};
-ghost use Rattle.xw_arguments.specs.Tips.{file_tip, has_value, is_argument, is_named, is_option, is_puz, option_meant, tip_at, tip_due, tip_of, tip_text, HasTip};
+ghost use Rattle.xw_arguments.specs.Tips.{file_tip, has_value, is_argument, is_named, is_option, is_puz, is_session, option_meant, tip_at, tip_due, tip_of, tip_text, HasTip};
 
 use clap::error::ErrorKind;
 use std::alloc::{AllocError, Global};
@@ -15,6 +15,8 @@ pub enum Tip<'a> {
     List(&'a str),
     /// A file that may be the puzzle to start with.
     Puzzle(&'a str),
+    /// A file that may be the session to go on with.
+    Session(&'a str),
 }
 
 /// Returns the option that a word with a single dash stands for.
@@ -49,12 +51,21 @@ fn is_puz(name: &str) -> bool
     name.as_bytes().ends_with(b".puz")
 }
 
+/// Returns whether a name ends with `.xw`.
+fn is_session(name: &str) -> bool
+    ensures { result ≡ is_session name.now }
+{
+    name.as_bytes().ends_with(b".xw")
+}
+
 /// Returns the tip for a file that is given without an option.
 fn file_tip<'a>(file: &'a str) -> Tip<'a>
     ensures { tip_text result ≡ file_tip file.entry.now }
 {
     if is_puz(file) {
         Tip::Puzzle(file)
+    } else if is_session(file) {
+        Tip::Session(file)
     } else {
         Tip::List(file)
     }
@@ -135,7 +146,7 @@ pub fn tip_due<'a, S: AsStr>(kind: ErrorKind, words: &'a [S]) -> Option<Tip<'a>>
 
 /// Adds a tip to the text of an error, after its first line.
 pub fn with_tip(alloc: Global, text: String, tip: Option<Tip<'_>>) -> Result<String, AllocError>
-    ensures { IfOk result (λ told. HasTip (option_map tip_text tip.entry) told.bytes.items) }
+    ensures { IfOk result (λ told. HasTip text.bytes.items (option_map tip_text tip.entry) told.bytes.items) }
 {
     let Some(tip) = tip else {
         return Ok(text);
@@ -159,6 +170,9 @@ fn tipped(alloc: Global, error: &str, rest: &str, tip: Tip<'_>) -> Result<String
         ),
         Tip::Puzzle(file) => format!(in alloc;
             "{error}\n\n  tip: to start with this puzzle, use '--from {file}'\n{rest}"
+        ),
+        Tip::Session(file) => format!(in alloc;
+            "{error}\n\n  tip: to go on with this session, use '--journal {file}'\n{rest}"
         ),
     }
 }

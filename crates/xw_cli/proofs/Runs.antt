@@ -1,10 +1,12 @@
 -- How a session is opened, and how a run over lines answers the input of a call.
-use Rattle.std.proofs.Common.{◌≡◌, ◌⊎◌, inl, inr, refl, sym, ap, subst, ℕ, Bool, List, Result, Ok, Err, IfOk, IfErr}
-use Rattle.std.specs.Prelude.{IsOkUnless, Option, Some, None}
+use Rattle.std.proofs.Common.{◌≡◌, ◌≢◌, ◌∙◌, ◌⊎◌, inl, inr, refl, sym, ap, subst, ℕ, Bool, List, [], Result, Ok, Err, IfOk, IfErr}
+use Rattle.std.specs.Prelude.{IsOkUnless, MatchOption, Option, Some, None, option_map}
 use Rattle.std.specs.Borrow.{Bor}
 use Rattle.xw_words.specs.Dictionary.{Dictionary}
 use Rattle.xw_grid.specs.Puzzle.{PuzzleShown}
-use Rattle.xw_lines.specs.Run.{IsRun}
+use Rattle.xw_lines.specs.Cut.{held, last_piece}
+use Rattle.xw_lines.specs.Run.{IsRead, IsRun}
+use Rattle.xw_lines.proofs.Cuts.{held-empty}
 use Rattle.xw_lines.specs.declared.outcome.RunEnd.{RunEnd}
 use Rattle.xw_lines.specs.declared.outcome.RunEnd.TheVariants.{Done, ReadFailed, WriteFailed, Stopped, Endless, Memory}
 use Rattle.xw_lines.specs.declared.outcome.Step.{Step}
@@ -15,7 +17,8 @@ use Rattle.xw_desk.specs.declared.failure.Failure.{Failure}
 use Rattle.xw_desk.specs.declared.failure.Failure.TheVariants as failures
 use Rattle.xw_desk.specs.Desk.{Moment}
 use Rattle.xw_desk.specs.Files.{IfNamed, IsUnread}
-use Rattle.xw_cli.specs.Answered.{AnswersInput}
+use Rattle.xw_cli.specs.Answered.{AnswersInput, EndsWithLf, HasBefore, LeavesLast}
+use Rattle.xw_cli.specs.SessionFiles.{file_of}
 use Rattle.xw_cli.specs.Performed.{HasBoth, HasPuzzle, HasWords, IsOpened, IsUnopened}
 
 -- the moment with this input and this output
@@ -39,7 +42,47 @@ answers_input Answers Stops read is_at_end read_failures told write_failures clo
 answers_input Answers Stops read is_at_end read_failures told write_failures closed Endless start left moment input input' output output' run =
     (record { text = run.0; first = record { read = run.1; count = run.3; speaks = run.4 }; long = run.2 }, refl)
 answers_input Answers Stops read is_at_end read_failures told write_failures closed Memory start left moment input input' output output' run =
-    (record { read = ap read run.0; told = ap told run.1; state = run.2 }, refl)
+    (inl (record { read = ap read run.0; told = ap told run.1; state = run.2 }), refl)
+
+-- ---- the last line
+
+-- the rest of an input without an LF at its end
+pub leaves_last : {S I O : Type 0} (Answers : S → List ℕ → Step → List ℕ → S → Type 0) (read : I → List ℕ) (is_at_end : I → Bool) (read_failures : I → ℕ) (told : O → List ℕ) (write_failures : O → ℕ) (closed : O → Bool)
+    (piece : Option (List ℕ)) (refused : ℕ) (start left : S) (moment : Moment) (input input' : I) (output output' output'' : O)
+    → IsRead Answers read is_at_end read_failures told write_failures piece refused start left input input' output output' → piece ≢ Some []
+    → LeavesLast Answers start left (told output') (with_streams read is_at_end read_failures told write_failures closed moment input output) (with_streams read is_at_end read_failures told write_failures closed moment input' output'')
+leaves_last Answers read is_at_end read_failures told write_failures closed piece refused start left moment input input' output output' output'' r some = record {
+  text = r.text;
+  read = r.passed;
+  at_end = r.at_end;
+  no_lf = λ none. some (r.goes_on.piece-is ∙ ap held none);
+  count = r.goes_on.count;
+  speaks = r.goes_on.speaks;
+}
+
+-- an input that ends with an LF
+pub ends_with_lf : {S I O : Type 0} (Answers : S → List ℕ → Step → List ℕ → S → Type 0) (read : I → List ℕ) (is_at_end : I → Bool) (read_failures : I → ℕ) (told : O → List ℕ) (write_failures : O → ℕ) (closed : O → Bool)
+    (end : RunEnd) (piece : Option (List ℕ)) (refused : ℕ) (start left : S) (moment : Moment) (input input' : I) (output output' output'' : O)
+    → IsRead Answers read is_at_end read_failures told write_failures piece refused start left input input' output output' → piece ≡ Some []
+    → EndsWithLf end (with_streams read is_at_end read_failures told write_failures closed moment input output) (with_streams read is_at_end read_failures told write_failures closed moment input' output'')
+ends_with_lf Answers read is_at_end read_failures told write_failures closed (Done count) piece refused start left moment input input' output output' output'' r none =
+    (r.text, r.passed, held-empty (last_piece r.text) (sym r.goes_on.piece-is ∙ none))
+ends_with_lf Answers read is_at_end read_failures told write_failures closed ReadFailed piece refused start left moment input input' output output' output'' r none = tt
+ends_with_lf Answers read is_at_end read_failures told write_failures closed WriteFailed piece refused start left moment input input' output output' output'' r none = tt
+ends_with_lf Answers read is_at_end read_failures told write_failures closed Stopped piece refused start left moment input input' output output' output'' r none = tt
+ends_with_lf Answers read is_at_end read_failures told write_failures closed Endless piece refused start left moment input input' output output' output'' r none = tt
+ends_with_lf Answers read is_at_end read_failures told write_failures closed Memory piece refused start left moment input input' output output' output'' r none = tt
+
+-- the file of the session before the last line
+pub has_before : {S T I O : Type 0} (Answers : S → List ℕ → Step → List ℕ → S → Type 0) (state : S → SessionState) (read : I → List ℕ) (is_at_end : I → Bool) (read_failures : I → ℕ) (told : O → List ℕ) (write_failures : O → ℕ) (closed : O → Bool)
+    (bytes : T → List ℕ) (before : Option T) (end : RunEnd) (piece : Option (List ℕ)) (refused : ℕ) (start left : S) (moment : Moment) (input input' : I) (output output' output'' : O)
+    → IsRead Answers read is_at_end read_failures told write_failures piece refused start left input input' output output'
+    → MatchOption before (piece ≡ Some []) (λ file. (piece ≢ Some []) × (bytes file ≡ file_of (state left)))
+    → HasBefore Answers state (option_map bytes before) end start (with_streams read is_at_end read_failures told write_failures closed moment input output) (with_streams read is_at_end read_failures told write_failures closed moment input' output'')
+has_before Answers state read is_at_end read_failures told write_failures closed bytes (Some file) end piece refused start left moment input input' output output' output'' r has =
+    (left, told output', leaves_last Answers read is_at_end read_failures told write_failures closed piece refused start left moment input input' output output' output'' r has.0, has.1)
+has_before Answers state read is_at_end read_failures told write_failures closed bytes None end piece refused start left moment input input' output output' output'' r none =
+    ends_with_lf Answers read is_at_end read_failures told write_failures closed end piece refused start left moment input input' output output' output'' r none
 
 -- ---- how a session is opened
 

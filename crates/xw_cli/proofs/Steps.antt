@@ -1,8 +1,7 @@
 -- From what each step of a call does to what the whole does.
-use Rattle.std.proofs.Common.{◌≡◌, ◌∙◌, ◌⊎◌, ◌++◌, ◌||◌, inl, inr, refl, sym, ap, subst, arith, ℕ, Bool, true, false, not, List, [], ◌∷◌, Result, Ok, Err, IfOk, IfErr, OnOk}
+use Rattle.std.proofs.Common.{◌≡◌, ◌∙◌, ◌⊎◌, ◌++◌, append_assoc, inl, inr, refl, sym, ap, subst, arith, ℕ, Bool, true, false, List, [], ◌∷◌, Result, Ok, Err, IfOk, IfErr, OnOk}
 use Rattle.std.proofs.lemmas.Grind.{common_steps}
-use Rattle.std.specs.List.{list_any}
-use Rattle.std.specs.Prelude.{Option, Some}
+use Rattle.std.specs.Prelude.{MatchBool, Option, Some, bytes_eq, flat_map, nat_lt, option_map}
 use Rattle.std.specs.Borrow.{Bor}
 use Rattle.xw_words.specs.Dictionary.{Dictionary}
 use Rattle.xw_words.specs.WordList.{listed_in}
@@ -11,8 +10,9 @@ use Rattle.xw_text.specs.Lines.{lines_of}
 use Rattle.xw_session.specs.Resuming.{Resumes}
 use Rattle.xw_session.specs.State.{SessionState}
 use Rattle.xw_session.specs.declared.resuming.Stop.{Stop}
-use Rattle.xw_disk.specs.Disk.{end, read, replace}
+use Rattle.xw_disk.specs.Disk.{end, find, leave, read, replace, stands}
 use Rattle.xw_disk.specs.declared.disk.DiskFault.{DiskFault}
+use Rattle.xw_disk.specs.declared.disk.Standing.{Standing}
 use Rattle.xw_arguments.specs.declared.arguments.SessionFiles.{SessionFiles}
 use Rattle.xw_desk.specs.declared.failure.Failure.{Failure}
 use Rattle.xw_desk.specs.declared.failure.Failure.TheVariants.{Memory}
@@ -20,10 +20,12 @@ use Rattle.xw_desk.specs.declared.failure.ExitStatus.{ExitStatus}
 use Rattle.xw_desk.specs.Desk.{Asks, Moment, Reports}
 use Rattle.xw_desk.specs.Files.{IfNamed, IsUnreplaced}
 use Rattle.xw_desk.specs.Told.{IsFaultOf}
-use Rattle.xw_cli.specs.Journals.{HasReplayed, IsEnded, IsUnended, IsUnreplayed}
+use Rattle.xw_cli.specs.Journals.{HasReplayed, IsEnded, IsNotEnded, IsUnended, IsUnreplayed, Replaces}
 use Rattle.xw_cli.specs.declared.session_files.Refusals.{Refusals}
-use Rattle.xw_cli.specs.SessionFiles.{Copies, HasKept, IsLoaded, IsLoadedTold, IsLoadingTold, IsReplayed, IsResumed, IsUnsaved, Replays, TellsReplay, ends_in_known, file_of, old_line, tells_loss}
-use Rattle.xw_cli.specs.Performed.{Closes, EditsOrFails, Ends, IsNotKeptOver, IsNotSaved, IsOpened, IsRunWith, IsSaved, IsUnresumed, IsUnrun, IsUnsavedAs, Keeps, RunsOrFails, Saves, StillPuts}
+use Rattle.xw_cli.specs.SessionFiles.{Copies, IsLoaded, IsLoadedTold, IsLoadingTold, IsResumed, KeepsOld, Replays, TellsReplay, after_report, explained_reports, file_of, left_line, old_line}
+use Rattle.xw_cli.specs.Unended.{KeepsBefore, KeepsBeside, TellsUnended, record_file, unended_lines}
+use Rattle.xw_cli.specs.Performed.{Closes, EditsOrFails, Ends, IsNotSaved, IsOpened, IsRunWith, IsSaved, IsUnresumed, IsUnrun, IsUnsaved, RunsOrFails, Saves, StillPuts}
+use Rattle.xw_cli.specs.Saved.{IsNotOver, IsOver, KeepsAs, Leaves, UnkeptAs}
 
 -- ---- the word list
 
@@ -45,20 +47,16 @@ pub replays : (name : List ℕ) (start left : SessionState) (ended : Result ℕ 
 replays name start left ended result lines held lost before bytes old new empty none (told, resumes, tells) (inr untold) = inr untold
 replays name start left ended result lines held lost before bytes old new empty none (told, resumes, inl (is, same)) (inl (quiet, sent, replayed)) =
     let told_is : bytes ≡ told = is ∙ ap (λ (b : List ℕ). b ++ told) empty in
-    inl (ended, told, resumes, subst (λ (t : List ℕ). Reports t old new) told_is sent, subst (λ (t : List ℕ). IsReplayed name t ended result) told_is replayed)
+    inl (ended, told, resumes, subst (λ (t : List ℕ). Reports (explained_reports old.explains t) old new) told_is sent, replayed)
 replays name start left ended result lines held lost before bytes old new empty none (told, resumes, inr lack) (inl (quiet, sent, replayed)) = absurd (nothing_failed held lost none quiet lack)
 
--- reports that all end in `Known`, up to one that does not
-pub known_so_far : (line reports rest after : List ℕ) → tells_loss reports ≡ tells_loss rest → lines_of rest ≡ line ∷ lines_of after → ends_in_known line ≡ true → tells_loss reports ≡ tells_loss after
-known_so_far line reports rest after so_far lines known =
-    so_far ∙ (ap (λ (ls : List (List ℕ)). list_any (λ l. not (ends_in_known l)) ls) lines ∙ ap (λ (b : Bool). not b || tells_loss after) known)
-
-pub unknown_at_last : (line reports rest after : List ℕ) → tells_loss reports ≡ tells_loss rest → lines_of rest ≡ line ∷ lines_of after → ends_in_known line ≡ false → true ≡ tells_loss reports
-unknown_at_last line reports rest after so_far lines unknown =
-    sym (so_far ∙ (ap (λ (ls : List (List ℕ)). list_any (λ l. not (ends_in_known l)) ls) lines ∙ ap (λ (b : Bool). not b || tells_loss after) unknown))
-
-pub known_at_last : (reports rest : List ℕ) → tells_loss reports ≡ tells_loss rest → rest ≡ [] → false ≡ tells_loss reports
-known_at_last reports rest so_far is = sym (so_far ∙ ap tells_loss is)
+-- one more report, with what follows it
+pub explained_so_far : (line reports rest after text more : List ℕ) → text ++ explained_reports true rest ≡ explained_reports true reports → lines_of rest ≡ line ∷ lines_of after → more ≡ after_report line
+    → ((text ++ line) ++ more) ++ explained_reports true after ≡ explained_reports true reports
+explained_so_far line reports rest after text more so_far lines is =
+    let placed : ((text ++ line) ++ more) ++ explained_reports true after ≡ text ++ ((line ++ more) ++ explained_reports true after) = simp append_assoc in
+    placed ∙ ap (λ (m : List ℕ). text ++ ((line ++ m) ++ explained_reports true after)) is
+    ∙ ap (λ (ls : List (List ℕ)). text ++ flat_map (λ l. l ++ after_report l) ls) (sym lines) ∙ so_far
 
 pub resumed : (name : List ℕ) (start left : SessionState) (result : Result Refusals Failure) (old new : Moment) → IsResumed name start left result old new → IfOk result (λ refused. IsResumed name start left (Ok refused) old new)
 resumed name start left (Ok refused) old new is = is
@@ -68,63 +66,86 @@ pub unresumed : (name : List ℕ) (start left : SessionState) (result : Result R
 unresumed name start left (Ok refused) old new is = tt
 unresumed name start left (Err failure) old new is = (left, is)
 
--- ---- the record
+-- ---- a session that replaces a file
 
-pub saved : {T : Type 0} (result : Result T Failure) (name bytes : List ℕ) (state : SessionState) (old new : Moment) → bytes ≡ file_of state
-    → OnOk result (Asks (replace name bytes (Ok tt)) old new) → OnOk result (Asks (replace name (file_of state) (Ok tt)) old new)
-saved result name bytes state old new is asks = subst (λ (b : List ℕ). OnOk result (Asks (replace name b (Ok tt)) old new)) is asks
+pub over : {T X : Type 0} (result : Result T X) (name : List ℕ) (standing : Standing) (is_loss : Bool) (bytes : List ℕ) (old asked mid new : Moment) → Asks (stands name standing) old asked → KeepsAs standing is_loss name bytes asked mid
+    → OnOk result (Asks (replace name bytes (Ok tt)) mid new) → OnOk result (IsOver name is_loss bytes old new)
+over (Ok done) name standing is_loss bytes old asked mid new asks keeps replaces =
+    record { mid = mid; keeps = record { standing = standing; mid = asked; asks = asks; keeps = keeps }; asks = replaces }
+over (Err failure) name standing is_loss bytes old asked mid new asks keeps replaces = tt
 
-pub unsaved : {T : Type 0} (result : Result T Failure) (name bytes : List ℕ) (state : SessionState) (old new : Moment) → bytes ≡ file_of state
-    → IfErr result (λ failure. IsUnreplaced name bytes failure old new) → IfErr result (λ failure. IsUnsaved name state failure old new)
-unsaved (Ok r) name bytes state old new is why = tt
-unsaved (Err failure) name bytes state old new is why = inr (subst (λ (b : List ℕ). IsUnreplaced name b failure old new) is why)
+pub kept_in_vain : {T : Type 0} (result : Result T Failure) (files : SessionFiles) (name : List ℕ) (standing : Standing) (is_loss : Bool) (bytes : List ℕ) (old asked mid new : Moment) → Asks (stands name standing) old asked
+    → KeepsAs standing is_loss name bytes asked mid → IfErr result (λ failure. IsUnreplaced name bytes failure mid new) → IfErr result (λ failure. IsNotOver files name is_loss bytes failure old new)
+kept_in_vain (Ok done) files name standing is_loss bytes old asked mid new asks keeps why = tt
+kept_in_vain (Err failure) files name standing is_loss bytes old asked mid new asks keeps why =
+    inr (inr (record { mid = mid; keeps = record { standing = standing; mid = asked; asks = asks; keeps = keeps }; unreplaced = why }))
 
--- the session is saved after the old file was kept, or stayed
-pub saved_as : {T X : Type 0} (result : Result T X) (files : SessionFiles) (file : Bor (List ℕ)) (refused : Refusals) (state : SessionState) (old mid new : Moment) → files.save_file ≡ Some file
-    → Keeps files.resume_file file.now refused.is_loss old mid → OnOk result (Asks (replace file.now (file_of state) (Ok tt)) mid new) → OnOk result (IsSaved files files.save_file refused state old new)
-saved_as (Ok done) files file refused state old mid new is keeps asks =
-    subst (λ (o : Option (Bor (List ℕ))). IsSaved files o refused state old new) (sym is) (record { mid = mid; keeps = keeps; asks = asks })
-saved_as (Err failure) files file refused state old mid new is keeps asks = tt
+pub not_kept_over : (files : SessionFiles) (name : List ℕ) (standing : Standing) (is_loss : Bool) (bytes : List ℕ) (failure : Failure) (old asked new : Moment) → Asks (stands name standing) old asked → UnkeptAs standing is_loss name failure asked new
+    → IsNotOver files name is_loss bytes failure old new
+not_kept_over files name standing is_loss bytes failure old asked new asks why = inr (inl (record { standing = standing; mid = asked; asks = asks; why = why }))
 
--- why the session is not saved to the file that is named
-not_saved_to : (files : SessionFiles) (file : Bor (List ℕ)) (refused : Refusals) (state : SessionState) (failure : Failure) (old new : Moment) → files.save_file ≡ Some file
-    → IsNotKeptOver files.resume_file file.now refused failure old new ⊎ IsUnsavedAs files.resume_file file.now refused state failure old new → IsNotSaved files refused state failure old new
-not_saved_to files file refused state failure old new is why =
-    inr (subst (λ (o : Option (Bor (List ℕ))). IfNamed o (λ name. IsNotKeptOver files.resume_file name refused failure old new ⊎ IsUnsavedAs files.resume_file name refused state failure old new)) (sym is) why)
+pub saved_over : (files : SessionFiles) (file : Bor (List ℕ)) (is_loss : Bool) (bytes : List ℕ) (state : SessionState) (old new : Moment) → files.save_file ≡ Some file → bytes ≡ file_of state → IsOver file.now is_loss bytes old new
+    → IsSaved files.save_file is_loss state old new
+saved_over files file is_loss bytes state old new is bytes_are is_over =
+    subst (λ (o : Option (Bor (List ℕ))). IsSaved o is_loss state old new) (sym is) (subst (λ (b : List ℕ). IsOver file.now is_loss b old new) bytes_are is_over)
 
-pub unsaved_as : {T : Type 0} (result : Result T Failure) (files : SessionFiles) (file : Bor (List ℕ)) (refused : Refusals) (state : SessionState) (old mid new : Moment) → files.save_file ≡ Some file
-    → Keeps files.resume_file file.now refused.is_loss old mid → IfErr result (λ failure. IsUnsaved file.now state failure mid new) → IfErr result (λ failure. IsNotSaved files refused state failure old new)
-unsaved_as (Ok done) files file refused state old mid new is keeps why = tt
-unsaved_as (Err failure) files file refused state old mid new is keeps why = not_saved_to files file refused state failure old new is (inr (record { mid = mid; keeps = keeps; unsaved = why }))
+pub not_saved_over : (files : SessionFiles) (file : Bor (List ℕ)) (is_loss : Bool) (bytes : List ℕ) (state : SessionState) (first failure : Failure) (old mid new : Moment) → files.save_file ≡ Some file → bytes ≡ file_of state
+    → IsNotOver files file.now is_loss bytes first old mid → Leaves file.now bytes first failure mid new → IsNotSaved files is_loss state failure old new
+not_saved_over files file is_loss bytes state first failure old mid new is bytes_are why leaves =
+    inr (subst (λ (o : Option (Bor (List ℕ))). IfNamed o (λ name. IsUnsaved files name is_loss state failure old new)) (sym is) (record {
+      first = first;
+      mid = mid;
+      why = subst (λ (b : List ℕ). IsNotOver files file.now is_loss b first old mid) bytes_are why;
+      leaves = subst (λ (b : List ℕ). Leaves file.now b first failure mid new) bytes_are leaves;
+    }))
 
--- the old file is not kept
-pub unkept : (files : SessionFiles) (file : Bor (List ℕ)) (refused : Refusals) (state : SessionState) (failure : Failure) (old new : Moment) → files.save_file ≡ Some file
-    → ((failure ≡ Memory) × (new ≡ old)) ⊎ IsNotKeptOver files.resume_file file.now refused failure old new → IsNotSaved files refused state failure old new
-unkept files file refused state failure old new is (inl (memory, same)) = inl (inl memory, same)
-unkept files file refused state failure old new is (inr why) = not_saved_to files file refused state failure old new is (inl why)
+-- ---- a session that is left in another file
+
+pub left_told : (name bytes place shown : List ℕ) (first : Failure) (old mid new : Moment) → shown ≡ place → Asks (leave name bytes (Ok place)) old mid → Reports (left_line name shown) mid new → Leaves name bytes first first old new
+left_told name bytes place shown first old mid new is asks told =
+    inr (record { place = Ok place; mid = mid; asks = asks; told = inl (refl, subst (λ (p : List ℕ). Reports (left_line name p) mid new) is told) })
+
+pub left_untold : (name bytes place : List ℕ) (first failure : Failure) (old mid new : Moment) → Asks (leave name bytes (Ok place)) old mid → failure ≡ Memory → new ≡ mid → Leaves name bytes first failure old new
+left_untold name bytes place first failure old mid new asks memory untold = inr (record { place = Ok place; mid = mid; asks = asks; told = inr (memory, untold) })
+
+pub left_nowhere : (name bytes : List ℕ) (fault : DiskFault) (first : Failure) (old new : Moment) → Asks (leave name bytes (Err fault)) old new → Leaves name bytes first first old new
+left_nowhere name bytes fault first old new asks = inr (record { place = Err fault; mid = new; asks = asks; told = (refl, refl) })
+
+-- ---- an old file that is kept
 
 -- the old file is kept, and this is reported
-pub kept : {T X : Type 0} (result : Result T X) (name : List ℕ) (number : ℕ) (old mid new : Moment) → Copies name number (Ok tt) old mid → OnOk result (Reports (old_line name number) mid new) → OnOk result (HasKept name old new)
-kept (Ok done) name number old mid new copies told = record { number = number; mid = mid; copies = copies; told = told }
-kept (Err failure) name number old mid new copies told = tt
+pub kept : {T X : Type 0} (result : Result T X) (is_refused : Bool) (name written : List ℕ) (number : ℕ) (old mid new : Moment) → Copies name number (Ok tt) old mid → OnOk result (Reports (old_line is_refused name number) mid new)
+    → OnOk result (KeepsOld is_refused name written old new)
+kept (Ok done) is_refused name written number old mid new copies told = inr (record { number = number; mid = mid; copies = copies; told = told })
+kept (Err failure) is_refused name written number old mid new copies told = tt
 
 -- ---- the end of a journal
 
 pub ended : {T X : Type 0} (result : Result T X) (name bytes : List ℕ) (state : SessionState) (refused : ℕ) (old new : Moment) → bytes ≡ file_of state → refused ≡ 0
-    → OnOk result (Asks (end name bytes (Ok tt)) old new) → OnOk result (IsEnded name refused state old new)
+    → OnOk result (Asks (end name bytes (Ok tt)) old new) → OnOk result (Replaces name refused state old new)
 ended (Ok done) name bytes state refused old new is none asks = inl (none, subst (λ (b : List ℕ). Asks (end name b (Ok tt)) old new) is asks)
 ended (Err failure) name bytes state refused old new is none asks = tt
 
 pub unended : {T : Type 0} (result : Result T Failure) (name bytes : List ℕ) (state : SessionState) (old new : Moment) → bytes ≡ file_of state
-    → IfErr result (λ failure. (fault : DiskFault) × IsFaultOf fault name failure × Asks (end name bytes (Err fault)) old new) → IfErr result (λ failure. IsUnended name state failure old new)
+    → IfErr result (λ failure. (fault : DiskFault) × IsFaultOf fault name failure × Asks (end name bytes (Err fault)) old new) → IfErr result (λ failure. ((failure ≡ Memory) × (new ≡ old)) ⊎ IsNotEnded name state failure old new)
 unended (Ok done) name bytes state old new is why = tt
 unended (Err failure) name bytes state old new is (fault, told, asks) =
-    inr (inr (record { fault = fault; told = told; asks = subst (λ (b : List ℕ). Asks (end name b (Err fault)) old new) is asks }))
+    inr (record { fault = fault; told = told; asks = subst (λ (b : List ℕ). Asks (end name b (Err fault)) old new) is asks })
+
+pub found_ended : {T X : Type 0} (result : Result T X) (name : List ℕ) (refused : ℕ) (state : SessionState) (old mid new : Moment) → Asks (find name (Ok tt)) old mid → OnOk result (Replaces name refused state mid new)
+    → OnOk result (IsEnded name refused state old new)
+found_ended (Ok done) name refused state old mid new finds replaces = record { mid = mid; finds = finds; replaces = replaces }
+found_ended (Err failure) name refused state old mid new finds replaces = tt
+
+pub found_unended : {T : Type 0} (result : Result T Failure) (name : List ℕ) (state : SessionState) (old mid new : Moment) → Asks (find name (Ok tt)) old mid
+    → IfErr result (λ failure. ((failure ≡ Memory) × (new ≡ mid)) ⊎ IsNotEnded name state failure mid new) → IfErr result (λ failure. IsUnended name state failure old new)
+found_unended (Ok done) name state old mid new finds why = tt
+found_unended (Err failure) name state old mid new finds why = inr (record { mid = mid; finds = finds; why = why })
 
 -- ---- the end of a session
 
-pub saves : (files : SessionFiles) (refused : Refusals) (state : SessionState) (result : Result (Unit {0}) Failure) (old new : Moment) → OnOk result (IsSaved files files.save_file refused state old new)
-    → IfErr result (λ failure. IsNotSaved files refused state failure old new) → Saves files refused state result old new
+pub saves : (files : SessionFiles) (refused : Refusals) (state : SessionState) (result : Result (Unit {0}) Failure) (old new : Moment) → OnOk result (IsSaved files.save_file (nat_lt 0 refused.count) state old new)
+    → IfErr result (λ failure. IsNotSaved files (nat_lt 0 refused.count) state failure old new) → Saves files refused state result old new
 saves files refused state (Ok done) old new ok err = ok
 saves files refused state (Err failure) old new ok err = err
 
@@ -144,6 +165,39 @@ pub closed : (files : SessionFiles) (refused : Refusals) (state : SessionState) 
 closed files refused state answered result status done saved old mid new is saved_is saves closes =
     subst (λ (a : Result ExitStatus Failure). Ends files refused state a result old new) (sym is)
     (record { saved = Ok done; mid = mid; saves = subst (λ (s : Result (Unit {0}) Failure). Saves files refused state s old mid) saved_is saves; closes = closes })
+
+-- ---- the session before the last line
+
+matched : {A : Type 0} (B : Type 0) (b : Bool) → b ≡ true → A → MatchBool b A B
+matched B true is a = a
+matched B false is a = cc
+
+unmatched : {B : Type 0} (A : Type 0) (b : Bool) → b ≡ false → B → MatchBool b A B
+unmatched A true is b = cc
+unmatched A false is b = b
+
+-- two names for the bytes that are compared
+compared : (given after bytes : List ℕ) (state : SessionState) (is_same : Bool) → given ≡ bytes → after ≡ file_of state → bytes_eq given after ≡ is_same → bytes_eq bytes (file_of state) ≡ is_same
+compared given after bytes state is_same given_is after_is same =
+    subst (λ (b : List ℕ). bytes_eq b (file_of state) ≡ is_same) given_is (subst (λ (a : List ℕ). bytes_eq given a ≡ is_same) after_is same)
+
+-- the last line changed nothing
+pub kept_same : {T : Type 0} (bytes : T → List ℕ) (files : SessionFiles) (before : Option T) (file : T) (given after : List ℕ) (state : SessionState) (old : Moment) → before ≡ Some file → given ≡ bytes file → after ≡ file_of state
+    → bytes_eq given after ≡ true → KeepsBefore files (option_map bytes before) state (Ok tt) old old
+kept_same bytes files before file given after state old is given_is after_is same =
+    subst (λ o. KeepsBefore files (option_map bytes o) state (Ok tt) old old) (sym is) (inl (matched _ (bytes_eq (bytes file) (file_of state)) (compared given after (bytes file) state true given_is after_is same) (refl, refl)))
+
+-- the last line changed the session
+pub kept_other : {T : Type 0} (bytes : T → List ℕ) (files : SessionFiles) (before : Option T) (file : T) (given again after text : List ℕ) (beside : Option (Bor (List ℕ))) (state : SessionState) (kept : Result (Unit {0}) Failure) (old mid new : Moment)
+    → before ≡ Some file → given ≡ bytes file → again ≡ bytes file → after ≡ file_of state → beside ≡ record_file files → bytes_eq given after ≡ false → text ≡ unended_lines old.explains → Reports text old mid → KeepsBeside beside again kept mid new
+    → KeepsBefore files (option_map bytes before) state kept old new
+kept_other bytes files before file given again after text beside state kept old mid new is given_is again_is after_is beside_is other text_is told keeps =
+    let tells : TellsUnended (record_file files) (bytes file) kept old new = record {
+      mid = mid;
+      told = subst (λ (t : List ℕ). Reports t old mid) text_is told;
+      keeps = subst (λ (b : Option (Bor (List ℕ))). KeepsBeside b (bytes file) kept mid new) beside_is (subst (λ (b : List ℕ). KeepsBeside beside b kept mid new) again_is keeps);
+    } in
+    subst (λ o. KeepsBefore files (option_map bytes o) state kept old new) (sym is) (inl (unmatched _ (bytes_eq (bytes file) (file_of state)) (compared given after (bytes file) state false given_is after_is other) tells))
 
 -- ---- a journal
 

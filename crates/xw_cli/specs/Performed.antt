@@ -1,5 +1,5 @@
 -- What a call does, and which failures may end it.
-use Rattle.std.specs.Prelude.{◌≡◌, ◌⊎◌, ◌||◌, ℕ, Bool, true, false, MatchBool, List, [], Option, Some, None, Result, Ok, Err, IfErr, IsErr, MatchResult, codes, map}
+use Rattle.std.specs.Prelude.{◌≡◌, ◌⊎◌, ◌||◌, ℕ, nat_lt, Bool, true, false, List, [], Option, Some, None, Result, Ok, Err, IfErr, IsErr, MatchResult, codes, is_some, map}
 use Rattle.std.specs.Borrow.{Bor}
 use Rattle.xw_words.specs.Dictionary.{Dictionary, no_words}
 use Rattle.xw_grid.specs.Puzzle.{PuzzleShown}
@@ -13,7 +13,7 @@ use Rattle.xw_lines.specs.declared.outcome.RunEnd.TheVariants.{Stopped}
 use Rattle.xw_session.specs.Answer.{Answers}
 use Rattle.xw_session.specs.Opening.{empty_puzzle, opened_on, puzzle_of}
 use Rattle.xw_session.specs.State.{SessionState}
-use Rattle.xw_disk.specs.Disk.{replace, compare, take_lines}
+use Rattle.xw_disk.specs.Disk.{take_lines}
 use Rattle.xw_arguments.specs.declared.arguments.Call.{Call}
 use Rattle.xw_arguments.specs.declared.arguments.Call.TheVariants.{Edit, Convert, Check}
 use Rattle.xw_arguments.specs.declared.arguments.SessionFiles.{SessionFiles}
@@ -26,13 +26,16 @@ use Rattle.xw_desk.specs.Apart.{AreInUse, AreUnwritable, IsNotApart}
 use Rattle.xw_desk.specs.Checked.{IsCheckOf}
 use Rattle.xw_desk.specs.Desk.{Asks, Moment, ReportsIf}
 use Rattle.xw_desk.specs.Explained.{IsReported, IsTold}
-use Rattle.xw_desk.specs.Files.{IfNamed, IsFound, IsTextTold, IsUnread, IsUnwritten, IsWritten}
+use Rattle.xw_desk.specs.Files.{IfNamed, IsFound, IsTextTold, IsUnread}
 use Rattle.xw_desk.specs.ExitStatus.{run_ended}
 use Rattle.xw_desk.specs.Told.{IsCannotWrite, IsReplaced}
-use Rattle.xw_cli.specs.Answered.{AnswersInput}
+use Rattle.xw_cli.specs.Answered.{AnswersInput, HasBefore}
 use Rattle.xw_cli.specs.Journals.{HasReplayed, IsEnded, IsUnended, IsUnreplayed}
 use Rattle.xw_cli.specs.declared.session_files.Refusals.{Refusals}
-use Rattle.xw_cli.specs.SessionFiles.{HasKept, IsLoaded, IsNotKept, IsResumed, IsUnloaded, IsUnsaved, file_of}
+use Rattle.xw_cli.specs.Unended.{KeepsBefore}
+use Rattle.xw_cli.specs.Put.{is_kept, of_session, IsNotPutOver, IsPutOver}
+use Rattle.xw_cli.specs.Saved.{IsNotOver, IsOver, Leaves}
+use Rattle.xw_cli.specs.SessionFiles.{IsLoaded, IsResumed, IsUnloaded, file_of}
 
 -- ---- convert
 
@@ -44,7 +47,7 @@ pub record IsConverted (from_name to_name : List ℕ) (old new : Moment) : Type 
   pub mid : Moment
   pub found : IsFound from_name kind puzzle old mid
   pub written : Moment
-  pub writes : IsWritten to_name puzzle mid written
+  pub writes : IsPutOver to_name puzzle mid written
   pub text : IsTextTold to_name written new
 
 -- The first file was read, and its puzzle was not written to the second.
@@ -53,7 +56,7 @@ pub record IsNotWritten (from_name to_name : List ℕ) (failure : Failure) (old 
   pub puzzle : PuzzleShown
   pub mid : Moment
   pub found : IsFound from_name kind puzzle old mid
-  pub unwritten : IsUnwritten to_name puzzle failure mid new
+  pub unwritten : IsNotPutOver to_name puzzle failure mid new
 
 -- why the puzzle of a file is not written to another
 abbrev pub IsUnconverted : List ℕ → List ℕ → Failure → Moment → Moment → Type 0
@@ -110,7 +113,7 @@ IsUnopened files failure old new = HasNoWords files.dict failure old new ⊎ (Is
 -- the commands of the named file are replayed, and those that are refused are reported, after a report of lines that
 -- were cut
 abbrev pub HasResumed : Option (Bor (List ℕ)) → SessionState → Refusals → SessionState → Moment → Moment → Type 0
-HasResumed None start refused state old new = (refused.count ≡ 0) × (refused.is_loss ≡ false) × (state ≡ start) × (new ≡ old)
+HasResumed None start refused state old new = (refused.count ≡ 0) × (state ≡ start) × (new ≡ old)
 HasResumed (Some file) start refused state old new = IsResumed file.now start state (Ok refused) old new
 
 -- why no commands are resumed
@@ -119,59 +122,27 @@ IsUnresumed name start failure old new = (state : SessionState) × IsResumed nam
 
 -- ---- the end of a session
 
--- the disk was asked whether the file to write is the one that was resumed, if one was; this was its answer
-abbrev pub Compares : Option (Bor (List ℕ)) → List ℕ → Bool → Moment → Moment → Type 0
-Compares None name is_one old new = (is_one ≡ false) × (new ≡ old)
-Compares (Some resumed) name is_one old new = Asks (compare resumed.now name is_one) old new
-
--- The file with this name is kept if it is the one that was resumed, and this is reported; otherwise it stays.
-pub record KeepsResumed (resumed : Option (Bor (List ℕ))) (name : List ℕ) (old new : Moment) : Type 0 where
-  pub is_one : Bool
-  pub mid : Moment
-  pub compares : Compares resumed name is_one old mid
-  pub kept : MatchBool is_one (HasKept name mid new) (new ≡ mid)
-
--- before a session is written to the file with this name, the file is kept exactly if it is the one that was resumed and
--- a line of it is lost
-abbrev pub Keeps : Option (Bor (List ℕ)) → List ℕ → Bool → Moment → Moment → Type 0
-Keeps resumed name true old new = KeepsResumed resumed name old new
-Keeps resumed name false old new = new ≡ old
-
--- The file with this name has the record of the session.
-pub record IsSavedAs (resumed : Option (Bor (List ℕ))) (name : List ℕ) (refused : Refusals) (state : SessionState) (old new : Moment) : Type 0 where
-  pub mid : Moment
-  pub keeps : Keeps resumed name refused.is_loss old mid
-  pub asks : Asks (replace name (file_of state) (Ok tt)) mid new
-
 -- the session is saved if a file for it is named
-abbrev pub IsSaved : SessionFiles → Option (Bor (List ℕ)) → Refusals → SessionState → Moment → Moment → Type 0
-IsSaved files None refused state old new = new ≡ old
-IsSaved files (Some file) refused state old new = IsSavedAs files.resume_file file.now refused state old new
+abbrev pub IsSaved : Option (Bor (List ℕ)) → Bool → SessionState → Moment → Moment → Type 0
+IsSaved None is_loss state old new = new ≡ old
+IsSaved (Some file) is_loss state old new = IsOver file.now is_loss (file_of state) old new
 
--- The file with this name is the one that was resumed, and a line of it is lost; and it is not kept, or this cannot be
--- reported.
-pub record IsNotKeptOver (resumed : Option (Bor (List ℕ))) (name : List ℕ) (refused : Refusals) (failure : Failure) (old new : Moment) : Type 0 where
-  pub lost : refused.is_loss ≡ true
+-- The file with this name does not get the record of the session, which is then left in another file.
+pub record IsUnsaved (files : SessionFiles) (name : List ℕ) (is_loss : Bool) (state : SessionState) (failure : Failure) (old new : Moment) : Type 0 where
+  pub first : Failure
   pub mid : Moment
-  pub compares : Compares resumed name true old mid
-  pub why : IsNotKept name failure mid new
-
--- The old file is kept or stays, and then the session is not saved.
-pub record IsUnsavedAs (resumed : Option (Bor (List ℕ))) (name : List ℕ) (refused : Refusals) (state : SessionState) (failure : Failure) (old new : Moment) : Type 0 where
-  pub mid : Moment
-  pub keeps : Keeps resumed name refused.is_loss old mid
-  pub unsaved : IsUnsaved name state failure mid new
+  pub why : IsNotOver files name is_loss (file_of state) first old mid
+  pub leaves : Leaves name (file_of state) first failure mid new
 
 -- why the session is not saved
-abbrev pub IsNotSaved : SessionFiles → Refusals → SessionState → Failure → Moment → Moment → Type 0
-IsNotSaved files refused state failure old new =
-    (((failure ≡ failures.Memory) ⊎ IsNotApart files failure) × (new ≡ old))
-    ⊎ IfNamed files.save_file (λ name. IsNotKeptOver files.resume_file name refused failure old new ⊎ IsUnsavedAs files.resume_file name refused state failure old new)
+abbrev pub IsNotSaved : SessionFiles → Bool → SessionState → Failure → Moment → Moment → Type 0
+IsNotSaved files is_loss state failure old new =
+    ((failure ≡ failures.Memory) × (new ≡ old)) ⊎ IfNamed files.save_file (λ name. IsUnsaved files name is_loss state failure old new)
 
 -- whether the session is saved
 abbrev pub Saves : SessionFiles → Refusals → SessionState → Result (Unit {0}) Failure → Moment → Moment → Type 0
-Saves files refused state (Ok done) old new = IsSaved files files.save_file refused state old new
-Saves files refused state (Err failure) old new = IsNotSaved files refused state failure old new
+Saves files refused state (Ok done) old new = IsSaved files.save_file (nat_lt 0 refused.count) state old new
+Saves files refused state (Err failure) old new = IsNotSaved files (nat_lt 0 refused.count) state failure old new
 
 -- whether the journal that is named ends with the record of the session
 abbrev pub EndsJournal : Option (Bor (List ℕ)) → ℕ → SessionState → Result (Unit {0}) Failure → Moment → Moment → Type 0
@@ -182,11 +153,17 @@ EndsJournal (Some file) refused state (Err failure) old new = IsUnended file.now
 -- the puzzle is written if a file for it is named
 abbrev pub IsPut : Option (Bor (List ℕ)) → PuzzleShown → Moment → Moment → Type 0
 IsPut None puzzle old new = new ≡ old
-IsPut (Some file) puzzle old new = IsWritten file.now puzzle old new
+IsPut (Some file) puzzle old new = IsPutOver file.now puzzle old new
+
+-- The file with this name does not get the puzzle of the session.
+pub record IsNotPutFor (files : SessionFiles) (puzzle : PuzzleShown) (failure : Failure) (name : List ℕ) (old new : Moment) : Type 0 where
+  pub first : Failure
+  pub why : IsNotPutOver name puzzle first old new
+  pub told : failure ≡ of_session (is_kept files) first
 
 -- why the puzzle of a session is not written
 abbrev pub IsNotPut : SessionFiles → PuzzleShown → Failure → Moment → Moment → Type 0
-IsNotPut files puzzle failure old new = (IsNotApart files failure × (new ≡ old)) ⊎ IfNamed files.to_file (λ name. IsUnwritten name puzzle failure old new)
+IsNotPut files puzzle failure old new = (IsNotApart files failure × (new ≡ old)) ⊎ IfNamed files.to_file (λ name. IsNotPutFor files puzzle failure name old new)
 
 -- whether the puzzle of a session is written, with the status of its run
 abbrev pub Puts : SessionFiles → PuzzleShown → ExitStatus → Result ExitStatus Failure → Moment → Moment → Type 0
@@ -226,21 +203,41 @@ pub record Ends (files : SessionFiles) (refused : Refusals) (state : SessionStat
       (λ status. MatchResult saved (λ _. Closes files refused.count state status result mid new) (λ failure. (code : ExitStatus) × (result ≡ Ok code) × StillPuts files state failure code mid new))
       (λ failure. (result ≡ Err failure) × (new ≡ mid))
 
+-- the failure of a call whose session ended in the first way, and for which a session before was then kept in the second
+abbrev pub first_failure : Result ExitStatus Failure → Result (Unit {0}) Failure → Result ExitStatus Failure
+first_failure (Err failure) kept = Err failure
+first_failure (Ok status) (Err failure) = Err failure
+first_failure (Ok status) (Ok done) = Ok status
+
+-- A session ends in this state, and then the session before a last line without an LF is kept, if these bytes are the file
+-- of it.
+pub record EndsAfter (files : SessionFiles) (refused : Refusals) (before : Option (List ℕ)) (state : SessionState) (answered result : Result ExitStatus Failure) (old new : Moment) : Type 0 where
+  pub ended : Result ExitStatus Failure
+  pub mid : Moment
+  pub ends : Ends files refused state answered ended old mid
+  pub kept : Result (Unit {0}) Failure
+  pub keeps : KeepsBefore files before state kept mid new
+  pub is : result ≡ first_failure ended kept
+
 -- ---- a session
 
--- what greets who types commands
-abbrev pub greeting : List ℕ
-greeting = codes "xw: type one command per line; help lists them, and Ctrl D ends the session\n"
+-- what greets who types commands; the second line is for a session that no file keeps
+abbrev pub greeting : Bool → List ℕ
+greeting true = codes "xw: type one command per line; help lists them, and Ctrl D ends the session\n"
+greeting false = codes "xw: type one command per line; help lists them, and Ctrl D ends the session\nxw: the session is not kept; --save or --journal keeps it\n"
 
--- A session answers the input from this state, and ends. In a dialogue it greets first. These lines were refused before.
+-- A session answers the input from this state, and ends. In a dialogue it greets first. These lines were refused before. The
+-- session before a last line without an LF is kept.
 pub record IsSessionRun (files : SessionFiles) (before : Refusals) (start : SessionState) (result : Result ExitStatus Failure) (old new : Moment) : Type 0 where
   pub greeted : Moment
-  pub greets : ReportsIf old.is_dialogue greeting old greeted
+  pub greets : ReportsIf old.is_dialogue (greeting (is_some files.save_file)) old greeted
   pub left : SessionState
   pub end : RunEnd
   pub mid : Moment
   pub answers : AnswersInput Answers NeverStops end start left greeted mid
-  pub ends : Ends files before left (run_ended before.count end) result mid new
+  pub file_before : Option (List ℕ)
+  pub has_before : HasBefore Answers (λ state. state) file_before end start greeted mid
+  pub ends : EndsAfter files before file_before left (run_ended before.count end) result mid new
 
 -- From its first state a session resumes the commands that are named, answers the input, and ends.
 pub record IsSession (files : SessionFiles) (opened : SessionState) (result : Result ExitStatus Failure) (old new : Moment) : Type 0 where
@@ -257,19 +254,22 @@ IsJournalEnd name before Stopped other answered = IfErr answered (λ failure. Is
 IsJournalEnd name before end cause answered = answered ≡ run_ended before end
 
 -- A session answers the input from this state, with each change in the journal before its answer is finished. In a
--- dialogue it greets first. The journal takes these lines, and the session ends.
+-- dialogue it greets first. The journal takes these lines, and the session ends. The session before a last line without an LF
+-- is kept.
 pub record IsJournalRun (name : List ℕ) (files : SessionFiles) (before : Refusals) (start : JournaledState) (result : Result ExitStatus Failure) (old new : Moment) : Type 0 where
   pub greeted : Moment
-  pub greets : ReportsIf old.is_dialogue greeting old greeted
+  pub greets : ReportsIf old.is_dialogue (greeting true) old greeted
   pub left : JournaledState
   pub end : RunEnd
   pub mid : Moment
   pub answers : AnswersInput AnswersJournaled StopsAtJournal end start left greeted mid
+  pub file_before : Option (List ℕ)
+  pub has_before : HasBefore AnswersJournaled (λ journaled. journaled.state) file_before end start greeted mid
   pub taken : Moment
   pub takes : Asks (take_lines name left.journal) mid taken
   pub answered : Result ExitStatus Failure
   pub answered_is : IsJournalEnd name before.count end left.cause answered
-  pub ends : Ends files before left.state answered result taken new
+  pub ends : EndsAfter files before file_before left.state answered result taken new
 
 -- From its first state a session replays the journal with this name, answers the input, and ends.
 pub record IsJournaled (name : List ℕ) (files : SessionFiles) (opened : SessionState) (result : Result ExitStatus Failure) (old new : Moment) : Type 0 where

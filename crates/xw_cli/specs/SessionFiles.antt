@@ -1,11 +1,10 @@
 -- The word list of a session, and the commands that it resumes: what is read, what is reported, and which failure ends
 -- it.
-use Rattle.std.specs.Prelude.{◌≡◌, ◌⊎◌, ◌-◌, ◌++◌, ◌&&◌, ℕ, nat_lt, bytes_eq, drop, not, Bool, true, false, List, None, Result, Ok, Err, codes, count_by, decimal, length, []}
-use Rattle.std.specs.List.{list_any}
+use Rattle.std.specs.Prelude.{◌≡◌, ◌⊎◌, ◌-◌, ◌++◌, ◌&&◌, ℕ, nat_lt, bytes_eq, drop, Bool, true, false, List, None, Result, Ok, Err, codes, count_by, decimal, flat_map, if◌then◌else◌, length, []}
 use Rattle.xw_text.specs.Lines.{is_line_feed, lines_of}
 use Rattle.xw_words.specs.Dictionary.{Dictionary}
-use Rattle.xw_words.specs.WordList.{IsTooLong, listed_in, results_of, words_among}
-use Rattle.xw_journal.specs.File.{first_line, is_cut, kept_lines}
+use Rattle.xw_words.specs.WordList.{IsTooLong, listed_in, results_of, without_mark, words_among}
+use Rattle.xw_journal.specs.File.{first_line, has_first_line, is_cut, kept_lines}
 use Rattle.xw_session.specs.Record.{record_lines}
 use Rattle.xw_session.specs.Resuming.{Resumes}
 use Rattle.xw_session.specs.State.{SessionState}
@@ -19,7 +18,7 @@ use Rattle.xw_disk.specs.Disk.{read, keep}
 use Rattle.xw_disk.specs.Kept.{kept_name}
 use Rattle.xw_disk.specs.declared.disk.DiskFault.{DiskFault}
 use Rattle.xw_desk.specs.Desk.{Asks, Moment, Reports, ReportsIf}
-use Rattle.xw_desk.specs.Files.{IsFileFault, IsLineFault, IsUnreadFile, IsUnreplaced}
+use Rattle.xw_desk.specs.Files.{IsFileFault, IsLineFault, IsUnreadFile}
 use Rattle.xw_desk.specs.Told.{IsOldFaultOf}
 
 -- ---- the word list
@@ -87,6 +86,10 @@ IsUnloaded name failure old new = IsUnreadFile name failure old new ⊎ IsBadLis
 
 -- ---- the commands to resume
 
+-- the bytes of a file without a byte order mark before the first line of a session
+abbrev pub unmarked : List ℕ → List ℕ
+unmarked bytes = if has_first_line (without_mark bytes) then without_mark bytes else bytes
+
 -- the report of lines that do not count because they were cut
 abbrev pub cut_line : List ℕ → List ℕ
 cut_line name = codes "xw: " ++ name ++ codes ": an incomplete last command is ignored\n"
@@ -100,33 +103,38 @@ IsStopped name stops.Memory failure = failure ≡ failures.Memory
 abbrev pub ends_in_known : List ℕ → Bool
 ends_in_known line = bytes_eq (drop (length line - 7) line) (codes ": Known")
 
--- whether a report has another reason than `Known`; the record of the session then lacks what its line says
-abbrev pub tells_loss : List ℕ → Bool
-tells_loss reports = list_any (λ line. not (ends_in_known line)) (lines_of reports)
+-- what follows a report, without its LF, if failures are explained
+abbrev pub after_report : List ℕ → List ℕ
+after_report line = if ends_in_known line then codes "\nxw: the list has this word\n" else codes "\n"
 
--- this number of lines was refused, with these reports
-abbrev pub AreRefused : ℕ → List ℕ → Refusals → Type 0
-AreRefused count told refused = (refused.count ≡ count) × (refused.is_loss ≡ tells_loss told)
+-- the reports of a replay; if failures are explained, a sentence follows each report of a word that the list has
+abbrev pub explained_reports : Bool → List ℕ → List ℕ
+explained_reports false reports = reports
+explained_reports true reports = flat_map (λ line. line ++ after_report line) (lines_of reports)
 
--- the refused lines of a replay with these reports, or the failure of one that stopped
-abbrev pub IsReplayed : List ℕ → List ℕ → Result ℕ Stop → Result Refusals Failure → Type 0
-IsReplayed name told (Ok count) (Ok refused) = AreRefused count told refused
-IsReplayed name told (Ok count) (Err failure) = ⊥
-IsReplayed name told (Err stop) (Ok refused) = ⊥
-IsReplayed name told (Err stop) (Err failure) = IsStopped name stop failure
+-- This number of lines was refused.
+abbrev pub AreRefused : ℕ → Refusals → Type 0
+AreRefused count refused = refused.count ≡ count
+
+-- the refused lines of a replay, or the failure of one that stopped
+abbrev pub IsReplayed : List ℕ → Result ℕ Stop → Result Refusals Failure → Type 0
+IsReplayed name (Ok count) (Ok refused) = AreRefused count refused
+IsReplayed name (Ok count) (Err failure) = ⊥
+IsReplayed name (Err stop) (Ok refused) = ⊥
+IsReplayed name (Err stop) (Err failure) = IsStopped name stop failure
 
 -- The reports of a replay are written, with its result; or they could not be allocated, and none is written. `lost` is
 -- the number of those that were not allocated.
 abbrev pub TellsReplay : List ℕ → ℕ → List ℕ → Result ℕ Stop → Result Refusals Failure → Moment → Moment → Type 0
 TellsReplay name lost told ended result old new =
-    ((lost ≡ 0) × Reports told old new × IsReplayed name told ended result) ⊎ ((result ≡ Err failures.Memory) × (new ≡ old))
+    ((lost ≡ 0) × Reports (explained_reports old.explains told) old new × IsReplayed name ended result) ⊎ ((result ≡ Err failures.Memory) × (new ≡ old))
 
 -- These lines are replayed from the first state, up to the first that is no command: the result, the state that is
 -- left and the reports of refused lines are those of the replay. Or the reports could not be allocated, and none is
 -- written.
 abbrev pub Replays : List ℕ → List (List ℕ) → SessionState → SessionState → Result Refusals Failure → Moment → Moment → Type 0
 Replays name lines start left result old new =
-    ((ended : Result ℕ Stop) × (told : List ℕ) × Resumes name start lines ended told left × Reports told old new × IsReplayed name told ended result)
+    ((ended : Result ℕ Stop) × (told : List ℕ) × Resumes name start lines ended told left × Reports (explained_reports old.explains told) old new × IsReplayed name ended result)
     ⊎ ((result ≡ Err failures.Memory) × (new ≡ old))
 
 -- The file with this name was read, and the lines of its bytes that count are replayed, after a report exactly if others
@@ -136,8 +144,8 @@ pub record IsReplay (name : List ℕ) (start left : SessionState) (result : Resu
   pub read_at : Moment
   pub asks : Asks (read name (Ok bytes)) old read_at
   pub mid : Moment
-  pub cut : ReportsIf (is_cut bytes) (cut_line name) read_at mid
-  pub replays : Replays name (kept_lines bytes) start left result mid new
+  pub cut : ReportsIf (is_cut (unmarked bytes)) (cut_line name) read_at mid
+  pub replays : Replays name (kept_lines (unmarked bytes)) start left result mid new
 
 -- The file with this name was read, and the report that lines were cut could not be allocated.
 pub record IsUntold (name : List ℕ) (start left : SessionState) (result : Result Refusals Failure) (old new : Moment) : Type 0 where
@@ -163,15 +171,20 @@ IsResumed name start left result old new = IsReplay name start left result old n
 abbrev pub file_of : SessionState → List ℕ
 file_of state = first_line ++ record_lines state
 
--- why the session is not written to the file with this name
-abbrev pub IsUnsaved : List ℕ → SessionState → Failure → Moment → Moment → Type 0
-IsUnsaved name state failure old new = ((failure ≡ failures.Memory) × (new ≡ old)) ⊎ IsUnreplaced name (file_of state) failure old new
-
 -- ---- an old file that is kept
 
+-- what the report of an old file that is kept says of it; whether lines of it were refused
+abbrev pub kept_because : Bool → List ℕ
+kept_because true = codes ": refused lines; the old file is kept as "
+kept_because false = codes ": the old file is kept as "
+
 -- the report of an old file that is kept
-abbrev pub old_line : List ℕ → ℕ → List ℕ
-old_line name number = codes "xw: " ++ name ++ codes ": refused lines; the old file is kept as " ++ kept_name name number ++ codes "\n"
+abbrev pub old_line : Bool → List ℕ → ℕ → List ℕ
+old_line is_refused name number = codes "xw: " ++ name ++ kept_because is_refused ++ kept_name name number ++ codes "\n"
+
+-- the report of a session that is not saved in the file with this name, and is left in another
+abbrev pub left_line : List ℕ → List ℕ → List ℕ
+left_line name place = codes "xw: " ++ name ++ codes ": not saved; the session is kept as " ++ place ++ codes "\n"
 
 -- The file with this name was read, and its bytes were to be kept beside it, under the name with this number.
 pub record Copies (name : List ℕ) (number : ℕ) (answer : Result (Unit {0}) DiskFault) (old new : Moment) : Type 0 where
@@ -180,12 +193,22 @@ pub record Copies (name : List ℕ) (number : ℕ) (answer : Result (Unit {0}) D
   pub reads : Asks (read name (Ok bytes)) old mid
   pub keeps : Asks (keep name bytes number answer) mid new
 
--- The file with this name is kept under some number, which is reported.
-pub record HasKept (name : List ℕ) (old new : Moment) : Type 0 where
+-- The file with this name is kept under some number, which is reported, and whether lines of it were refused.
+pub record HasKept (is_refused : Bool) (name : List ℕ) (old new : Moment) : Type 0 where
   pub number : ℕ
   pub mid : Moment
   pub copies : Copies name number (Ok tt) old mid
-  pub told : Reports (old_line name number) mid new
+  pub told : Reports (old_line is_refused name number) mid new
+
+-- The file with this name was read, and has these bytes already.
+pub record HasSame (name written : List ℕ) (old new : Moment) : Type 0 where
+  pub bytes : List ℕ
+  pub reads : Asks (read name (Ok bytes)) old new
+  pub same : bytes_eq bytes written ≡ true
+
+-- what is done with the file of this name before other bytes are written over it: it is kept, unless it has the same
+abbrev pub KeepsOld : Bool → List ℕ → List ℕ → Moment → Moment → Type 0
+KeepsOld is_refused name written old new = HasSame name written old new ⊎ HasKept is_refused name old new
 
 -- The old file was not kept, and the failure names the name that it was to get.
 pub record IsNotCopied (name : List ℕ) (failure : Failure) (old new : Moment) : Type 0 where

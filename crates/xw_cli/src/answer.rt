@@ -1,27 +1,29 @@
 //! Answers the input of a call: resumes the commands that it names, greets who types, answers each line, and ends the
 //! session.
 ghost use Rattle.std.specs.Prelude.{◌≡◌, IfErr, IfOk, None};
-ghost use Rattle.xw_lines.specs.Spoken.{NeverStops};
-ghost use Rattle.xw_session.specs.Answer.{Answers};
 ghost use Rattle.xw_desk.specs.Desk.{ReportsIf};
 ghost use Rattle.xw_desk.specs.Files.{IfNamed};
-ghost use Rattle.xw_cli.specs.Answered.{AnswersInput};
 ghost use Rattle.xw_cli.specs.Performed.{greeting, HasResumed, IsSessionRun, IsUnresumed, RunsOrFails};
 
-use crate::end::end_session;
+use crate::input::answer_input;
 use crate::session_files::{Refusals, resume_file};
+use crate::unended::end_answered;
 use xw_arguments::SessionFiles;
 use xw_desk::desk::Desk;
 use xw_desk::failure::{ExitStatus, Failure, run_status};
 use xw_desk::outlet::Outlet;
 use xw_disk::Disk;
 use xw_feas::searchable::Searchable;
-use xw_lines::{RunEnd, Sink, Source};
+use xw_lines::{Sink, Source};
 use xw_session::Session;
 
 /// The line that greets who types commands.
-const GREETING: &[u8] =
+const KEPT: &[u8] =
     b"xw: type one command per line; help lists them, and Ctrl D ends the session\n";
+
+/// The same, with a line that says that no file keeps the session.
+const UNKEPT: &[u8] =
+    b"xw: type one command per line; help lists them, and Ctrl D ends the session\nxw: the session is not kept; --save or --journal keeps it\n";
 
 /// Replays the commands to start with, answers the input, and writes the files of the session.
 pub fn answer<'a, F: Searchable, D: Disk, I: Source, O: Outlet, E: Sink>(
@@ -59,19 +61,26 @@ fn converse<'a, F: Searchable, D: Disk, I: Source, O: Outlet, E: Sink>(
 ) -> Result<ExitStatus, Failure<'a>>
     ensures { IsSessionRun named.entry before session result desk.old desk.new }
 {
-    greet(desk);
-    let end = answer_lines(desk, &mut session);
-    let answered = run_status(end, before.count);
-    end_session(desk, &session, named, before, answered)
+    greet(desk, named.save_file.is_some());
+    let input = answer_input(desk, &mut session);
+    let answered = run_status(input.end, before.count);
+    end_answered(desk, &session, named, before, answered, input.before)
 }
 
-/// Says how to type commands and how to end, if lines come from a terminal.
-pub fn greet<D: Disk, I: Source, O: Outlet, E: Sink>(desk: &mut Desk<D, I, O, E>)
-    ensures { ReportsIf desk.old.is_dialogue greeting desk.old desk.new }
+/// Says how to type commands and how to end, and whether the session is kept, if lines come from a terminal.
+pub fn greet<D: Disk, I: Source, O: Outlet, E: Sink>(desk: &mut Desk<D, I, O, E>, is_kept: bool)
+    ensures { ReportsIf desk.old.is_dialogue (greeting is_kept) desk.old desk.new }
 {
     if is_dialogue(desk) {
-        desk.report(GREETING);
+        desk.report(greeting(is_kept));
     }
+}
+
+/// Returns what greets who types commands.
+fn greeting(is_kept: bool) -> &'static [u8]
+    ensures { result.now ≡ greeting is_kept }
+{
+    if is_kept { KEPT } else { UNKEPT }
 }
 
 /// Returns whether lines come from a terminal and messages go to one.
@@ -79,14 +88,4 @@ fn is_dialogue<D: Disk, I: Source, O: Outlet, E: Sink>(desk: &Desk<D, I, O, E>) 
     ensures { result ≡ desk.now.is_dialogue }
 {
     desk.is_dialogue
-}
-
-/// Answers the lines of the input.
-fn answer_lines<F: Searchable, D: Disk, I: Source, O: Outlet, E: Sink>(
-    desk: &mut Desk<D, I, O, E>,
-    session: &mut Session<F>,
-) -> RunEnd
-    ensures { AnswersInput Answers NeverStops result session.old session.new desk.old desk.new }
-{
-    session.run_lines(&mut desk.input, &mut desk.output)
 }

@@ -1,14 +1,13 @@
 //! Answers the input of a call while each change is journaled.
 ghost use Rattle.std.specs.Prelude.{◌≡◌, [], Some, None, IfOk, IfErr};
-ghost use Rattle.xw_journal.specs.Journal.{AnswersJournaled, StopsAtJournal};
-ghost use Rattle.xw_cli.specs.Answered.{AnswersInput};
 ghost use Rattle.xw_cli.specs.Journals.{HasReplayed, IsUnreplayed};
 ghost use Rattle.xw_cli.specs.Performed.{IsJournalEnd, IsJournalRun, RunsOrFails};
 
 use crate::answer::greet;
-use crate::end::end_session;
+use crate::input::answer_input;
 use crate::journal::{close_journal, resume_journal};
 use crate::session_files::Refusals;
+use crate::unended::end_answered;
 use xw_arguments::SessionFiles;
 use xw_desk::desk::Desk;
 use xw_desk::failure::{ExitStatus, Failure, run_status};
@@ -59,23 +58,13 @@ fn converse<'a, F: Searchable, D: Disk, I: Source, O: Outlet, E: Sink>(
 ) -> Result<ExitStatus, Failure<'a>>
     ensures { IsJournalRun file.entry.now named.entry before journaled result desk.old desk.new }
 {
-    greet(desk);
-    let end = answer_lines(desk, &mut journaled);
+    greet(desk, true);
+    let input = answer_input(desk, &mut journaled);
     let cause = journaled.cause();
     let (session, journal) = journaled.into_parts();
     close_journal(desk, file, journal);
-    let answered = journal_status(end, before.count, cause, file, desk.disk.is_lost());
-    end_session(desk, &session, named, before, answered)
-}
-
-/// Answers the lines of the input while each change is journaled.
-fn answer_lines<F: Searchable, D: Disk, I: Source, O: Outlet, E: Sink>(
-    desk: &mut Desk<D, I, O, E>,
-    journaled: &mut JournaledSession<F, D::Journal>,
-) -> RunEnd
-    ensures { AnswersInput AnswersJournaled StopsAtJournal result journaled.old journaled.new desk.old desk.new }
-{
-    journaled.run_lines(&mut desk.input, &mut desk.output)
+    let answered = journal_status(input.end, before.count, cause, file, desk.disk.is_lost());
+    end_answered(desk, &session, named, before, answered, input.before)
 }
 
 /// Returns the outcome of a session with a journal. `before` is the number of lines refused earlier.

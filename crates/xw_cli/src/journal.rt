@@ -1,15 +1,19 @@
 //! The journal of a session: its opening, its replay and its end.
-ghost use Rattle.std.specs.Prelude.{◌≡◌, [], ℕ, IfOk, IfErr, OnOk, Ok, Err, codes};
+ghost use Rattle.std.specs.Prelude.{◌≡◌, ◌⊎◌, ◌+◌, [], IfOk, IfErr, OnOk, Ok, Err, codes, count_by};
+ghost use Rattle.xw_text.specs.Lines.{is_line_feed};
 ghost use Rattle.xw_journal.specs.File.{form_of as form_of_bytes};
 ghost use Rattle.xw_journal.specs.declared.file.Form.TheVariants as forms;
-ghost use Rattle.xw_disk.specs.Disk.{begin, end, open_, started, take_lines};
+ghost use Rattle.xw_disk.specs.Disk.{begin, end, find, open_, started, take_lines};
 ghost use Rattle.xw_disk.specs.declared.disk.DiskFault.{DiskFault};
 ghost use Rattle.xw_desk.specs.Told.{IsFaultOf};
+ghost use Rattle.xw_desk.specs.declared.failure.Failure.TheVariants.{Memory};
 ghost use Rattle.xw_desk.specs.Desk.{Asks};
 ghost use Rattle.xw_desk.specs.Files.{IsLineFault};
-ghost use Rattle.xw_cli.specs.Journals.{drops, Begins, HasReplayed, IsEnded, IsNoJournal, IsNotOpened, IsUnended, IsUnreplayed};
+ghost use Rattle.xw_cli.specs.Journals.{drops, Begins, HasReplayed, IsEnded, IsNoJournal, IsNotEnded, IsNotFound, IsNotOpened, IsUnended, IsUnreplayed, Replaces};
 
+use crate::mark::unmarked;
 use crate::session_files::{Refusals, resume_text, tell_cut_if};
+use memchr::memchr_iter;
 use xw_desk::desk::Desk;
 use xw_desk::failure::{Failure, failure_of};
 use xw_desk::files::line_fault;
@@ -36,9 +40,9 @@ pub fn resume_journal<'a, F: Searchable, D: Disk, I: Source, O: Outlet, E: Sink>
     ensures err { IfErr result (λ failure. IsUnreplayed file.entry.now is_synced session.old failure desk.old desk.new) }
 {
     let (opened, bytes) = open_journal(desk, file)?;
-    let text = bytes.as_slice();
+    let text = unmarked(bytes.as_slice());
     let refused = resume_text(desk, file, session, kept(text))?;
-    let start = start_of(file, text)?;
+    let start = start_of(file, text, text.len() < bytes.len())?;
     let journal = begin_journal(desk, file, opened, start, is_synced)?;
     tell_cut_if(desk, file, drops(text))?;
     Ok((journal, refused))
@@ -88,13 +92,19 @@ pub fn close_journal<D: Disk, I: Source, O: Outlet, E: Sink>(
     desk.disk.close_journal(file, journal);
 }
 
-/// Returns how a file with these bytes becomes a journal that lines can be appended to.
-fn start_of<'a, 'b>(file: &'a str, bytes: &'b [u8]) -> Result<Start<'b>, Failure<'a>>
+/// Returns how a file with these bytes becomes a journal that lines can be appended to. A byte order mark before them is
+/// dropped.
+fn start_of<'a, 'b>(
+    file: &'a str,
+    bytes: &'b [u8],
+    is_marked: bool,
+) -> Result<Start<'b>, Failure<'a>>
     ensures ok { IfOk result (λ start. Begins (form_of_bytes bytes.entry.now) bytes.entry.now (started start)) }
     ensures err { IfErr result (λ failure. IsNoJournal file.entry.now bytes.entry.now failure) }
 {
     match form_of(bytes) {
         Form::Begun => Ok(Start::Anew(FIRST_LINE)),
+        Form::Named if is_marked => Ok(Start::Put(&[], kept(bytes))),
         Form::Named => Ok(Start::Cut(kept(bytes))),
         Form::Whole if is_comments(bytes) => Err(line_fault(file, 1, "Command")),
         Form::Whole => Ok(Start::Put(FIRST_LINE, bytes)),
@@ -131,11 +141,11 @@ fn drops(bytes: &[u8]) -> bool
     }
 }
 
-/// Returns the failure for a file without the first line whose last line has no LF.
+/// Returns the failure for a file without the first line whose last line, the one after all LFs, has none.
 fn cut_fault<'a>(file: &'a str, bytes: &[u8]) -> Failure<'a>
-    ensures { (number : ℕ) × IsLineFault file.entry.now number (codes "Cut") result }
+    ensures { IsLineFault file.entry.now (count_by is_line_feed bytes.now + 1) (codes "Cut") result }
 {
-    let ended = bytes.iter().filter(|byte| **byte == b'\n').count();
+    let ended = memchr_iter(b'\n', bytes).count();
     line_fault(file, ended.saturating_add(1), "Cut")
 }
 
@@ -150,9 +160,34 @@ pub fn end_journal<'a, F: Feasible, D: Disk, I: Source, O: Outlet, E: Sink>(
     ensures ok { OnOk result (IsEnded file.entry.now refused session.now desk.old desk.new) }
     ensures err { IfErr result (λ failure. IsUnended file.entry.now session.now failure desk.old desk.new) }
 {
-    if let Err(fault) = desk.disk.find_journal() {
-        return Err(failure_of(fault, file));
+    find_journal(desk, file)?;
+    replace_if(desk, file, refused, session)
+}
+
+/// Fails if the name of a journal no longer leads to it, or another program has changed its length.
+fn find_journal<'a, D: Disk, I: Source, O: Outlet, E: Sink>(
+    desk: &mut Desk<D, I, O, E>,
+    file: &'a str,
+) -> Result<(), Failure<'a>>
+    ensures ok { OnOk result (Asks (find file.entry.now (Ok tt)) desk.old desk.new) }
+    ensures err { IfErr result (λ failure. IsNotFound file.entry.now failure desk.old desk.new) }
+{
+    match desk.disk.find_journal(file) {
+        Ok(()) => Ok(()),
+        Err(fault) => Err(failure_of(fault, file)),
     }
+}
+
+/// Replaces a journal by the record of its session, unless lines of it were refused.
+fn replace_if<'a, F: Feasible, D: Disk, I: Source, O: Outlet, E: Sink>(
+    desk: &mut Desk<D, I, O, E>,
+    file: &'a str,
+    refused: usize,
+    session: &Session<F>,
+) -> Result<(), Failure<'a>>
+    ensures ok { OnOk result (Replaces file.entry.now refused session.now desk.old desk.new) }
+    ensures err { IfErr result (λ failure. ((failure ≡ Memory) × (desk.new ≡ desk.old)) ⊎ IsNotEnded file.entry.now session.now failure desk.old desk.new) }
+{
     if refused > 0 {
         return Ok(());
     }

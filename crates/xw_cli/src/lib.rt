@@ -6,11 +6,17 @@ mod answer_journaled;
 mod convert;
 mod edit;
 mod end;
+mod input;
 mod journal;
 mod lists;
+mod lost;
+mod mark;
 mod open;
 mod perform;
+mod put;
+mod saving;
 mod session_files;
 pub mod start;
+mod unended;
 
 pub use xw_arguments::{Call, SessionFiles, Usage};

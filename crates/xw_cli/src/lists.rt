@@ -4,6 +4,7 @@ ghost use Rattle.std.specs.Prelude.{◌<◌, length, IfOk, IfSome};
 ghost use Rattle.xw_cli.specs.SessionFiles.{AreNotes};
 
 use std::alloc::{AllocError, Global};
+use xw_files::{Kind, kind_of};
 use xw_text::lines::first_line;
 
 /// The most digits of a grade.
@@ -96,8 +97,11 @@ fn is_number(text: &[u8]) -> bool {
     !text.is_empty() && text.len() <= MOST_DIGITS && text.iter().all(|byte| byte.is_ascii_digit())
 }
 
-/// Returns the line that warns of a list in another form, or no text.
+/// Returns the line that warns of a list in another form or of another file, or no text.
 fn warning(bytes: &[u8]) -> &'static str {
+    if kind_of(bytes) == Kind::Puz {
+        return "xw: this is a puzzle file; use --from to start with it\n";
+    }
     if is_utf16(bytes) {
         return "xw: the list looks like UTF-16; save it as UTF-8\n";
     }

@@ -3,26 +3,27 @@ ghost use Rattle.std.specs.Prelude.{◌≡◌, ◌⊎◌, ◌++◌, ◌&&◌, �
 ghost use Rattle.xw_words.specs.WordList.{listed_in};
 ghost use Rattle.xw_answers.specs.Text.{word_fault};
 ghost use Rattle.xw_lines.specs.Cut.{lines_of};
-ghost use Rattle.xw_disk.specs.Disk.{keep, replace};
+ghost use Rattle.xw_disk.specs.Disk.{keep, stands};
 ghost use Rattle.xw_disk.specs.declared.disk.DiskFault.{DiskFault};
 ghost use Rattle.xw_desk.specs.Told.{IsOldFaultOf};
 ghost use Rattle.xw_desk.specs.declared.failure.Failure.TheVariants.{Memory};
 ghost use Rattle.xw_desk.specs.Desk.{Asks, Reports, ReportsIf};
 ghost use Rattle.xw_desk.specs.Files.{IsFileFault};
-ghost use Rattle.xw_cli.specs.SessionFiles.{counts_line, cut_line, ends_in_known, file_of, is_long, old_line, tells_loss, HasKept, IsLoaded, IsLoadedTold, IsLoadingTold, IsNotKept, IsOverfull, IsResumed, IsStopped, IsUnloaded, IsUnsaved, Replays, TellsReplay};
+ghost use Rattle.xw_cli.specs.SessionFiles.{counts_line, after_report, cut_line, ends_in_known, explained_reports, is_long, kept_because, left_line, old_line, IsLoaded, IsLoadedTold, IsLoadingTold, IsNotKept, IsOverfull, IsResumed, IsStopped, IsUnloaded, KeepsOld, Replays, TellsReplay};
 
 use crate::lists::notes_of;
+use crate::mark::unmarked;
 use memchr::memchr_iter;
+use std::alloc::{AllocError, Global};
 use xw_answers::refusal;
 use xw_desk::desk::Desk;
 use xw_desk::failure::{Failure, old_failure_of};
 use xw_desk::files::{file_fault, line_fault};
 use xw_desk::outlet::Outlet;
-use xw_disk::Disk;
 use xw_disk::replacing::kept_name;
-use xw_feas::feasible::Feasible;
+use xw_disk::{Disk, Standing};
 use xw_feas::searchable::Searchable;
-use xw_journal::file::{is_cut, kept, saved};
+use xw_journal::file::{is_cut, kept};
 use xw_lines::{Sink, Source};
 use xw_session::Session;
 use xw_session::resuming::{self, Stop};
@@ -36,18 +37,13 @@ const LONG: usize = 1_000_000;
 /// The lines that a replay refused.
 #[derive(Clone, Copy, Debug, PartialEq, Eq)]
 pub struct Refusals {
-    /// How many there were.
+    /// How many there were. The record of the session lacks what they say, also a word that the list has.
     pub count: usize,
-    /// Whether one of them was refused for another reason than `Known`: then the record of the session lacks what it says.
-    pub is_loss: bool,
 }
 
 impl Refusals {
     /// No lines.
-    pub const NONE: Refusals = Refusals {
-        count: 0,
-        is_loss: false,
-    };
+    pub const NONE: Refusals = Refusals { count: 0 };
 }
 
 /// Loads a word list into a dictionary, and prints how many lines were added and skipped, with notes on the list if
@@ -158,7 +154,7 @@ pub fn resume_file<'a, F: Searchable, D: Disk, I: Source, O: Outlet, E: Sink>(
     ensures { IsResumed file.entry.now session.old session.new result desk.old desk.new }
 {
     let text = desk.read_file(file)?;
-    let bytes = text.as_slice();
+    let bytes = unmarked(text.as_slice());
     tell_cut_if(desk, file, is_cut(bytes))?;
     resume_text(desk, file, session, kept(bytes))
 }
@@ -195,8 +191,8 @@ pub fn resume_text<'a, F: Searchable, D: Disk, I: Source, O: Outlet, E: Sink>(
     tell_replayed(desk, file, ended, &reports)
 }
 
-/// Prints the reports of a replay, and returns the refused lines. Fails if the reports could not be allocated; then none
-/// is printed.
+/// Prints the reports of a replay, and returns the refused lines. If failures are explained, a sentence follows the report of
+/// a word that the list has. Fails if the text could not be allocated; then nothing is printed.
 fn tell_replayed<'a, D: Disk, I: Source, O: Outlet, E: Sink>(
     desk: &mut Desk<D, I, O, E>,
     file: &'a str,
@@ -208,13 +204,40 @@ fn tell_replayed<'a, D: Disk, I: Source, O: Outlet, E: Sink>(
     if reports.failures() > 0 {
         return Err(Failure::Memory);
     }
-    desk.report(reports.bytes());
+    let text = explained(desk.alloc, reports.bytes(), desk.explains)?;
+    desk.report(text.as_slice());
     match ended {
-        Ok(count) => Ok(Refusals {
-            count,
-            is_loss: tells_loss(reports.bytes()),
-        }),
+        Ok(count) => Ok(Refusals { count }),
         Err(stop) => Err(stopped(file, stop)),
+    }
+}
+
+/// Returns the reports of a replay. If failures are explained, a sentence follows each report of a word that the list has.
+fn explained(alloc: Global, reports: &[u8], explains: bool) -> Result<Vec<u8>, AllocError>
+    ensures { IfOk result (λ text. text.items ≡ explained_reports explains reports.now) }
+{
+    if !explains {
+        return Vec::from_slice(alloc, reports);
+    }
+    let mut text = Vec::new(alloc);
+    let mut rest = reports;
+    while !rest.is_empty() {
+        let (line, after) = first_line(rest);
+        text.extend_from_slice(line)?;
+        text.extend_from_slice(after_report(line))?;
+        rest = after;
+    }
+    Ok(text)
+}
+
+/// Returns what follows a report, which is without its LF, if failures are explained.
+fn after_report(line: &[u8]) -> &'static [u8]
+    ensures { result.now ≡ after_report line.now }
+{
+    if ends_in_known(line) {
+        b"\nxw: the list has this word\n"
+    } else {
+        b"\n"
     }
 }
 
@@ -224,21 +247,6 @@ fn ends_in_known(line: &[u8]) -> bool
 {
     let reason = &line[line.len().saturating_sub(7)..];
     reason == b": Known".as_slice()
-}
-
-/// Returns whether one of these reports has another reason than `Known`.
-fn tells_loss(reports: &[u8]) -> bool
-    ensures { result ≡ tells_loss reports.now }
-{
-    let mut rest = reports;
-    while !rest.is_empty() {
-        let (line, after) = first_line(rest);
-        if !ends_in_known(line) {
-            return true;
-        }
-        rest = after;
-    }
-    false
 }
 
 /// The failure for a replay that stopped.
@@ -251,35 +259,39 @@ fn stopped<'a>(file: &'a str, stop: Stop) -> Failure<'a>
     }
 }
 
-/// Writes a session to a file: the first line and the record. The disk is not asked until all bytes are built.
-pub fn write_session<'a, F: Feasible, D: Disk, I: Source, O: Outlet, E: Sink>(
+/// Returns what a file is before it is written over.
+pub fn standing_of<D: Disk, I: Source, O: Outlet, E: Sink>(
     desk: &mut Desk<D, I, O, E>,
-    file: &'a str,
-    session: &Session<F>,
-) -> Result<(), Failure<'a>>
-    ensures ok { OnOk result (Asks (replace file.entry.now (file_of session.now) (Ok tt)) desk.old desk.new) }
-    ensures err { IfErr result (λ failure. IsUnsaved file.entry.now session.now failure desk.old desk.new) }
+    file: &str,
+) -> Standing
+    ensures { Asks (stands file.now result) desk.old desk.new }
 {
-    let bytes = saved(desk.alloc, session)?;
-    desk.write_file(file, bytes.as_slice())
+    desk.disk.standing(file)
 }
 
-/// Keeps a file under another name before it is written over, and reports it. The other name does not lead to `apart`.
+/// Keeps a file under another name before these bytes are written over it, unless it has the same. Reports it, and whether
+/// lines of it were refused. The other name does not lead to `apart`.
 pub fn keep_old<'a, D: Disk, I: Source, O: Outlet, E: Sink>(
     desk: &mut Desk<D, I, O, E>,
     file: &'a str,
     apart: Option<&str>,
+    is_refused: bool,
+    written: &[u8],
 ) -> Result<(), Failure<'a>>
-    ensures ok { OnOk result (HasKept file.entry.now desk.old desk.new) }
+    ensures ok { OnOk result (KeepsOld is_refused file.entry.now written.now desk.old desk.new) }
     ensures err { IfErr result (λ failure. IsNotKept file.entry.now failure desk.old desk.new) }
 {
-    let bytes = desk.read_file(file)?;
-    let number = keep_bytes(desk, file, apart, bytes.as_slice())?;
-    tell_kept(desk, file, number)
+    let bytes = desk.read_own_file(file)?;
+    let old = bytes.as_slice();
+    if old == written {
+        return Ok(());
+    }
+    let number = keep_bytes(desk, file, apart, old)?;
+    tell_kept(desk, file, number, is_refused)
 }
 
 /// Keeps these bytes of a file beside it, and returns the number of their name.
-fn keep_bytes<'a, D: Disk, I: Source, O: Outlet, E: Sink>(
+pub fn keep_bytes<'a, D: Disk, I: Source, O: Outlet, E: Sink>(
     desk: &mut Desk<D, I, O, E>,
     file: &'a str,
     apart: Option<&str>,
@@ -295,19 +307,45 @@ fn keep_bytes<'a, D: Disk, I: Source, O: Outlet, E: Sink>(
 }
 
 /// Reports that an old file is kept under the name with this number.
-fn tell_kept<'a, D: Disk, I: Source, O: Outlet, E: Sink>(
+pub fn tell_kept<'a, D: Disk, I: Source, O: Outlet, E: Sink>(
     desk: &mut Desk<D, I, O, E>,
     file: &'a str,
     number: u32,
+    is_refused: bool,
 ) -> Result<(), Failure<'a>>
-    ensures told { OnOk result (Reports (old_line file.entry.now number) desk.old desk.new) }
+    ensures told { OnOk result (Reports (old_line is_refused file.entry.now number) desk.old desk.new) }
     ensures memory { IsOkUnless result Memory }
     ensures untold { OnErr result (desk.new ≡ desk.old) }
 {
     let name = kept_name(desk.alloc, file, number)?;
-    let text = format!(in desk.alloc;
-        "xw: {file}: refused lines; the old file is kept as {name}\n"
-    )?;
+    let said = kept_because(is_refused);
+    let text = format!(in desk.alloc; "xw: {file}{said}{name}\n")?;
+    desk.report(text.as_bytes());
+    Ok(())
+}
+
+/// Returns what the report of an old file says before the name that it is kept under.
+fn kept_because(is_refused: bool) -> &'static str
+    ensures { result.now ≡ kept_because is_refused }
+{
+    if is_refused {
+        ": refused lines; the old file is kept as "
+    } else {
+        ": the old file is kept as "
+    }
+}
+
+/// Reports in which file a session is left that was not saved.
+pub fn tell_left<'a, D: Disk, I: Source, O: Outlet, E: Sink>(
+    desk: &mut Desk<D, I, O, E>,
+    file: &'a str,
+    place: &str,
+) -> Result<(), Failure<'a>>
+    ensures told { OnOk result (Reports (left_line file.entry.now place.now) desk.old desk.new) }
+    ensures memory { IsOkUnless result Memory }
+    ensures untold { OnErr result (desk.new ≡ desk.old) }
+{
+    let text = format!(in desk.alloc; "xw: {file}: not saved; the session is kept as {place}\n")?;
     desk.report(text.as_bytes());
     Ok(())
 }

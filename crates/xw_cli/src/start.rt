@@ -13,6 +13,7 @@ use xw_arguments::arguments::arguments;
 use xw_desk::desk::Desk;
 use xw_desk::failure::ExitStatus;
 use xw_desk::outlet::{Outlet, Output, Watched};
+use xw_desk::shown::Shown;
 use xw_disk::{Disk, SystemDisk};
 use xw_feas::searchable::Searchable;
 use xw_lines::{Sink, Source, device};
@@ -68,14 +69,15 @@ pub fn answer_words<F: Searchable, S: AsStr, D: Disk, I: Source, O: Outlet, E: S
 fn start_gathered<F: Searchable>(rt: &HostRuntime) -> io::Result<ExitStatus> {
     let mark = Cell::new(false);
     let watched = Watched::new(rt.stdout(), &mark);
-    let writer = BufWriter::with_capacity(rt.alloc(), GATHERED, watched)?;
+    let shown = Shown::new(watched, rt.stdout().is_terminal());
+    let writer = BufWriter::with_capacity(rt.alloc(), GATHERED, shown)?;
     let is_terminal = rt.stderr().is_terminal();
     let mut desk = Desk {
         alloc: rt.alloc(),
         disk: SystemDisk::new(rt),
         input: FromRead::new(rt.stdin()),
         output: Output::new(ToWrite::new(writer), &mark),
-        errors: ToWrite::new(rt.stderr()),
+        errors: ToWrite::new(Shown::new(rt.stderr(), is_terminal)),
         is_terminal,
         is_dialogue: is_terminal && rt.stdin().is_terminal(),
         explains: false,

@@ -108,27 +108,6 @@ pub record IsUnfit (name : List ℕ) (explain : Bool) (puzzle : PuzzleShown) (fa
   pub refused : written_as kind puzzle ≡ Err fault
   pub told : IsFileFault name (write_fault_name fault) (location_if explain (write_location puzzle.grid fault)) failure
 
--- The puzzle was written to the file with this name, in the format that the name asks for.
-pub record IsWritten (name : List ℕ) (puzzle : PuzzleShown) (old new : Moment) : Type 0 where
-  pub bytes : List ℕ
-  pub are : AreBytesFor name puzzle bytes
-  pub asks : Asks (replace name bytes (Ok tt)) old new
-
--- The bytes of the puzzle were not made, and the disk was not asked.
-pub record IsUnmade (name : List ℕ) (puzzle : PuzzleShown) (failure : Failure) (old new : Moment) : Type 0 where
-  pub told : (failure ≡ failures.Memory) ⊎ IsUnfit name old.explains puzzle failure
-  pub unasked : new ≡ old
-
--- The file with this name was to have the bytes of the puzzle, and was not replaced.
-pub record IsUnput (name : List ℕ) (puzzle : PuzzleShown) (failure : Failure) (old new : Moment) : Type 0 where
-  pub bytes : List ℕ
-  pub are : AreBytesFor name puzzle bytes
-  pub unreplaced : IsUnreplaced name bytes failure old new
-
--- why the puzzle is not written to the file with this name
-abbrev pub IsUnwritten : List ℕ → PuzzleShown → Failure → Moment → Moment → Type 0
-IsUnwritten name puzzle failure old new = IsUnmade name puzzle failure old new ⊎ IsUnput name puzzle failure old new
-
 -- ---- a puzzle that is written as text
 
 -- the name asks for a format

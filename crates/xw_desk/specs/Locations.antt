@@ -1,5 +1,5 @@
 -- The locations of file faults, and how they are printed.
-use Rattle.std.specs.Prelude.{ℕ, ◌-◌, ◌++◌, List, Option, Some, None, Result, Ok, Err, codes, decimal, slice_get}
+use Rattle.std.specs.Prelude.{ℕ, ◌-◌, ◌++◌, List, Option, Some, None, Result, Ok, Err, codes, decimal, if◌then◌else◌, slice_get}
 use Rattle.xw_files.specs.declared.fault.Piece.TheVariants.{Header, Boards}
 use Rattle.xw_files.specs.declared.fault.TextName.{TextName}
 use Rattle.xw_files.specs.declared.fault.TextName.TheVariants as texts
@@ -16,6 +16,7 @@ use Rattle.xw_commands.specs.Names.{direction_name}
 use Rattle.xw_grid.specs.declared.lights.Light.{Light}
 use Rattle.xw_grid.specs.Grid.{Grid}
 use Rattle.xw_grid.specs.Light.{lights_of}
+use Rattle.xw_desk.specs.Names.{is_session}
 use Rattle.xw_desk.specs.declared.location.Location.{Location}
 use Rattle.xw_desk.specs.declared.location.Location.TheVariants as locations
 
@@ -53,17 +54,23 @@ line_location (Ok (Some (lines.Line number))) = Some (locations.Line number)
 line_location (Ok (Some lines.End)) = Some locations.End
 line_location (Err fault) = None
 
+-- the first line of a text file that is no puzzle file
+abbrev pub header_location : List ℕ → Option Location
+header_location bytes = if is_session bytes then Some locations.Session else line_location (text_location_in bytes reads.Header)
+
 abbrev pub read_location : List ℕ → ReadFault → Option Location
 read_location bytes (reads.Short piece) = Some (locations.Piece piece)
 read_location bytes (reads.NoNul text) = Some (cut_text_location (grid_of_puz bytes) text)
 read_location bytes (reads.BadSum sum) = Some (locations.Sum sum)
 read_location bytes (reads.BadCell cell) = Some (locations.Cell cell)
+read_location bytes reads.Header = header_location bytes
 read_location bytes fault = line_location (text_location_in bytes fault)
 
 -- ---- how a location is printed
 
 abbrev pub location_text : Location → List ℕ
 location_text (locations.Cell cell) = codes "row " ++ decimal cell.row ++ codes ", column " ++ decimal cell.col
+location_text (locations.Unkept cell) = codes "row " ++ decimal cell.row ++ codes ", column " ++ decimal cell.col
 location_text (locations.Piece Header) = codes "header"
 location_text (locations.Piece Boards) = codes "boards"
 location_text (locations.Text texts.Title) = codes "title"
@@ -76,4 +83,5 @@ location_text (locations.Sum sums.Cib) = codes "CIB checksum"
 location_text (locations.Sum sums.File) = codes "file checksum"
 location_text (locations.Sum (sums.Masked k)) = codes "masked byte " ++ decimal k
 location_text (locations.Line number) = codes "line " ++ decimal number
+location_text locations.Session = codes "line 1"
 location_text locations.End = codes "end of file"

@@ -4,6 +4,7 @@ use Rattle.std.specs.Str.{bytes_eq}
 use Rattle.xw_desk.specs.declared.failure.Failure.{Failure}
 use Rattle.xw_desk.specs.declared.failure.Failure.TheVariants as failures
 use Rattle.xw_desk.specs.declared.location.Location.{Location}
+use Rattle.xw_desk.specs.declared.location.Location.TheVariants as locations
 use Rattle.xw_desk.specs.Locations.{location_text}
 
 -- ---- the sentence for each name of a fault
@@ -61,11 +62,21 @@ abbrev pub line_of : Option (List ℕ) → List ℕ
 line_of None = []
 line_of (Some said) = codes "xw: " ++ said ++ codes "\n"
 
+-- no bytes unless it is the first empty cell of a session that no file keeps
+abbrev pub unkept_line : Location → List ℕ
+unkept_line (locations.Unkept cell) = codes "xw: the session is not kept; --save or --journal keeps it\n"
+unkept_line location = []
+
 abbrev pub unfilled_line : Location → List ℕ
-unfilled_line location = codes "xw: the grid has empty cells, the first at " ++ location_text location ++ codes "; nothing was written\n"
+unfilled_line location = codes "xw: the grid has empty cells, the first at " ++ location_text location ++ codes "; nothing was written\n" ++ unkept_line location
+
+-- what the fault with this name means at this location
+abbrev pub said_at : Location → List ℕ → Option (List ℕ)
+said_at locations.Session name = Some (codes "this is a session; use --resume to go on with it")
+said_at location name = said name
 
 abbrev pub located_line : List ℕ → Location → List ℕ
-located_line name location = if bytes_eq name (codes "NotFilled") then unfilled_line location else line_of (said name)
+located_line name location = if bytes_eq name (codes "NotFilled") then unfilled_line location else line_of (said_at location name)
 
 abbrev pub sentence_line : Failure → List ℕ
 sentence_line (failures.File file name) = line_of (said name.now)

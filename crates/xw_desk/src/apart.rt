@@ -317,7 +317,7 @@ pub fn keep_free<'a, D: Disk>(disk: &D, named: SessionFiles<'a>) -> Result<(), F
 }
 
 /// Refuses a file if another program has it as its journal.
-fn refuse_journal<'a, D: Disk>(disk: &D, written: Option<&'a str>) -> Result<(), Failure<'a>>
+pub fn refuse_journal<'a, D: Disk>(disk: &D, written: Option<&'a str>) -> Result<(), Failure<'a>>
     ensures { IfErr result (λ failure. IsRefusedJournal written.entry failure) }
 {
     match written {

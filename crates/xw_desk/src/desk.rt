@@ -85,6 +85,17 @@ impl<D: Disk, I: Source, O: Outlet, E: Sink> Desk<D, I, O, E> {
         }
     }
 
+    /// Returns the bytes of a file that is to be replaced. The name `-` is a name like any other.
+    pub fn read_own_file<'a>(&mut self, file: &'a str) -> Result<Vec<u8>, Failure<'a>>
+        ensures ok { IfOk result (λ bytes. Asks (read file.entry.now (Ok bytes.items)) self.old self.new) }
+        ensures err { IfErr result (λ failure. IsUnreadFile file.entry.now failure self.old self.new) }
+    {
+        match self.disk.read_own(file) {
+            Ok(bytes) => Ok(bytes),
+            Err(fault) => Err(failure_of(fault, file)),
+        }
+    }
+
     /// Replaces a file by these bytes.
     pub fn write_file<'a>(&mut self, file: &'a str, bytes: &[u8]) -> Result<(), Failure<'a>>
         ensures ok { OnOk result (Asks (replace file.entry.now bytes.now (Ok tt)) self.old self.new) }

@@ -9,7 +9,7 @@ use crate::failure::{ExitStatus, Failure};
 use crate::outlet::Outlet;
 use crate::sentences::sentence_line;
 use std::alloc::{AllocError, Global};
-use std::io;
+use std::io::{self, ErrorKind};
 use xw_arguments::Usage;
 use xw_disk::Disk;
 use xw_lines::{Sink, Source};
@@ -137,8 +137,12 @@ fn reason_line(alloc: Global, is_due: bool, error: Option<io::Error>) -> Result<
     }
 }
 
-/// Returns the text of an error of the system, without its number. Returns `None` for other errors.
+/// Returns the text of an error of the system, without its number, or that a journal is not a regular file. Returns `None`
+/// for other errors.
 fn reason_of(alloc: Global, error: io::Error) -> Result<Option<String>, AllocError> {
+    if error.kind() == ErrorKind::Unsupported && error.raw_os_error().is_none() {
+        return Ok(Some(String::from_str(alloc, "not a regular file")?));
+    }
     let Some(code) = error.raw_os_error() else {
         return Ok(None);
     };

@@ -6,7 +6,7 @@ ghost use Rattle.xw_files.specs.FaultNames.{read_fault_name, write_fault_name};
 ghost use Rattle.xw_desk.specs.declared.failure.Failure.TheVariants.{Memory};
 ghost use Rattle.xw_desk.specs.Desk.{Reports};
 ghost use Rattle.xw_desk.specs.Explained.{rebus_line};
-ghost use Rattle.xw_desk.specs.Files.{location_if, AreBytesFor, IsFileFault, IsFound, IsLineFault, IsMalformed, IsRebusTold, IsTextNote, IsTextTold, IsUnfit, IsUnread, IsUnwritten, IsWritten};
+ghost use Rattle.xw_desk.specs.Files.{location_if, AreBytesFor, IsFileFault, IsFound, IsLineFault, IsMalformed, IsRebusTold, IsTextNote, IsTextTold, IsUnfit, IsUnread};
 ghost use Rattle.xw_desk.specs.Locations.{read_location, write_location};
 
 use crate::desk::Desk;
@@ -64,15 +64,6 @@ impl<D: Disk, I: Source, O: Outlet, E: Sink> Desk<D, I, O, E> {
         let text = format!(in self.alloc; "xw: {file}: rebus cells are not kept\n")?;
         self.report(text.as_bytes());
         Ok(())
-    }
-
-    /// Writes a puzzle file in the format that its name asks for. The disk is not asked until all bytes are built.
-    pub fn write_puzzle<'a>(&mut self, file: &'a str, puzzle: &Puzzle) -> Result<(), Failure<'a>>
-        ensures ok { OnOk result (IsWritten file.entry.now (puzzle_view puzzle.now) self.old self.new) }
-        ensures err { IfErr result (λ failure. IsUnwritten file.entry.now (puzzle_view puzzle.now) failure self.old self.new) }
-    {
-        let bytes = bytes_for(self.alloc, file, puzzle, self.explains)?;
-        self.write_file(file, bytes.as_slice())
     }
 
     /// Prints the report that a puzzle is written as text, if it is due.
@@ -160,7 +151,7 @@ pub fn text_note<'a>(alloc: Global, file: &'a str) -> Result<Option<String>, Fai
 }
 
 /// Returns the bytes of a puzzle in the format that the name of a file asks for.
-fn bytes_for<'a>(
+pub fn bytes_for<'a>(
     alloc: Global,
     file: &'a str,
     puzzle: &Puzzle,

@@ -12,5 +12,6 @@ pub mod location;
 pub mod names;
 pub mod outlet;
 mod sentences;
+pub mod shown;
 
 pub use xw_arguments::{SessionFiles, Usage};

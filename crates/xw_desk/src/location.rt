@@ -3,8 +3,9 @@ ghost use Rattle.std.specs.Prelude.{◌≡◌, IfOk};
 ghost use Rattle.xw_grid.specs.Light.{lights_of};
 ghost use Rattle.xw_files.specs.Puz.Board.{grid_of_puz};
 ghost use Rattle.xw_files.specs.Text.Location.{text_location as text_location_in};
-ghost use Rattle.xw_desk.specs.Locations.{cut_text_location, line_location, read_location, text_location, write_location};
+ghost use Rattle.xw_desk.specs.Locations.{cut_text_location, header_location, line_location, read_location, text_location, write_location};
 
+use crate::names::is_session;
 use std::alloc::{AllocError, Global};
 use std::fmt;
 use xw_commands::names::Named;
@@ -18,6 +19,8 @@ use xw_grid::lights::Lights;
 #[derive(Clone, Copy, Debug, PartialEq, Eq)]
 pub enum Location {
     Cell(Cell),
+    /// The first empty cell of a session that no file keeps.
+    Unkept(Cell),
     Piece(Piece),
     Text(TextName),
     /// A clue by its index in light order, from 1, and its light.
@@ -25,6 +28,8 @@ pub enum Location {
     Sum(SumName),
     /// A line of a text file, from 1.
     Line(usize),
+    /// The first line of a session, in place of a puzzle.
+    Session,
     /// The end of a text file.
     End,
 }
@@ -37,7 +42,9 @@ impl fmt::Display for Location {
 
     fn fmt<W: fmt::Write>(&self, f: &mut fmt::Formatter<W>) -> fmt::Result {
         match *self {
-            Location::Cell(Cell { row, col }) => write!(f, "row {row}, column {col}"),
+            Location::Cell(Cell { row, col }) | Location::Unkept(Cell { row, col }) => {
+                write!(f, "row {row}, column {col}")
+            }
             Location::Piece(Piece::Header) => f.write_str("header"),
             Location::Piece(Piece::Boards) => f.write_str("boards"),
             Location::Text(TextName::Title) => f.write_str("title"),
@@ -53,6 +60,7 @@ impl fmt::Display for Location {
             Location::Sum(SumName::File) => f.write_str("file checksum"),
             Location::Sum(SumName::Masked(byte)) => write!(f, "masked byte {byte}"),
             Location::Line(number) => write!(f, "line {number}"),
+            Location::Session => f.write_str("line 1"),
             Location::End => f.write_str("end of file"),
         }
     }
@@ -100,7 +108,19 @@ pub fn in_file(
         ReadFault::NoNul(text) => Ok(Some(of_cut_text(alloc, bytes, text)?)),
         ReadFault::BadSum(sum) => Ok(Some(Location::Sum(sum))),
         ReadFault::BadCell(cell) => Ok(Some(Location::Cell(cell))),
+        ReadFault::Header => of_header(alloc, bytes),
         _ => of_line(alloc, bytes, fault),
+    }
+}
+
+/// Returns the location of the first line of a text file that is no puzzle file.
+fn of_header(alloc: Global, bytes: &[u8]) -> Result<Option<Location>, AllocError>
+    ensures location { IfOk result (λ location. location ≡ header_location bytes.now) }
+{
+    if is_session(bytes) {
+        Ok(Some(Location::Session))
+    } else {
+        of_line(alloc, bytes, ReadFault::Header)
     }
 }
 

@@ -1,6 +1,6 @@
 //! Sentences that say what a failure means, for first-time users.
 ghost use Rattle.std.specs.Prelude.{◌≡◌, option_map, IfOk};
-ghost use Rattle.xw_desk.specs.Sentences.{line_of as line_of_text, located_line, said, said_of_line, said_of_puz, said_of_puzzle, said_of_text, sentence_if};
+ghost use Rattle.xw_desk.specs.Sentences.{line_of as line_of_text, located_line, said, said_at, said_of_line, said_of_puz, said_of_puzzle, said_of_text, sentence_if, unkept_line};
 
 use crate::failure::Failure;
 use crate::location::Location;
@@ -64,6 +64,26 @@ fn said(name: &str) -> Option<&'static str>
     said_of_puzzle(name)
 }
 
+/// Returns what the fault with this name means at a location.
+fn said_at(location: Location, name: &str) -> Option<&'static str>
+    ensures { option_map (λ said. said.now) result ≡ said_at location name.now }
+{
+    match location {
+        Location::Session => Some("this is a session; use --resume to go on with it"),
+        _ => said(name),
+    }
+}
+
+/// Returns the line for a session that no file keeps, or no bytes for any other location.
+fn unkept_line(location: Location) -> &'static str
+    ensures { result.now ≡ unkept_line location }
+{
+    match location {
+        Location::Unkept(_) => "xw: the session is not kept; --save or --journal keeps it\n",
+        _ => "",
+    }
+}
+
 /// Returns what it means that a line of a file is no command.
 fn said_of_line(number: usize, name: &str) -> Option<&'static str>
     ensures { option_map (λ said. said.now) result ≡ said_of_line number name.now }
@@ -103,11 +123,12 @@ fn located_line(alloc: Global, name: &str, location: Location) -> Result<String,
     ensures { IfOk result (λ line. line.bytes.items ≡ located_line name.now location) }
 {
     if name == "NotFilled" {
+        let unkept = unkept_line(location);
         return format!(in alloc;
-            "xw: the grid has empty cells, the first at {location}; nothing was written\n"
+            "xw: the grid has empty cells, the first at {location}; nothing was written\n{unkept}"
         );
     }
-    line_of(alloc, said(name))
+    line_of(alloc, said_at(location, name))
 }
 
 /// Returns the line that says what a failure means. Returns no bytes if there is no sentence for it, or if it is not

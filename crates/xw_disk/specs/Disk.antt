@@ -3,6 +3,8 @@ use Rattle.std.specs.Prelude.{◌≡◌, ℕ, ◌==◌, Bool, true, false, cond,
 use Rattle.std.specs.Coded.{Coded, code_by, coded×, coded_ℕ, coded_list}
 use Rattle.xw_disk.specs.declared.disk.DiskFault.{DiskFault}
 use Rattle.xw_disk.specs.declared.disk.DiskFault.TheVariants.{Memory, Unreadable, Unwritable, InUse, Replaced}
+use Rattle.xw_disk.specs.declared.disk.Standing.{Standing}
+use Rattle.xw_disk.specs.declared.disk.Standing.TheVariants.{Nothing, AsRead, Other}
 use Rattle.xw_disk.specs.declared.disk.Start.{Start}
 use Rattle.xw_disk.specs.declared.disk.Start.TheVariants.{Anew, Cut, Put}
 
@@ -14,14 +16,18 @@ pub data Event : Type 0 where
   -- these bytes of the file with this name were to be kept beside it, under the name with this number, and whether they
   -- were
   keep : List ℕ → List ℕ → ℕ → Result (Unit {0}) DiskFault → Event
-  -- whether the file to write with the second name was the one that was read by the first name
-  compare : List ℕ → List ℕ → Bool → Event
+  -- what the file with this name was, before it was written over
+  stands : List ℕ → Standing → Event
+  -- these bytes, which the file with this name did not get, were to be left in a new file: its name, or why there is none
+  leave : List ℕ → List ℕ → Result (List ℕ) DiskFault → Event
   -- the journal with this name was opened: its bytes, or why it was not
   open_ : List ℕ → Result (List ℕ) DiskFault → Event
   -- the journal with this name was to begin with these bytes, and whether each flush of it is synced to the device
   begin : List ℕ → List ℕ → Bool → Result (Unit {0}) DiskFault → Event
   -- the journal with this name took these bytes, with a mark for each flush
   take_lines : List ℕ → List ℕ → Event
+  -- whether the name still led to the journal that was opened by it, as this program left it
+  find : List ℕ → Result (Unit {0}) DiskFault → Event
   -- the journal with this name was to have these bytes at its end
   end : List ℕ → List ℕ → Result (Unit {0}) DiskFault → Event
 
@@ -49,6 +55,14 @@ done_at n = cond (n == 0) (Ok tt) (Err (fault_at n))
 abbrev bytes_at : List ℕ → ℕ → Result (List ℕ) DiskFault
 bytes_at bytes n = cond (n == 0) (Ok bytes) (Err (fault_at n))
 
+abbrev standing_number : Standing → ℕ
+standing_number Nothing = 0
+standing_number AsRead = 1
+standing_number Other = 2
+
+abbrev standing_at : ℕ → Standing
+standing_at n = cond (n == 0) Nothing (cond (n == 1) AsRead Other)
+
 abbrev number_at : List ℕ → ℕ
 number_at [] = 0
 number_at (number ∷ rest) = number
@@ -71,8 +85,11 @@ to_parts (replace name bytes (Ok done)) = (1, (name, (bytes, ([], 0))))
 to_parts (replace name bytes (Err fault)) = (1, (name, (bytes, ([], fault_number fault))))
 to_parts (keep name bytes number (Ok done)) = (2, (name, (bytes, (number ∷ [], 0))))
 to_parts (keep name bytes number (Err fault)) = (2, (name, (bytes, (number ∷ [], fault_number fault))))
-to_parts (compare one other true) = (7, (one, (other, ([], 1))))
-to_parts (compare one other false) = (7, (one, (other, ([], 0))))
+to_parts (stands name standing) = (7, (name, ([], ([], standing_number standing))))
+to_parts (leave name bytes (Ok place)) = (8, (name, (bytes, (place, 0))))
+to_parts (leave name bytes (Err fault)) = (8, (name, (bytes, ([], fault_number fault))))
+to_parts (find name (Ok done)) = (9, (name, ([], ([], 0))))
+to_parts (find name (Err fault)) = (9, (name, ([], ([], fault_number fault))))
 to_parts (open_ name (Ok bytes)) = (3, (name, (bytes, ([], 0))))
 to_parts (open_ name (Err fault)) = (3, (name, ([], ([], fault_number fault))))
 to_parts (begin name bytes is_synced (Ok done)) = (4, (name, (bytes, (flag_list is_synced, 0))))
@@ -86,7 +103,8 @@ from_parts p =
     cond (p.0 == 0) (read p.1.0 (bytes_at p.1.1.0 p.1.1.1.1)) (cond (p.0 == 1) (replace p.1.0 p.1.1.0 (done_at p.1.1.1.1))
     (cond (p.0 == 2) (keep p.1.0 p.1.1.0 (number_at p.1.1.1.0) (done_at p.1.1.1.1)) (cond (p.0 == 3) (open_ p.1.0 (bytes_at p.1.1.0 p.1.1.1.1))
     (cond (p.0 == 4) (begin p.1.0 p.1.1.0 (flag_at p.1.1.1.0) (done_at p.1.1.1.1)) (cond (p.0 == 5) (take_lines p.1.0 p.1.1.0)
-    (cond (p.0 == 7) (compare p.1.0 p.1.1.0 (p.1.1.1.1 == 1)) (end p.1.0 p.1.1.0 (done_at p.1.1.1.1))))))))
+    (cond (p.0 == 7) (stands p.1.0 (standing_at p.1.1.1.1)) (cond (p.0 == 8) (leave p.1.0 p.1.1.0 (bytes_at p.1.1.1.0 p.1.1.1.1))
+    (cond (p.0 == 9) (find p.1.0 (done_at p.1.1.1.1)) (end p.1.0 p.1.1.0 (done_at p.1.1.1.1))))))))))
 
 pub from_parts-to_parts : (e : Event) → from_parts (to_parts e) ≡ e
 from_parts-to_parts (read name (Ok bytes)) = refl
@@ -102,8 +120,21 @@ from_parts-to_parts (replace name bytes (Err Unwritable)) = refl
 from_parts-to_parts (replace name bytes (Err InUse)) = refl
 from_parts-to_parts (replace name bytes (Err Replaced)) = refl
 from_parts-to_parts (keep name bytes number (Ok tt)) = refl
-from_parts-to_parts (compare one other true) = refl
-from_parts-to_parts (compare one other false) = refl
+from_parts-to_parts (stands name Nothing) = refl
+from_parts-to_parts (stands name AsRead) = refl
+from_parts-to_parts (stands name Other) = refl
+from_parts-to_parts (leave name bytes (Ok place)) = refl
+from_parts-to_parts (leave name bytes (Err Memory)) = refl
+from_parts-to_parts (leave name bytes (Err Unreadable)) = refl
+from_parts-to_parts (leave name bytes (Err Unwritable)) = refl
+from_parts-to_parts (leave name bytes (Err InUse)) = refl
+from_parts-to_parts (leave name bytes (Err Replaced)) = refl
+from_parts-to_parts (find name (Ok tt)) = refl
+from_parts-to_parts (find name (Err Memory)) = refl
+from_parts-to_parts (find name (Err Unreadable)) = refl
+from_parts-to_parts (find name (Err Unwritable)) = refl
+from_parts-to_parts (find name (Err InUse)) = refl
+from_parts-to_parts (find name (Err Replaced)) = refl
 from_parts-to_parts (keep name bytes number (Err Memory)) = refl
 from_parts-to_parts (keep name bytes number (Err Unreadable)) = refl
 from_parts-to_parts (keep name bytes number (Err Unwritable)) = refl

@@ -3,9 +3,9 @@ ghost use Rattle.std.specs.Prelude.{◌≡◌, [], ◌≤◌, length, IfOk};
 ghost use Rattle.std.specs.Io.KnownBytes.{Keeps, WriteAppends};
 ghost use Rattle.std.specs.Io.Buffered.{writer_inner};
 
-use crate::identity::{Identity, identity_of};
+use crate::identity::Identity;
 use std::alloc::{AllocError, Global};
-use std::fs::OpenFile;
+use std::fs::{self, OpenFile};
 use std::io::{self, BufWriter, ErrorKind, Write};
 use std::rt::Files;
 use xw_lines::history::History;
@@ -16,8 +16,8 @@ const GATHERED: usize = 65536;
 
 /// The name of an open file.
 pub trait Place {
-    /// Returns whether the name still leads to the file.
-    fn is_there(&self) -> io::Result<bool>;
+    /// Returns whether the name still leads to the file, and the file has this length.
+    fn is_there(&self, length: u64) -> io::Result<bool>;
 }
 
 /// The name of an open journal.
@@ -29,8 +29,12 @@ pub struct JournalName<R: Files + Drop> {
 }
 
 impl<R: Files + Drop> Place for JournalName<R> {
-    fn is_there(&self) -> io::Result<bool> {
-        Ok(identity_of(&self.rt, &self.file)? == Some(self.identity))
+    fn is_there(&self, length: u64) -> io::Result<bool> {
+        match fs::metadata(&self.rt, &self.file) {
+            Ok(found) => Ok(Identity::of(&found) == self.identity && found.len() == length),
+            Err(error) if error.kind() == ErrorKind::NotFound => Ok(false),
+            Err(error) => Err(error),
+        }
     }
 }
 
@@ -67,7 +71,8 @@ impl<F: Write + OpenFile + Drop, P: Place + Drop> Appended<F, P> {
         }
     }
 
-    /// Returns whether a write failed because the name no longer led to the file.
+    /// Returns whether a write failed because the name no longer led to the file, or another program had changed its
+    /// length.
     pub fn is_lost(&self) -> bool {
         self.is_lost
     }
@@ -77,17 +82,22 @@ impl<F: Write + OpenFile + Drop, P: Place + Drop> Appended<F, P> {
         self.error
     }
 
-    /// Returns the name of the file.
-    pub fn place(&self) -> &P {
-        &self.place
+    /// Returns whether the name still leads to the file, and no other program has changed its length.
+    pub fn is_there(&self) -> io::Result<bool> {
+        self.place.is_there(self.own_length())
     }
 
-    /// Writes to the file if its name still leads to it.
+    /// Returns the length that the file has unless another program changes it.
+    fn own_length(&self) -> u64 {
+        self.length.saturating_add(self.written)
+    }
+
+    /// Writes to the file if its name still leads to it, and no other program has changed its length.
     fn append(&mut self, bytes: &[u8]) -> io::Result<usize>
         ensures bound { IfOk result (λ count. count ≤ length bytes.now) }
         ensures bytes { WriteAppends (F.contents self.old.file) (F.contents self.new.file) result bytes.now }
     {
-        if !self.place.is_there()? {
+        if !self.is_there()? {
             self.is_lost = true;
             return Err(io::Error::from(ErrorKind::NotFound));
         }
@@ -116,14 +126,22 @@ impl<F: Write + OpenFile + Drop, P: Place + Drop> Appended<F, P> {
         self.error = Some(error);
     }
 
-    /// Cuts the file to its length at the last flush. If this fails too, the next start drops what is left of the
-    /// line.
+    /// Cuts the file to its length at the last flush, unless another program has changed its length. If this fails too,
+    /// the next start drops what is left of the line.
     fn take_back(&mut self)
         ensures { self.new.file ≡ self.old.file }
     {
-        if self.written > 0 {
+        if self.written > 0 && !self.is_changed() {
             let _ = self.file.set_len(self.length);
-            self.written = 0;
+        }
+        self.written = 0;
+    }
+
+    /// Returns whether another program has changed the length of the file.
+    fn is_changed(&self) -> bool {
+        match self.file.metadata() {
+            Ok(found) => found.len() != self.own_length(),
+            Err(_) => false,
         }
     }
 }

@@ -1,6 +1,6 @@
 //! The trait of a disk. Its ghost log records what was asked of it and what it answered.
 ghost use Rattle.std.specs.Prelude.{◌≡◌, List, [], ◌∷◌, ◌++◌, Result, Ok, Err, MatchResult, IfOk};
-ghost use Rattle.xw_disk.specs.Disk.{Event, read, replace, compare, keep, open_, begin, take_lines, end, started};
+ghost use Rattle.xw_disk.specs.Disk.{Event, read, replace, keep, stands, leave, open_, begin, take_lines, find, end, started};
 
 use std::alloc::AllocError;
 use std::io;
@@ -17,7 +17,7 @@ pub enum DiskFault {
     Unwritable,
     /// Another program has the file as its journal.
     InUse,
-    /// The name no longer leads to the journal that was opened under it.
+    /// The name no longer leads to the journal that was opened under it, or another program has changed its length.
     Replaced,
 }
 
@@ -38,6 +38,17 @@ pub enum CallFile<'a> {
     Input,
     /// The file that standard output goes to, if it is a regular file.
     Output,
+}
+
+/// What a file is before it is written over.
+#[derive(Clone, Copy, Debug, PartialEq, Eq)]
+pub enum Standing {
+    /// There is no such file, it is empty, or it is not a regular file.
+    Nothing,
+    /// The file that `read` was asked for last, as it was then.
+    AsRead,
+    /// Another file, or the file that was read last if it has changed since.
+    Other,
 }
 
 /// How an open file becomes a journal.
@@ -69,6 +80,12 @@ pub trait Disk {
             (λ bytes. log self.new ≡ log self.old ++ read name.now (Ok bytes.items) ∷ [])
             (λ fault. log self.new ≡ log self.old ++ read name.now (Err fault) ∷ []) };
 
+    /// Returns the bytes of a file that is to be replaced. The name `-` is a name like any other.
+    fn read_own(&mut self, name: &str) -> Result<Vec<u8>, DiskFault>
+        ensures { MatchResult result
+            (λ bytes. log self.new ≡ log self.old ++ read name.now (Ok bytes.items) ∷ [])
+            (λ fault. log self.new ≡ log self.old ++ read name.now (Err fault) ∷ []) };
+
     /// Replaces a file by these bytes, unless another program has it as its journal.
     fn replace(&mut self, name: &str, bytes: &[u8]) -> Result<(), DiskFault>
         ensures { log self.new ≡ log self.old ++ replace name.now bytes.now result ∷ [] };
@@ -84,6 +101,17 @@ pub trait Disk {
         ensures { MatchResult result
             (λ number. log self.new ≡ log self.old ++ keep name.now bytes.now number (Ok tt) ∷ [])
             (λ unkept. log self.new ≡ log self.old ++ keep name.now bytes.now unkept.number (Err unkept.fault) ∷ []) };
+
+    /// Returns what the file with a name is before it is written over.
+    fn standing(&mut self, name: &str) -> Standing
+        ensures { log self.new ≡ log self.old ++ stands name.now result ∷ [] };
+
+    /// Leaves bytes that a file did not get in a new file, which nobody else may read, and returns its name. It is beside the
+    /// file, in the current folder or in `/tmp`, is named as a file that is kept, and does not lead to `apart`.
+    fn leave(&mut self, name: &str, apart: Option<&str>, bytes: &[u8]) -> Result<String, DiskFault>
+        ensures { MatchResult result
+            (λ place. log self.new ≡ log self.old ++ leave name.now bytes.now (Ok place.bytes.items) ∷ [])
+            (λ fault. log self.new ≡ log self.old ++ leave name.now bytes.now (Err fault) ∷ []) };
 
     /// Opens a journal, or creates it, and returns its bytes. No other program can then use it.
     fn open_journal(&mut self, name: &str) -> Result<(Self::Opened, Vec<u8>), DiskFault>
@@ -111,11 +139,13 @@ pub trait Disk {
     fn close_journal(&mut self, name: &str, journal: Self::Journal)
         ensures { log self.new ≡ log self.old ++ take_lines name.now (Self.Journal.transcript journal) ∷ [] };
 
-    /// Returns whether a write to the journal failed because its name no longer led to it.
+    /// Returns whether a write to the journal failed because its name no longer led to it, or another program had changed
+    /// its length.
     fn is_lost(&self) -> bool;
 
-    /// Fails if the name of the journal no longer leads to it.
-    fn find_journal(&self) -> Result<(), DiskFault>;
+    /// Fails if the name of the journal no longer leads to it, or another program has changed its length.
+    fn find_journal(&mut self, name: &str) -> Result<(), DiskFault>
+        ensures { log self.new ≡ log self.old ++ find name.now result ∷ [] };
 
     /// Replaces a journal by these bytes.
     fn end_journal(&mut self, name: &str, bytes: &[u8]) -> Result<(), DiskFault>
@@ -123,13 +153,6 @@ pub trait Disk {
 
     /// Returns whether two files of a call are one, by whatever names.
     fn is_one_file(&self, one: CallFile<'_>, other: CallFile<'_>) -> Result<bool, AllocError>;
-
-    /// Returns whether a file to write is the one that was read by another name. The name `-` stands for standard input
-    /// as the file that was read.
-    fn is_origin(&mut self, read: &str, written: &str) -> Result<bool, AllocError>
-        ensures { MatchResult result
-            (λ is_one. log self.new ≡ log self.old ++ compare read.now written.now is_one ∷ [])
-            (λ _. log self.new ≡ log self.old) };
 
     /// Returns whether no other program has a file as its journal.
     fn is_free(&self, name: &str) -> bool;

@@ -1,5 +1,5 @@
 //! Which file a name leads to, and whether two names lead to one file.
-use crate::disk::CallFile;
+use crate::disk::{CallFile, Standing};
 use crate::replacing::{followed, kept_name};
 use std::fs::{self, Metadata};
 use std::io::{self, ErrorKind};
@@ -29,6 +29,45 @@ impl Identity {
             device: found.dev(),
             number: found.ino(),
         }
+    }
+}
+
+/// A regular file as it is at some moment.
+#[derive(Clone, Copy, Debug, PartialEq, Eq)]
+pub struct Stamp {
+    identity: Identity,
+    length: u64,
+    /// When it was changed last: seconds, and nanoseconds of the last one.
+    changed: (i64, i64),
+}
+
+impl Stamp {
+    /// Returns what a file that was found is like.
+    fn of(found: &Metadata) -> Stamp {
+        Stamp {
+            identity: Identity::of(found),
+            length: found.len(),
+            changed: (found.mtime(), found.mtime_nsec()),
+        }
+    }
+}
+
+/// Returns what the regular file that a name leads to is like now, or `None` if there is none.
+pub fn stamp_of<R: Files>(rt: &R, file: &str) -> Option<Stamp> {
+    match fs::metadata(rt, file) {
+        Ok(found) if found.is_file() => Some(Stamp::of(&found)),
+        _ => None,
+    }
+}
+
+/// Returns what the file with a name is before it is written over, if `read` was read last. One that cannot be looked at
+/// may be another.
+pub fn standing<R: Files>(rt: &R, file: &str, read: Option<Stamp>) -> Standing {
+    match fs::metadata(rt, file) {
+        Ok(found) if !found.is_file() || found.len() == 0 => Standing::Nothing,
+        Ok(found) if Some(Stamp::of(&found)) == read => Standing::AsRead,
+        Err(error) if error.kind() == ErrorKind::NotFound => Standing::Nothing,
+        _ => Standing::Other,
     }
 }
 

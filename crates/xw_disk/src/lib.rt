@@ -5,6 +5,7 @@ pub mod appended;
 pub mod asked;
 pub mod disk;
 pub mod identity;
+mod leaving;
 pub mod locks;
 pub mod log;
 mod opening;
@@ -12,5 +13,5 @@ mod reading;
 pub mod replacing;
 pub mod system;
 
-pub use disk::{CallFile, Disk, DiskFault, Start, Unkept};
+pub use disk::{CallFile, Disk, DiskFault, Standing, Start, Unkept};
 pub use system::SystemDisk;

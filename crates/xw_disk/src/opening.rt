@@ -6,7 +6,7 @@ use crate::appended::{Appended, JournalName, JournalWriter};
 use crate::disk::{DiskFault, Start};
 use crate::identity::{Identity, identity_of};
 use crate::locks::Locks;
-use crate::replacing::{followed, new_beside, put, sync_folder};
+use crate::replacing::{followed, new_beside, path_to, put, sync_folder};
 use std::alloc::{AllocError, Global};
 use std::fs::{self, OpenFile, OpenOptions};
 use std::io::{self, ErrorKind, Read, Write};
@@ -73,7 +73,8 @@ pub fn open_journal<R: Locks + AllocGlobal>(
 /// opening a pipe can block.
 fn open_regular<R: Files>(rt: &R, file: &str) -> io::Result<R::File> {
     match fs::metadata(rt, file) {
-        Ok(found) if !found.is_file() => return Err(io::Error::from(ErrorKind::InvalidInput)),
+        Ok(found) if found.is_dir() => return Err(io::Error::from(ErrorKind::InvalidInput)),
+        Ok(found) if !found.is_file() => return Err(io::Error::from(ErrorKind::Unsupported)),
         Err(error) if error.kind() != ErrorKind::NotFound => return Err(error),
         _ => {}
     }
@@ -163,10 +164,12 @@ fn put_first<R: Locks + AllocGlobal>(
     first: &[u8],
     others: &[u8],
 ) -> io::Result<R::File> {
-    let target = followed(rt, file)?;
-    let mode = opened.metadata()?.permissions().mode();
+    let found = opened.metadata()?;
+    let Some(target) = path_to(rt, file, &found)? else {
+        return Err(io::Error::from(ErrorKind::NotFound));
+    };
     let whole = joined(rt.alloc(), first, others)?;
-    put_locked(rt, &target, mode, whole.as_slice())
+    put_locked(rt, &target, found.permissions().mode(), whole.as_slice())
 }
 
 /// Returns the bytes `first`, and behind them `others`.

@@ -2,11 +2,11 @@
 ghost use Rattle.std.specs.Prelude.{◌≡◌, IfOk};
 ghost use Rattle.xw_disk.specs.Kept.{kept_name};
 
-use crate::identity::are_one;
+use crate::identity::{Identity, are_one, identity_of};
 use std::alloc::{AllocError, Global};
-use std::fs::{self, OpenFile, OpenOptions, Permissions};
+use std::fs::{self, Metadata, OpenFile, OpenOptions, Permissions};
 use std::io::{self, ErrorKind, Write};
-use std::os::unix::fs::{OpenOptionsExt, PermissionsExt};
+use std::os::unix::fs::{FileTypeExt, OpenOptionsExt, PermissionsExt};
 use std::path::PathBuf;
 use std::rt::Files;
 
@@ -17,18 +17,54 @@ const MOST_LINKS: u32 = 40;
 const PERMISSION_BITS: u32 = 0o777;
 
 /// Replaces the contents of a file: afterwards it has all the bytes, or is unchanged, even after a full disk, a failed
-/// device or a kill. Anything but a regular file is written in place.
+/// device or a kill. Anything but a regular file that a path leads to is written in place.
 pub fn replace<R: Files + AllocGlobal>(rt: &R, file: &str, bytes: &[u8]) -> io::Result<()> {
     match fs::metadata(rt, file) {
         Ok(found) if found.is_file() => {
             // A file without write permission must not be replaced either.
             OpenOptions::new().write(true).open(rt, file)?;
-            put_new(rt, file, Some(found.permissions().mode()), bytes)
+            replace_found(rt, file, &found, bytes)
         }
+        Ok(found) if found.file_type().is_fifo() => open_pipe(rt, file)?.write_all(bytes),
         Ok(_) => fs::write(rt, file, bytes),
         Err(error) if error.kind() == ErrorKind::NotFound => put_new(rt, file, None, bytes),
         Err(error) => Err(error),
     }
+}
+
+/// Replaces a regular file that was found under a name.
+fn replace_found<R: Files + AllocGlobal>(
+    rt: &R,
+    file: &str,
+    found: &Metadata,
+    bytes: &[u8],
+) -> io::Result<()> {
+    match path_to(rt, file, found)? {
+        Some(target) => put_at(rt, &target, Some(found.permissions().mode()), bytes),
+        None => fs::write(rt, file, bytes),
+    }
+}
+
+/// Returns the path to a file that was found under a name, with all symbolic links followed. Returns `None` if it does not
+/// lead to the file: what a name such as `/dev/fd/3` leads to may have been deleted, or never have had a path.
+pub fn path_to<R: Files + AllocGlobal>(
+    rt: &R,
+    file: &str,
+    found: &Metadata,
+) -> io::Result<Option<PathBuf>> {
+    let target = followed(rt, file)?;
+    if identity_of(rt, target.as_str())? == Some(Identity::of(found)) {
+        Ok(Some(target))
+    } else {
+        Ok(None)
+    }
+}
+
+/// Opens a pipe for writing. If no program reads it, a write to it fails.
+fn open_pipe<R: Files>(rt: &R, file: &str) -> io::Result<R::File> {
+    // This waits for no program, since it opens both ends. While it is open, the next one waits for none either.
+    let _both_ends = OpenOptions::new().read(true).write(true).open(rt, file);
+    OpenOptions::new().write(true).open(rt, file)
 }
 
 /// Fails if `replace` could not replace a file now. Changes no file, but for a new one that it removes at once. A device
@@ -37,10 +73,15 @@ pub fn try_replace<R: Files + AllocGlobal>(rt: &R, file: &str) -> io::Result<()>
     match fs::metadata(rt, file) {
         Ok(found) if found.is_file() || found.is_dir() => {
             OpenOptions::new().write(true).open(rt, file)?;
-            try_new(rt, file)
+            match path_to(rt, file, &found)? {
+                Some(target) => try_new(rt, &target),
+                None => Ok(()),
+            }
         }
         Ok(_) => Ok(()),
-        Err(error) if error.kind() == ErrorKind::NotFound && can_be_file(file) => try_new(rt, file),
+        Err(error) if error.kind() == ErrorKind::NotFound && can_be_file(file) => {
+            try_new(rt, &followed(rt, file)?)
+        }
         Err(error) => Err(error),
     }
 }
@@ -50,10 +91,9 @@ fn can_be_file(name: &str) -> bool {
     !name.is_empty() && !name.ends_with('/')
 }
 
-/// Creates a file beside the target of a name, and removes it.
-fn try_new<R: Files + AllocGlobal>(rt: &R, file: &str) -> io::Result<()> {
-    let target = followed(rt, file)?;
-    let (beside, _opened) = new_file(rt, &target, None)?;
+/// Creates a file beside another, and removes it.
+fn try_new<R: Files + AllocGlobal>(rt: &R, target: &PathBuf) -> io::Result<()> {
+    let (beside, _opened) = new_file(rt, target, None)?;
     let _ = fs::remove_file(rt, &beside);
     Ok(())
 }
@@ -113,7 +153,11 @@ pub fn kept_name(alloc: Global, file: &str, number: u32) -> Result<String, Alloc
 }
 
 /// Returns whether a name leads to another file, if there is one.
-fn leads_to<R: Files + AllocGlobal>(rt: &R, name: &str, other: Option<&str>) -> io::Result<bool> {
+pub fn leads_to<R: Files + AllocGlobal>(
+    rt: &R,
+    name: &str,
+    other: Option<&str>,
+) -> io::Result<bool> {
     match other {
         Some(other) => are_one(rt, name, other),
         None => Ok(false),
@@ -122,7 +166,12 @@ fn leads_to<R: Files + AllocGlobal>(rt: &R, name: &str, other: Option<&str>) -> 
 
 /// Creates a file with these bytes, unless its name is taken. Returns whether it did. The file is empty until it has all
 /// the bytes.
-fn create<R: Files + AllocGlobal>(rt: &R, name: &str, mode: u32, bytes: &[u8]) -> io::Result<bool> {
+pub fn create<R: Files + AllocGlobal>(
+    rt: &R,
+    name: &str,
+    mode: u32,
+    bytes: &[u8],
+) -> io::Result<bool> {
     match creating(Some(mode)).open(rt, name) {
         Ok(_) => {}
         Err(error) if error.kind() == ErrorKind::AlreadyExists => return Ok(false),
@@ -169,9 +218,18 @@ fn put_new<R: Files + AllocGlobal>(
     mode: Option<u32>,
     bytes: &[u8],
 ) -> io::Result<()> {
-    let target = followed(rt, file)?;
-    let (beside, _opened) = new_beside(rt, &target, mode, bytes)?;
-    put(rt, &beside, &target)
+    put_at(rt, &followed(rt, file)?, mode, bytes)
+}
+
+/// Writes the bytes to a new file beside the target, and renames it to the target.
+fn put_at<R: Files + AllocGlobal>(
+    rt: &R,
+    target: &PathBuf,
+    mode: Option<u32>,
+    bytes: &[u8],
+) -> io::Result<()> {
+    let (beside, _opened) = new_beside(rt, target, mode, bytes)?;
+    put(rt, &beside, target)
 }
 
 /// Writes the bytes to a new file in the folder of the target. Returns its path and the open file, or removes it on

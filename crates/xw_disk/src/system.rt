@@ -5,15 +5,17 @@ ghost use Rattle.xw_disk.specs.Disk.{begin, started};
 
 use crate::appended::{Appended, JournalName, JournalWriter, Place};
 use crate::asked::Asked;
-use crate::disk::{CallFile, Disk, DiskFault, Start, Unkept};
-use crate::identity::is_one_file;
+use crate::disk::{CallFile, Disk, DiskFault, Standing, Start, Unkept};
+use crate::identity::{INPUT_PATH, Stamp, is_one_file, stamp_of, standing};
+use crate::leaving::leave;
 use crate::locks::{Held, Locks, System, hold};
 use crate::log::DiskLog;
 use crate::opening::{self, Failed, in_use, unreadable, unwritable};
 use crate::reading;
 use crate::replacing::{NotKept, keep, replace, try_replace};
 use std::alloc::AllocError;
-use std::io::{self, ErrorKind};
+use std::fs::OpenFile;
+use std::io::{self, ErrorKind, Write};
 
 /// The name that stands for standard input.
 const INPUT: &str = "-";
@@ -22,6 +24,8 @@ const INPUT: &str = "-";
 #[derive(Drop)]
 pub struct SystemDisk<'a, R: System + Drop> {
     rt: &'a R,
+    /// The regular file that `read` was asked for last, as it was then.
+    read: Option<Stamp>,
     /// The journal after `close_journal`. It is still locked.
     closed: Option<Appended<R::File, JournalName<R>>>,
     /// The error of the call that failed last.
@@ -35,6 +39,7 @@ impl<'a, R: System + AllocGlobal + Clone + Drop> SystemDisk<'a, R> {
     {
         SystemDisk {
             rt,
+            read: None,
             closed: None,
             error: None,
             log: DiskLog::new(),
@@ -57,6 +62,15 @@ impl<'a, R: System + AllocGlobal + Clone + Drop> SystemDisk<'a, R> {
             Ok(()) => Ok(()),
             Err(failed) => Err(self.failed(failed)),
         }
+    }
+}
+
+/// Returns the regular file that is read by a name, as it is now. The name `-` stands for standard input.
+fn stamp_to_read<R: System>(rt: &R, name: &str) -> Option<Stamp> {
+    if name == INPUT {
+        stamp_of(rt, INPUT_PATH)
+    } else {
+        stamp_of(rt, name)
     }
 }
 
@@ -94,6 +108,20 @@ fn replace_free<R: Locks + AllocGlobal>(rt: &R, name: &str, bytes: &[u8]) -> Res
     }
 }
 
+/// Fails if the name of a journal no longer leads to it, or another program has changed its length.
+fn found<F: Write + OpenFile + Drop, P: Place + Drop>(
+    journal: &Option<Appended<F, P>>,
+) -> Result<(), DiskFault> {
+    let Some(journal) = journal else {
+        return Ok(());
+    };
+    match journal.is_there() {
+        Ok(true) => Ok(()),
+        Ok(false) => Err(DiskFault::Replaced),
+        Err(error) => Err(unwritable(error).fault),
+    }
+}
+
 impl<'a, R: System + AllocGlobal + Clone + Drop> Disk for SystemDisk<'a, R> {
     type Opened = R::File;
 
@@ -102,7 +130,22 @@ impl<'a, R: System + AllocGlobal + Clone + Drop> Disk for SystemDisk<'a, R> {
     ghost log = { λ disk. disk.log.events };
 
     fn read(&mut self, name: &str) -> Result<Vec<u8>, DiskFault> {
+        self.read = stamp_to_read(self.rt, name);
         match bytes_of(self.rt, name) {
+            Ok(bytes) => {
+                self.log.note(&Asked::Read(name, bytes.as_slice()));
+                Ok(bytes)
+            }
+            Err(error) => {
+                let fault = self.failed(unreadable(error));
+                self.log.note(&Asked::Unread(name, fault));
+                Err(fault)
+            }
+        }
+    }
+
+    fn read_own(&mut self, name: &str) -> Result<Vec<u8>, DiskFault> {
+        match reading::read(self.rt, name) {
             Ok(bytes) => {
                 self.log.note(&Asked::Read(name, bytes.as_slice()));
                 Ok(bytes)
@@ -136,6 +179,31 @@ impl<'a, R: System + AllocGlobal + Clone + Drop> Disk for SystemDisk<'a, R> {
                 let unkept = Unkept { number, fault };
                 self.log.note(&Asked::Unkept(name, bytes, unkept));
                 Err(unkept)
+            }
+        }
+    }
+
+    fn standing(&mut self, name: &str) -> Standing {
+        let found = standing(self.rt, name, self.read);
+        self.log.note(&Asked::Stands(name, found));
+        found
+    }
+
+    fn leave(
+        &mut self,
+        name: &str,
+        apart: Option<&str>,
+        bytes: &[u8],
+    ) -> Result<String, DiskFault> {
+        match leave(self.rt, name, apart, bytes) {
+            Ok(place) => {
+                self.log.note(&Asked::Leave(name, bytes, place.as_str()));
+                Ok(place)
+            }
+            Err(error) => {
+                let fault = unwritable(error).fault;
+                self.log.note(&Asked::Unleft(name, bytes, fault));
+                Err(fault)
             }
         }
     }
@@ -194,15 +262,10 @@ impl<'a, R: System + AllocGlobal + Clone + Drop> Disk for SystemDisk<'a, R> {
         }
     }
 
-    fn find_journal(&self) -> Result<(), DiskFault> {
-        let Some(journal) = &self.closed else {
-            return Ok(());
-        };
-        match journal.place().is_there() {
-            Ok(true) => Ok(()),
-            Ok(false) => Err(DiskFault::Replaced),
-            Err(error) => Err(unwritable(error).fault),
-        }
+    fn find_journal(&mut self, name: &str) -> Result<(), DiskFault> {
+        let answer = found(&self.closed);
+        self.log.note(&Asked::Find(name, answer));
+        answer
     }
 
     fn end_journal(&mut self, name: &str, bytes: &[u8]) -> Result<(), DiskFault> {
@@ -217,12 +280,6 @@ impl<'a, R: System + AllocGlobal + Clone + Drop> Disk for SystemDisk<'a, R> {
             Err(error) if error.kind() == ErrorKind::OutOfMemory => Err(AllocError),
             Err(_) => Ok(have_one_name(one, other)),
         }
-    }
-
-    fn is_origin(&mut self, read: &str, written: &str) -> Result<bool, AllocError> {
-        let is_one = self.is_one_file(source(read), CallFile::Named(written))?;
-        self.log.note(&Asked::Compare(read, written, is_one));
-        Ok(is_one)
     }
 
     fn is_free(&self, name: &str) -> bool {

@@ -1,5 +1,5 @@
 -- A list of edits, run up to an edit and one further.
-use Rattle.std.proofs.Common.{◌≡◌, ℕ, ◌+◌, ◌<◌, ◌≤◌, cond, List, [], ◌∷◌, ◌++◌, map, take, length, get_or, sym, ◌∙◌, ap, subst, arith, Some, None, inl, inr, ◌⊎◌}
+use Rattle.std.proofs.Common.{◌≡◌, ℕ, ◌+◌, ◌<◌, ◌≤◌, cond, List, [], ◌∷◌, ◌++◌, map, take, length, get_or, refl, sym, ◌∙◌, ap, subst, arith, Some, None, inl, inr, ◌⊎◌}
 use Rattle.std.specs.Prelude.{Result, Ok, Err, is_err, IsOk, IfErr, IsErrAnd}
 use Rattle.std.proofs.lemmas.List.{take_more, take_all, map_push}
 use Rattle.xw_feas.specs.State.{State, Action, after, want_of, action_of, IsRefused, IsAfter, done, accepted, skipped, with_grid, by_fault, block_toggled}
@@ -12,6 +12,7 @@ use Rattle.xw_grid.specs.Edit.{toggle_block}
 use Rattle.xw_feas.specs.declared.edit.Refusal.TheVariants as refusals
 use Rattle.xw_feas.specs.Feasible.{Answers}
 use Rattle.xw_feas.specs.Engine.{IsEdited}
+use Rattle.xw_feas.specs.Placings.{placings, placed_after}
 use Rattle.xw_feas.specs.declared.changed.Changed.{Changed}
 use Rattle.xw_feas.specs.declared.edit.Edit.{Edit}
 use Rattle.xw_feas.specs.declared.edit.Refusal.{Refusal}
@@ -78,3 +79,11 @@ edit_done before now target answers_before answers_now action (Err refusal) e no
   by_rule : (after before action ≡ Err refusal) ⊎ (IsOk (after before action) × (want_of before action ≡ Some refusal)) → now ≡ target
   by_rule (inl h) = cc
   by_rule (inr h) = let wanted = h.1 in cc
+
+-- it counts what it places
+pub edit_counted : (before now target : State) (answers_before answers_now : Answers) (action : Action) (placed : ℕ) (result : Result Changed Refusal) → after before action ≡ Ok target → want_of before action ≡ None → IsEdited before answers_before action result now answers_now → placed_after placed action result ≡ placings action + placed
+edit_counted before now target answers_before answers_now action placed (Ok changed) e none edited = refl
+edit_counted before now target answers_before answers_now action placed (Err refusal) e none edited = absurd (by_rule edited.rule) where
+  by_rule : (after before action ≡ Err refusal) ⊎ (IsOk (after before action) × (want_of before action ≡ Some refusal)) → ⊥
+  by_rule (inl h) = let both = sym h ∙ e in cc
+  by_rule (inr h) = let both = sym h.1 ∙ none in cc

@@ -28,3 +28,5 @@ pub mod Pending
 pub mod Position
 pub mod Told
 pub mod Written
+pub mod Count
+pub mod Placings

@@ -1,5 +1,5 @@
 //! The interface of an engine, and a function that runs a list of edits.
-ghost use Rattle.std.specs.Prelude.{◌≡◌, ℕ, ◌<◌, length, map, Ok, IfOk, IfErr, OnOk, OnErr};
+ghost use Rattle.std.specs.Prelude.{◌≡◌, ℕ, suc, ◌<◌, length, map, Ok, IfOk, IfErr, OnOk, OnErr};
 ghost use Rattle.std.specs.Borrow.{sem};
 ghost use Rattle.std.specs.Io.BufRead.{Rests};
 ghost use Rattle.xw_letters.specs.LetterSet.{letters_in};
@@ -9,6 +9,7 @@ ghost use Rattle.xw_feas.specs.Changes.{letters_of};
 ghost use Rattle.xw_feas.specs.Feasible.{Answers, AreAnswers};
 ghost use Rattle.xw_feas.specs.State.{State, IsAfter, action_of, after, known_placed, known_count};
 ghost use Rattle.xw_feas.specs.Engine.{IsEdited};
+ghost use Rattle.xw_feas.specs.Placings.{placed_after};
 ghost use Rattle.xw_feas.specs.Position.{state_of as position_state};
 ghost use Rattle.xw_feas.specs.WellFormed.{IsWellFormed};
 ghost use Rattle.xw_feas.specs.Queries.{count_answer, next_answer, next_found, words_of, AreLetters};
@@ -35,6 +36,9 @@ pub trait Feasible: Drop {
     /// The feasible words and letters.
     ghost answers: { Self → Answers };
 
+    /// How many words and letters were placed.
+    ghost placed: { Self → ℕ };
+
     /// Creates an engine for a grid and a dictionary. Returns `Memory` if an allocation fails.
     fn open(alloc: Global, grid: Grid, bank: Bank) -> Result<Self, Refusal>
         ensures ok { IfOk result (λ engine. state engine ≡ record { grid = grid; words = bank.words }) }
@@ -47,9 +51,9 @@ pub trait Feasible: Drop {
     /// The iterator borrows the engine. In the contract, `now` is the engine once that borrow ends. After
     /// `Ok`, its grid and dictionary are those that the edit leads to, and the iterator yields exactly the
     /// open cells whose feasible letters changed, each with its new letters. After `Err`, nothing has
-    /// changed.
+    /// changed. `Set` and `Place` count as a placement.
     fn edit(&mut self, edit: &Edit<'_>) -> Result<Changed<'_>, Refusal>
-        ensures* edited { sem 𝓛 (Rests Self.row self.entry (λ now. IsEdited (state self.old) (answers self.old) (action_of edit.now) result (state now) (answers now))) };
+        ensures* edited { sem 𝓛 (Rests Self.row self.entry (λ now. IsEdited (state self.old) (answers self.old) (action_of edit.now) result (state now) (answers now) × (placed now ≡ placed_after (placed self.old) (action_of edit.now) result))) };
 
     /// Replaces the grid and keeps the dictionary. Returns `Memory` if an allocation fails, and then
     /// changes nothing.
@@ -57,7 +61,8 @@ pub trait Feasible: Drop {
         ensures ok { OnOk result (state self.new ≡ record { grid = grid; words = (state self.old).words }) }
         ensures err { IfErr result (λ refusal. refusal ≡ Refusal.Grid GridFault.Memory) }
         ensures same { OnErr result (state self.new ≡ state self.old) }
-        ensures answers_same { OnErr result (answers self.new ≡ answers self.old) };
+        ensures answers_same { OnErr result (answers self.new ≡ answers self.old) }
+        ensures placed { placed self.new ≡ placed self.old };
 
     /// The grid with its lights, and the dictionary.
     fn position(&self) -> &Position
@@ -133,11 +138,12 @@ pub trait Feasible: Drop {
     }
 
     /// Places a known word in a light. Both are given by index, the word by its index among the known words
-    /// of the light's length. This always succeeds.
+    /// of the light's length. This always succeeds, and counts as a placement.
     fn place_word_at(&mut self, light: usize, index: usize)
         requires light { light < length (lights_of (state self.old).grid) }
         requires index { index < known_count (state self.old) light }
-        ensures { after (state self.old) (known_placed (state self.old) light index) ≡ Ok (state self.new) }
+        ensures made { after (state self.old) (known_placed (state self.old) light index) ≡ Ok (state self.new) }
+        ensures placed { placed self.new ≡ suc (placed self.old) }
     {
         self.grid().well_formed();
         self.bank().well_formed();

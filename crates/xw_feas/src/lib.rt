@@ -4,6 +4,7 @@
 
 pub mod board;
 pub mod changed;
+pub mod count;
 pub mod edit;
 pub mod feasible;
 pub mod laws;

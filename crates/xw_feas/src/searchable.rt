@@ -2,6 +2,7 @@
 ghost use Rattle.std.specs.Prelude.{◌≡◌, ℕ, ◌<◌, length, IfOk};
 ghost use Rattle.xw_grid.specs.Light.{lights_of};
 ghost use Rattle.xw_feas.specs.Board.{board_of, light_at};
+ghost use Rattle.xw_feas.specs.Placings.{placed_after};
 ghost use Rattle.xw_feas.specs.Snapshot.{IsTwin, CanSave};
 ghost use Rattle.xw_feas.specs.State.{State, entry_action};
 ghost use Rattle.xw_feas.specs.Trying.{IsTried};
@@ -36,10 +37,12 @@ pub trait Searchable: Feasible {
     fn exchange(&mut self, snapshot: &mut Self::Snapshot)
         requires twin { IsTwin (saved snapshot.old) (Self.state self.old) }
         ensures now { Self.state self.new ≡ saved snapshot.old }
-        ensures saved { saved snapshot.new ≡ Self.state self.old };
+        ensures saved { saved snapshot.new ≡ Self.state self.old }
+        ensures placed { Self.placed self.new ≡ Self.placed self.old };
 
     /// Applies an edit of entries. If the edit leaves a watched light without a feasible word, the engine may return
-    /// that light instead, and then nothing changes. `mark` holds the current state.
+    /// that light instead, and then nothing changes. `mark` holds the current state. In both cases `Set` and `Place` count
+    /// as a placement.
     fn try_edit(
         &mut self,
         edit: &EntryEdit<'_>,
@@ -47,7 +50,8 @@ pub trait Searchable: Feasible {
         mark: &Self::Snapshot,
     ) -> Result<Option<usize>, Refusal>
         requires marked { saved mark.now ≡ Self.state self.old }
-        ensures { IsTried (Self.state self.old) (entry_action edit.now) watched.now result (Self.state self.new) }
+        ensures tried { IsTried (Self.state self.old) (entry_action edit.now) watched.now result (Self.state self.new) }
+        ensures placed { Self.placed self.new ≡ placed_after (Self.placed self.old) (entry_action edit.now) result }
     {
         let _ = watched;
         let _ = mark;

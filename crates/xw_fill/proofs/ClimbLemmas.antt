@@ -11,6 +11,7 @@ use Rattle.xw_fill.specs.Position.{position_of}
 use Rattle.xw_fill.specs.Search.{light_count}
 use Rattle.xw_fill.specs.NamedFill.{flags, AreFlags, IsFillOf}
 use Rattle.xw_fill.specs.Best.{at_least, IsFillAt, HasNoneAt, IsBound, IsFilledAt, IsBest}
+use Rattle.xw_fill.specs.OneSearch.{IsOfOneSearch}
 use Rattle.xw_fill.specs.declared.best.Best.{Best}
 use Rattle.xw_fill.specs.declared.best.Best.TheVariants.{Filled, NoFill, Limit}
 use Rattle.xw_fill.specs.Inner.Climbing.{grade_sum, IsProber, IsProbed, IsBetter, IsClimbing, IsOffered, HasClimbed, IsAtLeast, IsTaken, grade_above, next_grade, work_left, best_of}
@@ -44,9 +45,9 @@ known_probed saved climb prober start after probe is plan found =
     subst (λ (s : State). IsProbed (flags prober.plan.named.items) s climb.prober.least after probe) (sym is.began)
     (subst (λ (p : Plan). IsProbed (flags p.named.items) start climb.prober.least after probe) (sym plan) found)
 
--- the same climb with a prober that has served one more probe
-pub probed : {E S : Type 0} (saved : S → State) (climb : Climb E S) (prober : Prober E S) (start : State) → IsClimbing saved climb start → IsProber saved prober start → prober.plan ≡ climb.prober.plan → prober.fresh ≡ climb.prober.fresh → IsClimbing saved (record climb { prober = prober }) start
-probed saved climb prober start is served same fresh = record {
+-- the same climb with a prober that has served one more probe, and with what another one has counted
+pub probed : {E S : Type 0} (saved : S → State) (climb other : Climb E S) (prober : Prober E S) (start : State) → IsClimbing saved climb start → IsProber saved prober start → prober.plan ≡ climb.prober.plan → prober.fresh ≡ climb.prober.fresh → IsClimbing saved (record climb { prober = prober; counted = other.counted }) start
+probed saved climb other prober start is served same fresh = record {
   prober = served;
   began = is.began;
   best = is.best;
@@ -115,8 +116,8 @@ gets_better (Some grade) was least worst sum (inr even) above = (omega (arith, e
 
 -- a step that found nothing
 pub climbed_same : {E S : Type 0} (saved : S → State) (before now : Climb E S) (from to : Allowance) → now.prober.plan ≡ before.prober.plan → now.prober.least ≡ before.prober.least → now.found ≡ before.found → now.sum ≡ before.sum → now.bound ≡ before.bound
-    → saved now.best ≡ saved before.best → saved now.start ≡ saved before.start → from.made ≤ to.made → to.limit ≡ from.limit → HasClimbed saved before now from to
-climbed_same saved before now from to plan least found sum bound best start made limit = record {
+    → saved now.best ≡ saved before.best → saved now.start ≡ saved before.start → from.made ≤ to.made → to.limit ≡ from.limit → now.counted.value.made ≡ to.made → HasClimbed saved before now from to
+climbed_same saved before now from to plan least found sum bound best start made limit counted = record {
   plan = plan;
   least = least;
   found = omega (arith, ap (λ f. grade_above f now.prober.least) found, ap (grade_above before.found) least);
@@ -124,12 +125,13 @@ climbed_same saved before now from to plan least found sum bound best start made
   bound = omega (arith, bound);
   made = made;
   limit = limit;
+  counted = counted;
   idle = λ none was. subst (λ f. IfSome f (λ grade. saved now.best ≡ saved now.start)) (sym found) (subst (λ s. IfSome before.found (λ grade. s ≡ saved now.start)) (sym best) (subst (λ s. IfSome before.found (λ grade. saved before.best ≡ s)) (sym start) was));
 }
 
 -- a step that found a better bound
-pub climbed_bound : {E S : Type 0} (saved : S → State) (climb : Climb E S) (grade : ℕ) (from to : Allowance) → grade < climb.bound → from.made ≤ to.made → to.limit ≡ from.limit → HasClimbed saved climb (record climb { bound = grade }) from to
-climbed_bound saved climb grade from to below made limit = record {
+pub climbed_bound : {E S : Type 0} (saved : S → State) (climb : Climb E S) (grade : ℕ) (from to : Allowance) → grade < climb.bound → from.made ≤ to.made → to.limit ≡ from.limit → climb.counted.value.made ≡ to.made → HasClimbed saved climb (record climb { bound = grade }) from to
+climbed_bound saved climb grade from to below made limit counted = record {
   plan = refl;
   least = refl;
   found = omega arith;
@@ -137,13 +139,14 @@ climbed_bound saved climb grade from to below made limit = record {
   bound = omega (arith, below);
   made = made;
   limit = limit;
+  counted = counted;
   idle = λ none was. was;
 }
 
 -- a step that found a fill, which is kept if it is better
 pub climbed_offered : {E S : Type 0} (saved : S → State) (before now : Climb E S) (filled : State) (worst sum : ℕ) (from to : Allowance) → IsOffered saved before now filled worst sum → before.prober.least ≤ worst → now.prober ≡ before.prober → now.bound ≡ before.bound
-    → saved now.start ≡ saved before.start → from.made ≤ to.made → to.limit ≡ from.limit → (to.made ≡ from.made → filled ≡ saved before.start) → HasClimbed saved before now from to
-climbed_offered {E} {S} saved before now filled worst sum from to offered above prober bound start made limit idle = elim offered [
+    → saved now.start ≡ saved before.start → from.made ≤ to.made → to.limit ≡ from.limit → now.counted.value.made ≡ to.made → (to.made ≡ from.made → filled ≡ saved before.start) → HasClimbed saved before now from to
+climbed_offered {E} {S} saved before now filled worst sum from to offered above prober bound start made limit counted idle = elim offered [
   | inl kept ↦
       let better = gets_better before.found before.sum before.prober.least worst sum kept.0 above in
       let next : next_grade now ≡ suc worst = ap (λ f. grade_above f now.prober.least) kept.1 in
@@ -155,9 +158,10 @@ climbed_offered {E} {S} saved before now filled worst sum from to offered above 
         bound = omega (arith, bound);
         made = made;
         limit = limit;
+        counted = counted;
         idle = λ none was. subst (λ f. IfSome f (λ n. saved now.best ≡ saved now.start)) (sym kept.1) (kept.3 ∙ idle none ∙ sym start);
       }
-  | inr left ↦ climbed_same saved before now from to (ap (λ (p : Prober E S). p.plan) prober) (ap (λ (p : Prober E S). p.least) prober) left.1 left.2 bound left.3 start made limit
+  | inr left ↦ climbed_same saved before now from to (ap (λ (p : Prober E S). p.plan) prober) (ap (λ (p : Prober E S). p.least) prober) left.1 left.2 bound left.3 start made limit counted
 ]
 
 -- one step after another
@@ -170,6 +174,7 @@ climbed-then saved before between now from through to first next = record {
   bound = omega (arith, first.bound, next.bound);
   made = omega (arith, first.made, next.made);
   limit = next.limit ∙ first.limit;
+  counted = next.counted;
   idle = λ none was. next.idle (omega (arith, first.made, next.made, none)) (first.idle (omega (arith, first.made, next.made, none)) was);
 }
 
@@ -183,8 +188,22 @@ climbed_on saved before between now from through to first next more = record {
   bound = omega (arith, first.bound, next.bound);
   made = next.made;
   limit = next.limit;
+  counted = next.counted;
   idle = λ none was. absurd (omega (arith, first.made, more, none));
 }
+
+-- a step, whatever was counted before
+pub climbed_from : {E S : Type 0} (saved : S → State) (before other now : Climb E S) (from to : Allowance) → HasClimbed saved (record before { counted = other.counted }) now from to → HasClimbed saved before now from to
+climbed_from saved before other now from to is = record { plan = is.plan; least = is.least; found = is.found; sum = is.sum; bound = is.bound; made = is.made; limit = is.limit; counted = is.counted; idle = is.idle }
+
+-- the grade of a fill that was found
+abbrev told_grade : Probe → ℕ
+told_grade (probes.Filled least) = least
+told_grade probes.NoFill = 0
+told_grade probes.Limit = 0
+
+pub same_grade : (one other : ℕ) → probes.Filled one ≡ probes.Filled other → one ≡ other
+same_grade one other is = ap told_grade is
 
 -- ---- how much is left
 
@@ -248,6 +267,21 @@ module _ (f g : ℕ → Bool) (before : State) (same : (light : ℕ) → light <
       )
   best_same after NoFill is = (λ entries fill. is.0 entries (fill_same g f (position_of before) back entries fill), is.1)
   best_same after (Limit bound) is = (is.0, bound_same bound is.1, is.2)
+
+pub one_same : {E S : Type 0} (state : E → State) (saved : S → State) (f g : ℕ → Bool) (before after : E) (from to : Allowance) (best : Best) → ((light : ℕ) → light < light_count (position_of (state before)) → f light ≡ g light)
+    → IsOfOneSearch state saved f before after from to best → IsOfOneSearch state saved g before after from to best
+one_same state saved f g before after from to best same is = record {
+  first = is.first;
+  last = is.last;
+  began = is.began;
+  lights = λ light in_grid. is.lights light in_grid ∙ same light in_grid;
+  empty = is.empty;
+  own = is.own;
+  climbed = is.climbed;
+  ended = is.ended;
+  answer = is.answer;
+  entered = is.entered;
+}
 
 -- a flag for each light is a flag for each named light, if an empty list names all lights
 pub all_are_flags : (state : State) (list : List Bool) → list ≡ replicate (light_count (position_of state)) true → AreFlags state [] list

@@ -13,6 +13,7 @@ use Rattle.xw_grid.proofs.GridLemmas.{index_of-cell_at}
 use Rattle.xw_grid.proofs.LightLemmas.{inside_from_open}
 use Rattle.xw_feas.specs.Board.{board_of, is_open as is_open_at}
 use Rattle.xw_feas.specs.Engine.{IsEdited}
+use Rattle.xw_feas.specs.Placings.{placed_after}
 use Rattle.xw_feas.specs.Feasible.{Answers}
 use Rattle.xw_feas.specs.State.{State, Action, after, letter_set, want_of, with_grid, by_fault, IsRefused}
 use Rattle.xw_feas.specs.declared.edit.Refusal.{Refusal}
@@ -92,3 +93,9 @@ letter_accepted before cell spot letter refusal is opens spot_is refused = elim 
   | inl by_rule ↦ false≢true (ap is_ok (sym by_rule ∙ set_accepted before cell spot (Some letter) is opens spot_is))
   | inr (good, want) ↦ false≢true (ap is_some want)
 ]
+
+-- it counts as a placement
+pub letter_counted : (before now : State) (answers answers_now : Answers) (cell : ℕ) (spot : Cell) (letter placed : ℕ) (result : Result Changed Refusal) → IsGrid before.grid → is_open_at (board_of before.grid) cell ≡ true → spot ≡ cell_at before.grid cell
+    → IsEdited before answers (letter_set spot letter) result now answers_now → placed_after placed (letter_set spot letter) result ≡ suc placed
+letter_counted before now answers answers_now cell spot letter placed (Ok changed) is opens spot_is edited = omega arith
+letter_counted before now answers answers_now cell spot letter placed (Err refusal) is opens spot_is edited = absurd (letter_accepted before cell spot letter refusal is opens spot_is edited.rule)

@@ -22,6 +22,7 @@ pub mod ListingLemmas
 pub mod LawLemmas
 pub mod Frames
 pub mod Entering
+pub mod CountLemmas
 pub mod PlanLemmas
 pub mod CheckLemmas
 pub mod LetterLemmas

@@ -1,4 +1,4 @@
--- What proofs and inner functions need, and no public contract cites.
+-- What proofs and inner functions need, and no public contract cites but by `OneSearch.antt`.
 pub mod Noted
 pub mod Linked
 pub mod Tries

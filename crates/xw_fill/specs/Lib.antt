@@ -17,4 +17,5 @@ pub mod Reason
 pub mod Sparing
 pub mod OfState
 pub mod Best
+pub mod OneSearch
 pub mod Inner

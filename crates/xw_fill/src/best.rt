@@ -9,8 +9,9 @@ mod probe;
 
 ghost use Rattle.std.specs.Prelude.{◌≡◌, ℕ, replicate, true, OnErr, IfOk, IfErr};
 ghost use Rattle.xw_fill.specs.NamedFill.{flags, is_named, AreFlags, IsRefusal};
-ghost use Rattle.xw_fill.specs.Allowance.{IsCounted};
+ghost use Rattle.xw_fill.specs.Allowance.{IsCounted, HasPlacedWithin};
 ghost use Rattle.xw_fill.specs.Best.{IsBest};
+ghost use Rattle.xw_fill.specs.OneSearch.{IsOfOneSearch};
 
 use crate::allowance::Allowance;
 use crate::best::climb::Climb;
@@ -122,12 +123,14 @@ fn best_flagged<E: Searchable>(
     allowance: &mut Allowance,
 ) -> Result<Best, AllocError>
     ensures counted { IsCounted allowance.old allowance.new (E.state engine.old) (E.state engine.new) }
+    ensures within { HasPlacedWithin allowance.old allowance.new (E.placed engine.old) (E.placed engine.new) }
     ensures limit { (bound : ℕ) → result ≡ Ok (Best.Limit bound) → allowance.new.made ≡ allowance.new.limit }
     ensures ok { IfOk result (IsBest (flags named.items) (E.state engine.old) (E.state engine.new)) }
+    ensures one { IfOk result (IsOfOneSearch E.state E.saved (flags named.items) engine.old engine.new allowance.old allowance.new) }
     ensures unchanged { OnErr result (E.state engine.new ≡ E.state engine.old) }
 {
     let plan = Plan::of(alloc, engine, named)?;
-    let mut climb = Climb::new(alloc, engine, plan)?;
+    let mut climb = Climb::new(alloc, engine, plan, allowance)?;
     climb.run(alloc, engine, course, allowance)?;
     Ok(climb.finish(engine))
 }
@@ -141,8 +144,10 @@ fn best_named<E: Searchable>(
     allowance: &mut Allowance,
 ) -> Result<Best, Refusal>
     ensures counted { IsCounted allowance.old allowance.new (E.state engine.old) (E.state engine.new) }
+    ensures within { HasPlacedWithin allowance.old allowance.new (E.placed engine.old) (E.placed engine.new) }
     ensures limit { (bound : ℕ) → result ≡ Ok (Best.Limit bound) → allowance.new.made ≡ allowance.new.limit }
     ensures ok { IfOk result (IsBest (is_named (E.state engine.old) names.now) (E.state engine.old) (E.state engine.new)) }
+    ensures one { IfOk result (IsOfOneSearch E.state E.saved (is_named (E.state engine.old) names.now) engine.old engine.new allowance.old allowance.new) }
     ensures refused { IfErr result (IsRefusal (E.state engine.old) names.now) }
     ensures unchanged { OnErr result (E.state engine.new ≡ E.state engine.old) }
 {
@@ -189,8 +194,10 @@ pub fn best_fill<E: Searchable>(
     hint: &mut Option<BestHint>,
 ) -> Result<Best, Refusal>
     ensures counted { IsCounted allowance.old allowance.new (E.state engine.old) (E.state engine.new) }
+    ensures within { HasPlacedWithin allowance.old allowance.new (E.placed engine.old) (E.placed engine.new) }
     ensures limit { (bound : ℕ) → result ≡ Ok (Best.Limit bound) → allowance.new.made ≡ allowance.new.limit }
     ensures ok { IfOk result (IsBest (is_named (E.state engine.old) names.now) (E.state engine.old) (E.state engine.new)) }
+    ensures one { IfOk result (IsOfOneSearch E.state E.saved (is_named (E.state engine.old) names.now) engine.old engine.new allowance.old allowance.new) }
     ensures refused { IfErr result (IsRefusal (E.state engine.old) names.now) }
     ensures unchanged { OnErr result (E.state engine.new ≡ E.state engine.old) }
 {

@@ -1,5 +1,6 @@
 //! Saved states of an engine, to which a search returns.
-ghost use Rattle.std.specs.Prelude.{◌≡◌, ◌-◌, ◌<◌, ◌≤◌, [], ◌∷◌, ◌++◌, true, false, IfOk};
+ghost use Rattle.std.specs.Prelude.{◌≡◌, suc, ◌-◌, ◌<◌, ◌≤◌, ◌⊎◌, [], ◌∷◌, ◌++◌, true, false, IfOk};
+ghost use Rattle.std.specs.Vec.{vec_capacity};
 ghost use Rattle.xw_feas.specs.State.{State};
 ghost use Rattle.xw_fill.specs.Marks.{held_of, room_of, latest, but_last, CanMark, AreTwins, HoldsFree};
 
@@ -35,6 +36,7 @@ impl<E: Searchable> Marks<E> {
         requires within { self.old.held ≤ room_of self.old }
         ensures held { held_of E.saved self.new ≡ latest (room_of self.old - 1) (held_of E.saved self.old) }
         ensures room { room_of self.new ≡ room_of self.old }
+        ensures reserved { vec_capacity self.new.snapshots ≡ vec_capacity self.old.snapshots }
         ensures free { self.new.held < room_of self.old }
         ensures can_mark { (state : State) → CanMark E.saved self.old state → CanMark E.saved self.new state }
     {
@@ -48,6 +50,8 @@ impl<E: Searchable> Marks<E> {
     pub fn widen(&mut self, engine: &E, most: usize)
         requires twins { AreTwins E.saved self.old (E.state engine.now) }
         ensures held { held_of E.saved self.new ≡ held_of E.saved self.old }
+        ensures same { (self.old.held < room_of self.old) ⊎ (most ≤ room_of self.old) → self.new ≡ self.old }
+        ensures room { (room_of self.new ≡ room_of self.old) ⊎ (room_of self.new ≡ suc (room_of self.old)) }
         ensures twins { AreTwins E.saved self.new (E.state engine.now) }
     {
         if self.held < self.snapshots.len() || self.snapshots.len() >= most {
@@ -66,6 +70,7 @@ impl<E: Searchable> Marks<E> {
         ensures free { result ≡ true → HoldsFree E.saved self.new (E.state engine.now) }
         ensures held { result ≡ true → held_of E.saved self.new ≡ latest (room_of self.old - 1) (held_of E.saved self.old) }
         ensures room { room_of self.new ≡ room_of self.old }
+        ensures reserved { vec_capacity self.new.snapshots ≡ vec_capacity self.old.snapshots }
         ensures twins { AreTwins E.saved self.new (E.state engine.now) }
     {
         if self.snapshots.is_empty() {
@@ -100,6 +105,7 @@ impl<E: Searchable> Marks<E> {
         requires twins { AreTwins E.saved self.old (E.state engine.now) }
         ensures held { held_of E.saved self.new ≡ latest (room_of self.old) (held_of E.saved self.old ++ E.state engine.now ∷ []) }
         ensures room { room_of self.new ≡ room_of self.old }
+        ensures reserved { vec_capacity self.new.snapshots ≡ vec_capacity self.old.snapshots }
         ensures twins { AreTwins E.saved self.new (E.state engine.now) }
     {
         if self.snapshots.is_empty() {
@@ -120,6 +126,7 @@ impl<E: Searchable> Marks<E> {
         ensures engine_same { result ≡ false → engine.new ≡ engine.old }
         ensures room { room_of self.new ≡ room_of self.old }
         ensures twins { AreTwins E.saved self.new (E.state engine.new) }
+        ensures count { E.placed engine.new ≡ E.placed engine.old }
     {
         if self.held == 0 {
             return false;

@@ -7,7 +7,7 @@ pub(crate) mod run;
 
 ghost use Rattle.std.specs.Prelude.{◌≡◌, ◌≤◌, ◌-◌, ℕ, length, replicate, true, false, IfOk, IfErr, OnOk, OnErr, ◌<◌};
 ghost use Rattle.std.specs.Vec.{vec_capacity};
-ghost use Rattle.xw_fill.specs.Allowance.{IsCounted};
+ghost use Rattle.xw_fill.specs.Allowance.{IsCounted, HasPlaced, HasPlacedWithin};
 ghost use Rattle.xw_fill.specs.Filling.{IsFilling};
 ghost use Rattle.xw_fill.specs.OfState.{light_count};
 ghost use Rattle.xw_fill.specs.Inner.OfState.{IsPlan, IsOpen};
@@ -78,6 +78,8 @@ fn run_again<E: Searchable>(
     requires ready { IsReady E.saved stack.old (E.state engine.old) }
     ensures ready { IsReady E.saved stack.new (E.state engine.old) }
     ensures counted { IsCounted allowance.old allowance.new (E.state engine.old) (E.state engine.new) }
+    ensures placed { OnOk result (HasPlaced allowance.old allowance.new (E.placed engine.old) (E.placed engine.new)) }
+    ensures within { HasPlacedWithin allowance.old allowance.new (E.placed engine.old) (E.placed engine.new) }
     ensures until { allowance.new.until ≡ allowance.old.until }
     ensures limit { result ≡ Ok Filling.Limit → allowance.new.made ≡ allowance.new.until }
     ensures ok { IfOk result (IsAutofilled (flags plan.now.named.items) (E.state engine.old) (E.state engine.new)) }
@@ -125,6 +127,8 @@ pub(crate) fn fill_planned<E: Searchable>(
     requires ready { IsReady E.saved stack.old (E.state engine.old) }
     ensures ready { IsReady E.saved stack.new (E.state engine.old) }
     ensures counted { IsCounted allowance.old allowance.new (E.state engine.old) (E.state engine.new) }
+    ensures placed { OnOk result (HasPlaced allowance.old allowance.new (E.placed engine.old) (E.placed engine.new)) }
+    ensures within { HasPlacedWithin allowance.old allowance.new (E.placed engine.old) (E.placed engine.new) }
     ensures until { allowance.new.until ≡ allowance.old.until }
     ensures limit { result ≡ Ok Filling.Limit → allowance.new.made ≡ allowance.new.until }
     ensures ok { IfOk result (IsAutofilled (flags plan.now.named.items) (E.state engine.old) (E.state engine.new)) }
@@ -150,6 +154,8 @@ fn fill_flagged<E: Searchable>(
     allowance: &mut Allowance,
 ) -> Result<Filling, AllocError>
     ensures counted { IsCounted allowance.old allowance.new (E.state engine.old) (E.state engine.new) }
+    ensures placed { OnOk result (HasPlaced allowance.old allowance.new (E.placed engine.old) (E.placed engine.new)) }
+    ensures within { HasPlacedWithin allowance.old allowance.new (E.placed engine.old) (E.placed engine.new) }
     ensures limit { result ≡ Ok Filling.Limit → allowance.new.made ≡ allowance.old.until }
     ensures ok { IfOk result (IsAutofilled (flags named.items) (E.state engine.old) (E.state engine.new)) }
     ensures unchanged { OnErr result (E.state engine.new ≡ E.state engine.old) }
@@ -222,6 +228,8 @@ fn all_by_letters<E: Searchable>(
     allowance: &mut Allowance,
 ) -> Result<Filling, AllocError>
     ensures counted { IsCounted allowance.old allowance.new (E.state engine.old) (E.state engine.new) }
+    ensures placed { OnOk result (HasPlaced allowance.old allowance.new (E.placed engine.old) (E.placed engine.new)) }
+    ensures within { HasPlacedWithin allowance.old allowance.new (E.placed engine.old) (E.placed engine.new) }
     ensures limit { result ≡ Ok Filling.Limit → allowance.new.made ≡ allowance.old.limit }
     ensures ok { IfOk result (IsAutofilled (λ light. true) (E.state engine.old) (E.state engine.new)) }
     ensures unchanged { OnErr result (E.state engine.new ≡ E.state engine.old) }
@@ -238,6 +246,8 @@ fn fill_by_words<E: Searchable>(
     allowance: &mut Allowance,
 ) -> Result<Filling, Refusal>
     ensures counted { IsCounted allowance.old allowance.new (E.state engine.old) (E.state engine.new) }
+    ensures placed { result ≡ Ok Filling.Limit → HasPlaced allowance.old allowance.new (E.placed engine.old) (E.placed engine.new) }
+    ensures within { HasPlacedWithin allowance.old allowance.new (E.placed engine.old) (E.placed engine.new) }
     ensures until { allowance.new.until ≡ allowance.old.until }
     ensures made { OnOk result (allowance.new.made ≡ allowance.new.until) }
     ensures found { IfOk result (IsFilling (allowance.old.until - allowance.old.made) (E.state engine.old) (E.state engine.new)) }
@@ -258,6 +268,8 @@ fn fill_all<E: Searchable>(
     allowance: &mut Allowance,
 ) -> Result<Filling, Refusal>
     ensures counted { IsCounted allowance.old allowance.new (E.state engine.old) (E.state engine.new) }
+    ensures placed { result ≡ Ok Filling.Limit → HasPlaced allowance.old allowance.new (E.placed engine.old) (E.placed engine.new) }
+    ensures within { HasPlacedWithin allowance.old allowance.new (E.placed engine.old) (E.placed engine.new) }
     ensures limit { result ≡ Ok Filling.Limit → allowance.new.made ≡ allowance.old.limit }
     ensures ok { IfOk result (IsAutofilled (λ light. true) (E.state engine.old) (E.state engine.new)) }
     ensures memory { IfErr result (λ refusal. refusal ≡ Refusal.Grid GridFault.Memory) }
@@ -286,6 +298,8 @@ fn fill_named<E: Searchable>(
     allowance: &mut Allowance,
 ) -> Result<Filling, Refusal>
     ensures counted { IsCounted allowance.old allowance.new (E.state engine.old) (E.state engine.new) }
+    ensures placed { result ≡ Ok Filling.Limit → HasPlaced allowance.old allowance.new (E.placed engine.old) (E.placed engine.new) }
+    ensures within { HasPlacedWithin allowance.old allowance.new (E.placed engine.old) (E.placed engine.new) }
     ensures limit { result ≡ Ok Filling.Limit → allowance.new.made ≡ allowance.old.limit }
     ensures ok { IfOk result (IsAutofilled (is_named (E.state engine.old) names.now) (E.state engine.old) (E.state engine.new)) }
     ensures refused { IfErr result (IsRefusal (E.state engine.old) names.now) }
@@ -335,6 +349,8 @@ pub fn autofill<E: Searchable>(
     hint: &mut Option<Hint>,
 ) -> Result<Filling, Refusal>
     ensures counted { IsCounted allowance.old allowance.new (E.state engine.old) (E.state engine.new) }
+    ensures placed { result ≡ Ok Filling.Limit → HasPlaced allowance.old allowance.new (E.placed engine.old) (E.placed engine.new) }
+    ensures within { HasPlacedWithin allowance.old allowance.new (E.placed engine.old) (E.placed engine.new) }
     ensures limit { result ≡ Ok Filling.Limit → allowance.new.made ≡ allowance.new.limit }
     ensures ok { IfOk result (IsAutofilled (is_named (E.state engine.old) names.now) (E.state engine.old) (E.state engine.new)) }
     ensures refused { IfErr result (IsRefusal (E.state engine.old) names.now) }

@@ -1,5 +1,5 @@
 //! What a search places in one step.
-ghost use Rattle.std.specs.Prelude.{◌≡◌, Bool, IfSome, IfNone};
+ghost use Rattle.std.specs.Prelude.{◌≡◌, suc, Bool, IfSome, IfNone};
 ghost use Rattle.xw_feas.specs.State.{State};
 ghost use Rattle.xw_fill.specs.NamedFill.{flags};
 ghost use Rattle.xw_fill.specs.Position.{DiffersInEntries};
@@ -23,12 +23,13 @@ pub trait Placement: Copy {
     fn is_forced(&self) -> bool
         ensures { result ≡ forced self.now };
 
-    /// Places it.
+    /// Places it, in one placement of the engine.
     fn place<E: Feasible>(&self, engine: &mut E)
         requires { may_place self.now (E.state engine.old) }
-        ensures { is_placed self.now (E.state engine.old) (E.state engine.new) };
+        ensures placed { is_placed self.now (E.state engine.old) (E.state engine.new) }
+        ensures count { E.placed engine.new ≡ suc (E.placed engine.old) };
 
-    /// Places it. If this leaves a watched light without a feasible word, the engine may return that light instead,
+    /// Places it, in one placement of the engine. If this leaves a watched light without a feasible word, the engine may return that light instead,
     /// and then nothing changes. `mark` holds the current state.
     fn try_place<E: Searchable>(
         &self,
@@ -41,6 +42,7 @@ pub trait Placement: Copy {
         ensures placed { IfNone result (is_placed self.now (E.state engine.old) (E.state engine.new)) }
         ensures same { IfSome result (λ light. E.state engine.new ≡ E.state engine.old) }
         ensures dead { IfSome result (λ light. (there : State) × is_placed self.now (E.state engine.old) there × IsDead (flags watched.now) there light) }
+        ensures count { E.placed engine.new ≡ suc (E.placed engine.old) }
     {
         let _ = watched;
         let _ = mark;
@@ -51,7 +53,8 @@ pub trait Placement: Copy {
     /// Takes it back: returns to the state that it was placed in.
     fn take_back<E: Feasible>(&self, engine: &mut E)
         requires { (before : State) × is_placed self.now before (E.state engine.old) }
-        ensures { (before : State) → is_placed self.now before (E.state engine.old) → E.state engine.new ≡ before };
+        ensures back { (before : State) → is_placed self.now before (E.state engine.old) → E.state engine.new ≡ before }
+        ensures count { E.placed engine.new ≡ E.placed engine.old };
 
     /// It changes only entries.
     ghost entries: { (placement : Self) (before after : State) → is_placed placement before after → DiffersInEntries before after };

@@ -1,5 +1,5 @@
 //! The search for a fill: depth first, with the words of each light in dictionary order.
-ghost use Rattle.std.specs.Prelude.{◌≡◌, ◌<◌, ◌≤◌, false, suc, [], length, IfOk, IfErr, OnErr, IfSome, IfNone};
+ghost use Rattle.std.specs.Prelude.{◌≡◌, ◌+◌, ◌<◌, ◌≤◌, false, suc, [], length, IfOk, IfErr, OnErr, IfSome, IfNone};
 ghost use Rattle.std.specs.Vec.{vec_capacity};
 ghost use Rattle.xw_fill.specs.Position.{DiffersInEntries};
 ghost use Rattle.xw_fill.specs.OfState.{is_dead, light_count, unentered_count, outlook};
@@ -99,6 +99,7 @@ fn place_word<E: Searchable>(
     ensures entries { DiffersInEntries (E.state engine.old) (E.state engine.new) }
     ensures stands { StandsAt E.saved IsMade is_forced stack.new (E.state engine.new) }
     ensures tried { HasTried IsMade (flags watched.now) tried (E.state engine.old) stack.old.placements.items (E.state engine.new) stack.new.placements.items result }
+    ensures count { E.placed engine.new ≡ suc (E.placed engine.old) }
 {
     match stack.try_place(engine, tried, watched) {
         Ok(dead) => dead,
@@ -129,6 +130,7 @@ fn try_word<E: Searchable>(
     ensures stands { StandsAt E.saved IsMade is_forced stack.new (E.state engine.new) }
     ensures placed { IfSome result (λ next. HasPlaced tried (E.state engine.old) stack.old.placements.items (E.state engine.new) stack.new.placements.items since.new next) }
     ensures died { IfNone result (HasDied tried (E.state engine.old) stack.old.placements.items (E.state engine.new) stack.new.placements.items since.old since.new) }
+    ensures count { E.placed engine.new ≡ suc (E.placed engine.old) }
 {
     if let Some(_dead) = place_word(engine, stack, watched, tried) {
         return None;
@@ -172,6 +174,8 @@ fn fill_from<E: Searchable>(
     ensures found { IsFilling limit (E.state engine.old) (E.state engine.new) result }
     ensures fill { HasFill (E.state engine.old) (E.state engine.new) result }
     ensures answers { UnlessFilled result (E.answers engine.new ≡ E.answers engine.old) }
+    ensures within { E.placed engine.new ≤ limit + E.placed engine.old }
+    ensures limit { result ≡ Filling.Limit → E.placed engine.new ≡ limit + E.placed engine.old }
 {
     let mut used = 0;
     let mut next = first;
@@ -201,7 +205,8 @@ fn fill_from<E: Searchable>(
     }
 }
 
-/// Fills the grid with at most `limit` placements. The engine changes only for `Filled`. Returns `Memory` if an
+/// Fills the grid with at most `limit` placements, and makes all of them before it answers `Limit`. The engine changes
+/// only for `Filled`. Returns `Memory` if an
 /// allocation fails, and then leaves the engine unchanged. Before the first placement it allocates a try, a note and a
 /// flag for each light, and a snapshot of the start. On its way it allocates a snapshot for each light that is not
 /// wholly entered, up to `MARKS`; if one is refused, it goes on with fewer.
@@ -211,6 +216,8 @@ pub fn fill<E: Searchable>(alloc: Global, engine: &mut E, limit: u64) -> Result<
     ensures memory { IfErr result (λ refusal. refusal ≡ Refusal.Grid GridFault.Memory) }
     ensures unchanged { OnErr result (engine.new ≡ engine.old) }
     ensures answers { IfOk result (λ filling. UnlessFilled filling (E.answers engine.new ≡ E.answers engine.old)) }
+    ensures within { E.placed engine.new ≤ limit + E.placed engine.old }
+    ensures limit { result ≡ Ok Filling.Limit → E.placed engine.new ≡ limit + E.placed engine.old }
 {
     let count = light_count(engine);
     let mut since = vec![in alloc; None; count]?;

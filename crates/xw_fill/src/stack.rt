@@ -1,5 +1,5 @@
 //! The stack of a search: what it has placed, and the way back.
-ghost use Rattle.std.specs.Prelude.{◌≡◌, ◌<◌, ◌≤◌, [], ◌∷◌, ◌++◌, length, true, false, is_ok, IfOk, IfSome, IfNone, OnOk, OnErr};
+ghost use Rattle.std.specs.Prelude.{◌≡◌, suc, ◌<◌, ◌≤◌, [], ◌∷◌, ◌++◌, length, true, false, is_ok, IfOk, IfSome, IfNone, OnOk, OnErr};
 ghost use Rattle.std.specs.Option.{option_to_list};
 ghost use Rattle.std.specs.Vec.{vec_capacity};
 ghost use Rattle.xw_feas.specs.Snapshot.{IsTwin};
@@ -39,6 +39,7 @@ fn unmark<E: Searchable, M: Placement>(marks: &mut Marks<E>, engine: &mut E, las
     ensures marks_same { result ≡ false → marks.new ≡ marks.old }
     ensures engine_same { result ≡ false → engine.new ≡ engine.old }
     ensures twins { AreTwins E.saved marks.new (E.state engine.new) }
+    ensures count { E.placed engine.new ≡ E.placed engine.old }
 {
     if last.is_forced() {
         return false;
@@ -51,6 +52,7 @@ fn undo<E: Feasible, M: Placement>(engine: &mut E, last: M, is_marked: bool)
     requires { is_marked ≡ false → (before : State) × M.is_placed last before (E.state engine.old) }
     ensures back { is_marked ≡ false → (before : State) → M.is_placed last before (E.state engine.old) → E.state engine.new ≡ before }
     ensures same { is_marked ≡ true → engine.new ≡ engine.old }
+    ensures count { E.placed engine.new ≡ E.placed engine.old }
 {
     if !is_marked {
         last.take_back(engine);
@@ -116,6 +118,7 @@ impl<E: Searchable, M: Placement> Stack<E, M> {
         ensures stands { StandsAt E.saved M.is_placed M.forced self.new (E.state engine.new) }
         ensures engine_same { OnErr result (engine.new ≡ engine.old) }
         ensures stack_same { OnErr result (self.new.placements.items ≡ self.old.placements.items) }
+        ensures count { OnOk result (E.placed engine.new ≡ suc (E.placed engine.old)) }
     {
         if self.placements.push(placement).is_err() {
             return Err(AllocError);
@@ -169,6 +172,8 @@ impl<E: Searchable, M: Placement> Stack<E, M> {
         ensures entries { DiffersInEntries (E.state engine.old) (E.state engine.new) }
         ensures stands { StandsAt E.saved M.is_placed M.forced self.new (E.state engine.new) }
         ensures tried { IfOk result (HasTried M.is_placed (flags watched.now) placement (E.state engine.old) self.old.placements.items (E.state engine.new) self.new.placements.items) }
+        ensures count { OnOk result (E.placed engine.new ≡ suc (E.placed engine.old)) }
+        ensures none { OnErr result (E.placed engine.new ≡ E.placed engine.old) }
     {
         if !self.prepare(engine, placement) {
             self.place(engine, placement)?;
@@ -197,6 +202,7 @@ impl<E: Searchable, M: Placement> Stack<E, M> {
         ensures entries { DiffersInEntries (E.state engine.old) (E.state engine.new) }
         ensures stands { StandsAt E.saved M.is_placed M.forced self.new (E.state engine.new) }
         ensures same { IfNone result (engine.new ≡ engine.old) }
+        ensures count { E.placed engine.new ≡ E.placed engine.old }
     {
         let last = self.placements.pop()?;
         self.is_prepared = false;
@@ -217,6 +223,7 @@ impl<E: Searchable, M: Placement> Stack<E, M> {
         ensures start { start_of E.saved self.new ≡ start_of E.saved self.old }
         ensures entries { DiffersInEntries (E.state engine.old) (E.state engine.new) }
         ensures stands { StandsAt E.saved M.is_placed M.forced self.new (E.state engine.new) }
+        ensures count { E.placed engine.new ≡ E.placed engine.old }
     {
         self.is_prepared = false;
         let is_marked = self.marks.back(engine);
@@ -235,6 +242,7 @@ impl<E: Searchable, M: Placement> Stack<E, M> {
         requires marks { CanMark E.saved self.old.marks (E.state engine.old) }
         ensures back { E.state engine.new ≡ start_of E.saved self.old }
         ensures ready { IsReady E.saved self.new (E.state engine.new) }
+        ensures count { E.placed engine.new ≡ E.placed engine.old }
     {
         engine.exchange(&mut self.root);
     }

@@ -1,5 +1,5 @@
 //! Trial placements of words, and how to undo them.
-ghost use Rattle.std.specs.Prelude.{◌≡◌, ◌<◌, ◌≤◌, length, take, slice_index_or, [], IfSome, IfNone};
+ghost use Rattle.std.specs.Prelude.{◌≡◌, suc, ◌<◌, ◌≤◌, length, take, slice_index_or, [], IfSome, IfNone};
 ghost use Rattle.xw_feas.specs.Board.{board_of, light_at};
 ghost use Rattle.xw_feas.specs.State.{State};
 ghost use Rattle.xw_fill.specs.Position.{position_of, placed, DiffersInEntries};
@@ -61,6 +61,7 @@ fn place_word<E: Feasible>(engine: &mut E, light: usize, index: usize)
     requires index { index < length (spellings_at (E.state engine.old) light) }
     ensures placed { position_of (E.state engine.new) ≡ placed (position_of (E.state engine.old)) light (slice_index_or (spellings_at (E.state engine.old) light) index []) }
     ensures entries { DiffersInEntries (E.state engine.old) (E.state engine.new) }
+    ensures count { E.placed engine.new ≡ suc (E.placed engine.old) }
 {
     engine.place_word_at(light, index);
 }
@@ -90,6 +91,7 @@ fn try_word<E: Searchable>(
     ensures placed { IfNone result (IsWordPlaced light index (E.state engine.old) (E.state engine.new)) }
     ensures same { IfSome result (λ dead. E.state engine.new ≡ E.state engine.old) }
     ensures dead { IfSome result (λ dead. (there : State) × IsWordPlaced light index (E.state engine.old) there × IsDead (flags watched.now) there dead) }
+    ensures count { E.placed engine.new ≡ suc (E.placed engine.old) }
 {
     engine.grid().well_formed();
     engine.bank().well_formed();
@@ -108,6 +110,7 @@ fn clear_blanks<E: Feasible>(engine: &mut E, tried: &Try)
     requires { tried.now.light < light_count (E.state engine.old) }
     ensures back { position_of (E.state engine.new) ≡ taken_back (position_of (E.state engine.old)) tried.now }
     ensures entries { DiffersInEntries (E.state engine.old) (E.state engine.new) }
+    ensures count { E.placed engine.new ≡ E.placed engine.old }
 {
     let light = light_at(engine, tried.light);
     let nowhere = Cell { row: 0, col: 0 };

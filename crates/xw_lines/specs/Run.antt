@@ -41,6 +41,32 @@ abbrev pub broken_end : AnswerFault → RunEnd
 broken_end faults.WriteFailed = WriteFailed
 broken_end faults.Stopped = Stopped
 
+-- How a run ends whose reader came to its end after this text. The arguments after the text are the state that it leaves, the
+-- output before the run and after it, and the writer's count of failures before the last line and after it.
+abbrev pub IsFinished : {S : Type 0} → (S → List ℕ → Step → List ℕ → S → Type 0) → (S → List ℕ → S → List ℕ → List ℕ → Type 0) → RunEnd → S → List ℕ → S → List ℕ → List ℕ → ℕ → ℕ → Type 0
+IsFinished Answers Stops (Done refused) start text end begun transcript failures failures' =
+    (count : ℕ) × (refused ≡ saturated count) × Speaks Answers start (lines_of text) count end begun transcript × (failures' ≡ failures)
+IsFinished Answers Stops WriteFailed start text end begun transcript failures failures' =
+    StopsIn Answers (BreaksOff Answers) start text end begun transcript × HasFailed failures failures'
+IsFinished Answers Stops Stopped start text end begun transcript failures failures' = StopsIn Answers Stops start text end begun transcript
+IsFinished Answers Stops other start text end begun transcript failures failures' = ⊥
+
+-- a run that ended before its reader came to its end
+abbrev pub IsEarly : RunEnd → Type 0
+IsEarly (Done refused) = ⊥
+IsEarly other = Unit {0}
+
+-- The reader came to its end, and each line that ends with an LF is answered. `piece` holds the bytes after the last LF, and
+-- `refused` lines were refused. No read failed, and no write. The ghost functions are those of `IsRun`.
+pub record IsRead {S R W : Type 0} (Answers : S → List ℕ → Step → List ℕ → S → Type 0) (read : R → List ℕ) (is_at_end : R → Bool) (read_failures : R → ℕ) (written : W → List ℕ) (write_failures : W → ℕ)
+    (piece : Option (List ℕ)) (refused : ℕ) (start end : S) (source source' : R) (sink sink' : W) : Type 0 where
+  pub text : List ℕ
+  pub passed : read source' ≡ read source ++ text
+  pub at_end : IsTrue (is_at_end source')
+  pub goes_on : Progress Answers start (written sink) text end piece refused (written sink')
+  pub unfailed : read_failures source' ≡ read_failures source
+  pub quiet : write_failures sink' ≡ write_failures sink
+
 -- What a run did, by how it ended. The ghost functions of the reader are `read`, `is_at_end` and `read_failures`;
 -- those of the writer are `written` and `write_failures`. Before the run, the line handler, the reader and the writer
 -- are `start`, `source` and `sink`; after it they are `end`, `source'` and `sink'`. A run ends at the first read,

@@ -3,7 +3,7 @@
 
 pub mod device;
 pub mod history;
-mod line_buffer;
+pub mod line_buffer;
 pub mod outcome;
 pub mod run;
 pub mod standard;

@@ -4,7 +4,7 @@ ghost use Rattle.std.specs.Option.{option_map};
 ghost use Rattle.xw_lines.specs.Cut.{lines_of, HasNoLf, EndsLine};
 ghost use Rattle.xw_lines.specs.Device.{flushed, saturated, HasFailed};
 ghost use Rattle.xw_lines.specs.Spoken.{Answered, BreaksPiece, HasFailedFor, broken_by, refusals, flush_after};
-ghost use Rattle.xw_lines.specs.Run.{Speaks, StopsIn, Progress, IsRun, broken_end};
+ghost use Rattle.xw_lines.specs.Run.{Speaks, StopsIn, Progress, IsEarly, IsFinished, IsRead, IsRun, broken_end};
 
 use crate::device::{Sink, Source, WriteFailed};
 use crate::line_buffer::LineBuffer;
@@ -185,6 +185,26 @@ fn finish<S: LineHandler, W: Sink>(
     Ok(refused)
 }
 
+/// What is left when the reader ended and each line with an LF is answered: the bytes after the last LF, and the count of
+/// refused lines.
+#[derive(Drop)]
+pub struct Rest {
+    pub piece: LineBuffer,
+    pub refused: u64,
+}
+
+/// Answers the last line if it has no LF, and returns how the run ended.
+pub fn answer_rest<S: LineHandler, W: Sink>(handler: &mut S, rest: Rest, sink: &mut W) -> RunEnd
+    ensures { (start : S) (begun text : List ℕ)
+        → Progress S.answers start begun text handler.old rest.piece rest.refused (W.transcript sink.old)
+        → IsFinished S.answers S.stops result start text handler.new begun (W.transcript sink.new) (W.failures sink.old) (W.failures sink.new) }
+{
+    match finish(handler, rest.piece, rest.refused, sink) {
+        Ok(refused) => RunEnd::Done { refused },
+        Err(fault) => broken(fault),
+    }
+}
+
 /// Returns how a run ends if an answer was not finished.
 fn broken(fault: AnswerFault) -> RunEnd
     ensures { result ≡ broken_end fault }
@@ -193,6 +213,41 @@ fn broken(fault: AnswerFault) -> RunEnd
         AnswerFault::WriteFailed => RunEnd::WriteFailed,
         AnswerFault::Stopped => RunEnd::Stopped,
     }
+}
+
+/// Reads lines until the reader ends, and writes the answer to each that has an LF, as `run_lines` does. Returns the rest,
+/// or how the run ended before.
+pub fn answer_ended<S: LineHandler, R: Source, W: Sink>(
+    alloc: Global,
+    handler: &mut S,
+    source: &mut R,
+    sink: &mut W,
+) -> Result<Rest, RunEnd>
+    ensures ok { IfOk result (λ rest. IsRead S.answers R.transcript R.is_at_end R.failures W.transcript W.failures rest.piece rest.refused
+        handler.old handler.new source.old source.new sink.old sink.new) }
+    ensures err { IfErr result (λ end. IsRun S.answers S.stops R.transcript R.is_at_end R.failures W.transcript W.failures end
+        handler.old handler.new source.old source.new sink.old sink.new) }
+    ensures early { IfErr result IsEarly }
+{
+    let Ok(mut piece) = LineBuffer::new(alloc) else {
+        return Err(RunEnd::Memory);
+    };
+    let mut chunk = [0; CHUNK];
+    let mut refused = 0;
+    for turn in 0..u64::MAX {
+        match source.read(&mut chunk) {
+            Err(_) => return Err(RunEnd::ReadFailed),
+            Ok(0) => return Ok(Rest { piece, refused }),
+            Ok(count) => {
+                let bytes = &chunk[..count];
+                match take_bytes(handler, &mut piece, &mut refused, bytes, sink) {
+                    Ok(()) => {}
+                    Err(fault) => return Err(broken(fault)),
+                }
+            }
+        }
+    }
+    Err(RunEnd::Endless)
 }
 
 /// Reads lines until the reader ends, and writes the answer to each. Flushes each answer before it starts the next
@@ -207,28 +262,8 @@ pub fn run_lines<S: LineHandler, R: Source, W: Sink>(
     ensures { IsRun S.answers S.stops R.transcript R.is_at_end R.failures W.transcript W.failures result
         handler.old handler.new source.old source.new sink.old sink.new }
 {
-    let Ok(mut piece) = LineBuffer::new(alloc) else {
-        return RunEnd::Memory;
-    };
-    let mut chunk = [0; CHUNK];
-    let mut refused = 0;
-    for turn in 0..u64::MAX {
-        match source.read(&mut chunk) {
-            Err(_) => return RunEnd::ReadFailed,
-            Ok(0) => {
-                return match finish(handler, piece, refused, sink) {
-                    Ok(refused) => RunEnd::Done { refused },
-                    Err(fault) => broken(fault),
-                };
-            }
-            Ok(count) => {
-                let bytes = &chunk[..count];
-                match take_bytes(handler, &mut piece, &mut refused, bytes, sink) {
-                    Ok(()) => {}
-                    Err(fault) => return broken(fault),
-                }
-            }
-        }
+    match answer_ended(alloc, handler, source, sink) {
+        Ok(rest) => answer_rest(handler, rest, sink),
+        Err(end) => end,
     }
-    RunEnd::Endless
 }

@@ -1,8 +1,10 @@
 -- What an edit of the engine does, and what it costs.
 use Rattle.std.specs.Prelude.{◌≡◌, ◌≤◌, true, Result, Ok, Err}
 use Rattle.xw_grid.specs.Light.{lights_of}
+use Rattle.xw_feas.specs.Count.{number}
 use Rattle.xw_feas.specs.Engine.{IsEdited}
 use Rattle.xw_feas.specs.Feasible.{Answers}
+use Rattle.xw_feas.specs.Placings.{placed_after}
 use Rattle.xw_feas.specs.State.{State, Action, after}
 use Rattle.xw_feas.specs.Told.{is_symmetry}
 use Rattle.xw_feas.specs.declared.edit.Refusal.{Refusal}
@@ -47,7 +49,9 @@ abbrev pub IsPaid : Live → Live → Action → Result Changed Refusal → Type
 IsPaid before now action (Ok changed) = IsCharged before now action
 IsPaid before now action (Err refusal) = now.spent ≡ before.spent
 
--- an edit with this answer leaves the state, the answers and the changed cells that the rules give, within its cost
+-- an edit with this answer leaves the state, the answers and the changed cells that the rules give, within its cost, and
+-- counts what it places
 abbrev pub IsEditedWithinCost : Live → Live → Action → Result Changed Refusal → Type 0
 IsEditedWithinCost before now action result =
-    IsEdited (state_of before) (answers_now before) action result (state_of now) (answers_now now) × IsPaid before now action result
+    (IsEdited (state_of before) (answers_now before) action result (state_of now) (answers_now now) × (number now.placed ≡ placed_after (number before.placed) action result))
+    × IsPaid before now action result

@@ -69,6 +69,8 @@ impl Live {
 
 impl Searchable for Live {
     ghost use Rattle.std.specs.Prelude.{◌≡◌, ◌≤◌, OnErr};
+    ghost use Rattle.xw_feas.specs.Count.{number};
+    ghost use Rattle.xw_feas.specs.Placings.{placed_after};
     ghost use Rattle.xw_feas.specs.Snapshot.{IsTwin};
     ghost use Rattle.xw_feas.specs.State.{entry_action};
     ghost use Rattle.xw_feas.specs.Trying.{IsTried};
@@ -107,6 +109,7 @@ impl Searchable for Live {
         ensures now { state_of self.new ≡ saved_state snapshot.old }
         ensures saved { saved_state snapshot.new ≡ state_of self.old }
         ensures spent { self.new.spent ≡ self.old.spent }
+        ensures placed { number self.new.placed ≡ number self.old.placed }
     {
         self.position.exchange(&mut snapshot.grid);
         std::mem::swap(&mut self.net, &mut snapshot.net);
@@ -122,8 +125,10 @@ impl Searchable for Live {
         ensures tried { IsTried (state_of self.old) (entry_action edit.now) watched.now result (state_of self.new) }
         ensures risen { self.old.spent ≤ self.new.spent }
         ensures refused { OnErr result (self.new.spent ≡ self.old.spent) }
+        ensures placed { number self.new.placed ≡ placed_after (number self.old.placed) (entry_action edit.now) result }
     {
         self.position.enter(edit)?;
+        self.placed.note(&edit.as_edit());
         keep_letters(&mut self.before, &self.net);
         let position = &self.position;
         let change = Change::Letters(position.notes.written.as_slice());

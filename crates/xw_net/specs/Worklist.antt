@@ -1,5 +1,5 @@
 -- Lists of waiting lights, each on the list at most once.
-use Rattle.std.specs.Prelude.{◌≡◌, ℕ, ◌+◌, ◌≤◌, Bool, true, false, not, ◌==◌, nat_eq, List, [], length, replicate, slice_index_or, count_by}
+use Rattle.std.specs.Prelude.{◌≡◌, ℕ, ◌+◌, ◌<◌, ◌≤◌, Bool, true, false, not, ◌==◌, nat_eq, List, [], length, replicate, slice_index, slice_index_or, count_by}
 use Rattle.std.specs.List.{list_any, IsDistinct}
 use Rattle.xw_feas.specs.Board.{Board}
 
@@ -29,6 +29,22 @@ pub record IsWorklist (marks : List Bool) (lights : List ℕ) (room : ℕ) : Typ
   pub marked : (light : ℕ) → is_waiting lights light ≡ true → is_marked marks light ≡ true
   pub once : IsDistinct nat_eq lights
   pub roomy : length marks ≤ room
+
+-- the place of each light that waits is noted
+abbrev pub ArePlaced : List ℕ → List ℕ → Type 0
+ArePlaced lights places = (i : ℕ) → i < length lights → slice_index places (slice_index lights i) ≡ i
+
+-- the invariant of a list, with a noted place for each light that it has room for
+pub record IsKeptList (marks : List Bool) (lights places : List ℕ) (capacity : ℕ) : Type 0 where
+  pub list : IsWorklist marks lights (length places)
+  pub placed : ArePlaced lights places
+  pub held : length places ≤ capacity
+
+-- the light at an index was taken, and the last one moved there
+pub record IsTakenFrom (old new : List ℕ) (from : ℕ) : Type 0 where
+  pub less : length new + 1 ≡ length old
+  pub there : from < length new → slice_index new from ≡ slice_index old (length new)
+  pub others : (k : ℕ) → k < length new → (k ≡ from → ⊥) → slice_index new k ≡ slice_index old k
 
 -- the list is for this number of lights; none is marked, and none waits
 pub record IsIdle (count : ℕ) (list : ListOfLights) : Type 0 where

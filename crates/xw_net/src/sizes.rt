@@ -1,4 +1,4 @@
-//! The sizes of a net's arrays.
+//! The sizes of a net's arrays. The patterns name each field, so a new field is an error here until its array is counted.
 ghost use Rattle.std.specs.Prelude.{◌≡◌};
 ghost use Rattle.xw_net.specs.Sizes.{rows_waiting, lists_waiting, row_lists, other_lists};
 
@@ -11,7 +11,7 @@ pub struct Sizes {
     /// The arrays of bit rows.
     pub rows: [usize; 4],
     /// All other arrays.
-    pub lists: [usize; 12],
+    pub lists: [usize; 16],
 }
 
 fn waiting_rows(spare: &Option<Spare>) -> [usize; 2]
@@ -19,7 +19,15 @@ fn waiting_rows(spare: &Option<Spare>) -> [usize; 2]
 {
     match spare {
         None => [0; 2],
-        Some(spare) => [spare.rows.len(), spare.base.len()],
+        Some(
+            Spare {
+                rows,
+                base,
+                entered: _,
+                queue_marks: _,
+                chain_marks: _,
+            },
+        ) => [rows.len(), base.len()],
     }
 }
 
@@ -28,11 +36,15 @@ fn waiting_lists(spare: &Option<Spare>) -> [usize; 3]
 {
     match spare {
         None => [0; 3],
-        Some(spare) => [
-            spare.entered.len(),
-            spare.queue_marks.len(),
-            spare.chain_marks.len(),
-        ],
+        Some(
+            Spare {
+                rows: _,
+                base: _,
+                entered,
+                queue_marks,
+                chain_marks,
+            },
+        ) => [entered.len(), queue_marks.len(), chain_marks.len()],
     }
 }
 
@@ -56,6 +68,8 @@ impl Net {
             spare,
             emptied: _,
         } = self;
+        let [queued, queue_marks, queue_places, queue_below] = queue.sizes();
+        let [chained, chain_marks, chain_places, chain_below] = chain.sizes();
         let [waiting_rows, waiting_base] = waiting_rows(spare);
         let [waiting_entered, waiting_queued, waiting_marked] = waiting_lists(spare);
         Sizes {
@@ -66,10 +80,14 @@ impl Net {
                 held.len(),
                 restart.len(),
                 pending.len(),
-                queue.len(),
-                queue.size(),
-                chain.len(),
-                chain.size(),
+                queued,
+                queue_marks,
+                queue_places,
+                queue_below,
+                chained,
+                chain_marks,
+                chain_places,
+                chain_below,
                 waiting_entered,
                 waiting_queued,
                 waiting_marked,

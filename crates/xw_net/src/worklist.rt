@@ -1,7 +1,8 @@
 //! Lists of lights that wait, each at most once.
 ghost use Rattle.std.specs.Prelude.{◌≡◌, ◌+◌, ◌*◌, ◌^◌, ◌<◌, ◌≤◌, true, false, [], ◌∷◌, ◌++◌, length, replicate, slice_set, vec_len, IfSome, IfNone, IfOk, OnOk, vec_capacity, if◌then◌else◌};
 ghost use Rattle.std.specs.List.Sorted.{IsPermutation};
-ghost use Rattle.xw_net.specs.Worklist.{is_marked, is_waiting, Grows, IsIdle, IsRoomierList};
+ghost use Rattle.xw_net.specs.Sizes.{list_sizes};
+ghost use Rattle.xw_net.specs.Worklist.{is_marked, is_waiting, Grows, IsIdle, IsRoomierList, IsTakenFrom};
 
 use crate::urgent::Urgent;
 use std::alloc::{AllocError, Global};
@@ -19,14 +20,14 @@ pub struct Worklist {
 }
 
 impl Model for Worklist {
-    ghost use Rattle.std.specs.Prelude.{vec_capacity};
-    ghost use Rattle.xw_net.specs.Worklist.{ListOfLights, IsWorklist};
+    ghost use Rattle.std.specs.Prelude.{length, vec_capacity};
+    ghost use Rattle.xw_net.specs.Worklist.{ListOfLights, IsKeptList};
 
     ghost Value = { ListOfLights };
 
-    ghost view = { λ list. record { marks = list.marks.items; lights = list.lights.items; room = vec_capacity list.lights } };
+    ghost view = { λ list. record { marks = list.marks.items; lights = list.lights.items; room = length list.urgent } };
 
-    ghost invariant = { λ list. IsWorklist list.marks.items list.lights.items (vec_capacity list.lights) };
+    ghost invariant = { λ list. IsKeptList list.marks.items list.lights.items list.urgent (vec_capacity list.lights) };
 }
 
 impl Worklist {
@@ -113,7 +114,8 @@ impl Worklist {
         ensures left { IfNone result (self.new.lights ≡ []) }
         ensures rest { self.new ≡ record self.old { lights = self.new.lights } }
     {
-        let from = self.urgent.next_place(&self.lights, at);
+        let otherwise = if at < self.lights.len() { at } else { 0 };
+        let from = self.urgent.next_place(&self.lights, otherwise);
         let taken = take_from(&mut self.lights, from);
         self.urgent.note_moved(&self.lights, from);
         taken
@@ -142,9 +144,8 @@ impl Worklist {
         ensures same { IsRoomierList self.old self.new }
         ensures room { OnOk result (count ≤ self.new.room) }
     {
-        if self.lights.len() < count {
-            self.lights.reserve_exact(count - self.lights.len())?;
-        }
+        self.lights
+            .reserve_exact(count.saturating_sub(self.lights.len()))?;
         self.urgent.reserve(count)
     }
 
@@ -166,16 +167,24 @@ impl Worklist {
         self.lights.len()
     }
 
-    /// The number of lights, marked or not.
-    pub(crate) fn size(&self) -> usize
-        ensures { result ≡ length self.now.marks }
+    /// The lengths of the arrays: the lights that wait, the marks, and those of `Urgent`.
+    pub(crate) fn sizes(&self) -> [usize; 4]
+        ensures { result ≡ list_sizes self.now }
     {
-        self.marks.len()
+        let Worklist {
+            marks,
+            lights,
+            urgent,
+        } = self;
+        let [places, below] = urgent.sizes();
+        [lights.len(), marks.len(), places, below]
     }
 }
 
-/// Takes the light at index `at`, or the first one if there are not that many.
-fn take_from(lights: &mut Vec<usize>, at: usize) -> Option<usize>
+/// Takes the light at index `from`, if any waits. The last one moves to that index.
+fn take_from(lights: &mut Vec<usize>, from: usize) -> Option<usize>
+    requires { 0 < length lights.old.items → from < length lights.old.items }
+    ensures moved { IfSome result (λ light. IsTakenFrom lights.old.items lights.new.items from) }
     ensures taken { IfSome result (λ light. IsPermutation lights.old.items (light ∷ lights.new.items)) }
     ensures none { IfNone result (lights.old.items ≡ []) }
     ensures left { IfNone result (lights.new.items ≡ []) }
@@ -183,10 +192,6 @@ fn take_from(lights: &mut Vec<usize>, at: usize) -> Option<usize>
 {
     if lights.is_empty() {
         return None;
-    }
-    let mut from = at;
-    if from >= lights.len() {
-        from = 0;
     }
     let light = lights.swap_remove(from);
     Some(light)

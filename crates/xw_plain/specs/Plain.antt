@@ -1,5 +1,7 @@
 -- What an edit does to the engine.
-use Rattle.std.specs.Prelude.{◌≡◌, Result, Ok, Err}
+use Rattle.std.specs.Prelude.{◌≡◌, ◌+◌, Result, Ok, Err}
+use Rattle.xw_feas.specs.Count.{number}
+use Rattle.xw_feas.specs.Placings.{placings}
 use Rattle.xw_feas.specs.State.{State, Action, after, IsRefused}
 use Rattle.xw_feas.specs.declared.edit.Refusal.{Refusal}
 use Rattle.xw_plain.specs.declared.plain.Plain.{Plain}
@@ -8,10 +10,11 @@ use Rattle.xw_plain.specs.declared.plain.Plain.{Plain}
 abbrev pub state_of : Plain → State
 state_of plain = record { grid = plain.position.grid; words = plain.position.bank.words }
 
--- the edit was applied, and `before` has the letters from before it
+-- the edit was applied and its placements counted, and `before` has the letters from before it
 pub record IsDone (before now : Plain) (action : Action) : Type 0 where
   pub made : after (state_of before) action ≡ Ok (state_of now)
   pub letters : now.before.items ≡ before.letters.items
+  pub placed : number now.placed ≡ placings action + number before.placed
 
 -- the edit was refused, and changed nothing
 pub record IsKept (before now : Plain) (action : Action) (refusal : Refusal) : Type 0 where
@@ -19,6 +22,7 @@ pub record IsKept (before now : Plain) (action : Action) (refusal : Refusal) : T
   pub state : state_of now ≡ state_of before
   pub words : now.words ≡ before.words
   pub letters : now.letters ≡ before.letters
+  pub placed : now.placed ≡ before.placed
 
 -- the edit was applied, or refused for a reason
 abbrev pub IsApplied : Plain → Plain → Action → Result (Unit {0}) Refusal → Type 0

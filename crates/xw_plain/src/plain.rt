@@ -21,6 +21,7 @@ use crate::standing::settle;
 use std::alloc::Global;
 use xw_feas::board::{Board, has_all_entries};
 use xw_feas::changed::{Changed, make_grid_sets};
+use xw_feas::count::Count;
 use xw_feas::edit::{Edit, Found, Refusal};
 use xw_feas::feasible::Feasible;
 use xw_feas::noted::make_noted;
@@ -106,7 +107,7 @@ fn make(
 /// An engine that computes all answers from scratch after each edit.
 ///
 /// It keeps a flag for each word of each light, a set of letters for each cell, and the sets from
-/// before the last edit.
+/// before the last edit. `placed` takes no memory: it tells the prover how many words and letters were placed.
 #[derive(Drop)]
 pub struct Plain {
     pub(crate) alloc: Global,
@@ -114,6 +115,7 @@ pub struct Plain {
     pub(crate) words: Vec<Flags>,
     letters: Vec<LetterSet>,
     before: Vec<LetterSet>,
+    placed: Count,
     ghost rows: { HasRows (board_of position.grid) position.bank.words words.items letters.items },
     ghost exact: { IsExact (board_of position.grid) position.bank.words (flag_at words.items) (set_has letters.items) } by { IsExact-prop (board_of position.grid) position.bank.words (flag_at words.items) (set_has letters.items) },
     ghost answered: { AreAnswered (board_of position.grid) position.bank.words words.items letters.items } by { AreAnswered-prop (board_of position.grid) position.bank.words words.items letters.items },
@@ -155,6 +157,7 @@ impl Plain {
             words,
             letters,
             before,
+            placed: Count::new(),
         }
     }
 
@@ -179,6 +182,7 @@ impl Plain {
             &mut self.letters,
             &mut self.before,
         );
+        self.placed.note(edit);
         Ok(())
     }
 
@@ -198,6 +202,7 @@ impl Plain {
         ensures ok { OnOk result (state_of self.new ≡ record { grid = grid; words = (state_of self.old).words }) }
         ensures memory { IsOkUnless result GridFault.Memory }
         ensures unchanged { OnErr result (self.new ≡ self.old) }
+        ensures placed { self.new.placed ≡ self.old.placed }
     {
         let lights = Lights::of(self.alloc, &grid)?;
         let noted = make_noted(self.alloc, &grid)?;
@@ -217,6 +222,7 @@ impl Plain {
         requires { SameShape (state_of self.old).grid grid.old }
         ensures now { state_of self.new ≡ record { grid = grid.old; words = (state_of self.old).words } }
         ensures before { grid.new ≡ (state_of self.old).grid }
+        ensures placed { self.new.placed ≡ self.old.placed }
     {
         self.position.exchange(grid);
         settle_position(&self.position, &mut self.words, &mut self.letters);
@@ -224,9 +230,13 @@ impl Plain {
 }
 
 impl Feasible for Plain {
+    ghost use Rattle.xw_feas.specs.Count.{number};
+
     ghost state = { λ engine. record { grid = engine.position.grid; words = engine.position.bank.words } };
 
     ghost answers = { λ engine. answers_of (board_of engine.position.grid) engine.position.bank.words engine.words.items engine.letters.items };
+
+    ghost placed = { λ engine. number engine.placed };
 
     ghost exact = { λ engine. engine.answered };
 

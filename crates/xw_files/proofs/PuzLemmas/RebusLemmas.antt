@@ -2,13 +2,15 @@
 use Rattle.std.proofs.Common.{◌≡◌, ◌≢◌, ℕ, ◌<◌, Bool, true, false, List, [], ◌∷◌, ◌++◌, length, refl, sym, ap, ◌∙◌, subst, arith, length-append}
 use Rattle.std.specs.Prelude.{Some, None, Ok, Err}
 use Rattle.std.specs.List.{list_any}
-use Rattle.xw_files.specs.Puz.Reading.{Fields, fields_at}
+use Rattle.xw_files.specs.Puz.Reading.{Fields, fields_at, part_at}
 use Rattle.xw_files.specs.Puz.Sections.{Section, AreBytes, AreSections, section_bytes, section_at}
 use Rattle.xw_files.specs.Puz.Rebus.{is_rebus, HasSections}
 use Rattle.xw_files.proofs.PuzLemmas.SectionLemmas.{section_at-takes}
-use Rattle.xw_files.proofs.PuzLemmas.Cuts.{first-read, others-cut, pair_is, bytes-after}
+use Rattle.xw_files.proofs.PuzLemmas.Cuts.{first-read, others-cut, pair_is, bytes-after, cut-of}
 use Rattle.xw_files.proofs.PuzLemmas.Files.{fields_at-again}
-use Rattle.xw_files.proofs.PuzLemmas.Related.{memory-alone}
+use Rattle.xw_files.proofs.PuzLemmas.Related.{memory-alone, rest-bytes}
+use Rattle.xw_files.proofs.PuzLemmas.SumsAndSquares.{part-length}
+use Rattle.xw_files.proofs.PuzLemmas.Taken.{fields_at-takes}
 use Rattle.xw_files.proofs.StepLemmas.{ok_is}
 use Rattle.xw_files.specs.declared.fault.ReadFault.{ReadFault}
 use Rattle.xw_files.specs.declared.fault.ReadFault.TheVariants as faults
@@ -84,3 +86,12 @@ pub rebus-told : (bytes : List ℕ) (sections : List Section) (fields : Fields) 
 rebus-told bytes sections fields found has read told =
     let same = ok_is has.fields fields (sym (fields-of bytes sections has) ∙ read) in
     told sections has.tail (subst (λ (f : Fields). AreSections f.rest sections has.tail) same has.cut_rest)
+
+-- the sections of bytes that are cut into fields
+pub sections-of : (bytes : List ℕ) (fields : Fields) → AreBytes bytes → fields_at bytes ≡ Ok fields → (sections : List Section) × HasSections bytes sections
+sections-of bytes fields small read =
+    let taken = fields_at-takes bytes fields small read in
+    let cut = cut-of fields.rest (rest-bytes fields (part_at 28 16 bytes) (subst AreBytes taken.spelled small)) in (
+      cut.sections,
+      record { fields = fields; reserved = part_at 28 16 bytes; tail = cut.tail; reserved_long = part-length bytes 28 16 (let h = taken.long in omega (arith, h)); fits = taken.fits; cut = taken.spelled; cut_rest = cut.are },
+    )

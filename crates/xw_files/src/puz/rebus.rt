@@ -1,5 +1,5 @@
 //! Rebus cells: cells with more than one letter. A file can have them; a puzzle does not keep them.
-ghost use Rattle.std.specs.Prelude.{◌≡◌, ℕ, List, IfOk, IsOkUnless};
+ghost use Rattle.std.specs.Prelude.{◌≡◌, ℕ, List, IfOk, IsOkUnless, OnOk};
 ghost use Rattle.std.specs.List.{list_any};
 ghost use Rattle.xw_files.specs.Puz.Sections.{Section as WholeSection, AreSections};
 ghost use Rattle.xw_files.specs.Puz.Rebus.{is_rebus as is_rebus_section, HasSections};
@@ -36,7 +36,9 @@ fn is_among(bytes: &[u8]) -> bool
 /// cannot be cut into its fields, and `Memory` if an allocation fails.
 pub fn has_rebus(alloc: Global, bytes: &[u8]) -> Result<bool, ReadFault>
     ensures found { IfOk result (λ found. (sections : List WholeSection) → HasSections bytes.now sections → found ≡ list_any is_rebus_section sections) }
-    // A file with whole fields is answered, unless an allocation fails.
+    // Only a file that can be cut into its fields is answered.
+    ensures fields { OnOk result ((sections : List WholeSection) × HasSections bytes.now sections) }
+    // Such a file is answered, unless an allocation fails.
     ensures only { (sections : List WholeSection) → HasSections bytes.now sections → IsOkUnless result faults.Memory }
 {
     let fields = fields::fields_of(alloc, bytes)?;

@@ -1,6 +1,7 @@
 -- What a search for the best fill has found so far.
-use Rattle.std.specs.Prelude.{◌≡◌, ℕ, suc, ◌+◌, ◌-◌, ◌<◌, ◌≤◌, nat_le, not, Bool, true, cond, List, length, Option, Some, None, IfSome, unwrap_or, ◌⊎◌}
+use Rattle.std.specs.Prelude.{◌≡◌, ℕ, suc, ◌+◌, ◌-◌, ◌^◌, ◌<◌, ◌≤◌, min, nat_le, not, Bool, true, cond, List, length, Option, Some, None, IfSome, unwrap_or, ◌⊎◌}
 use Rattle.xw_words.specs.Dictionary.{best_grade, with_least}
+use Rattle.xw_feas.specs.Count.{number}
 use Rattle.xw_feas.specs.State.{State}
 use Rattle.xw_feas.specs.Snapshot.{IsTwin}
 use Rattle.xw_fill.specs.Position.{Position, position_of}
@@ -16,6 +17,7 @@ use Rattle.xw_fill.specs.declared.allowance.Allowance.{Allowance}
 use Rattle.xw_fill.specs.declared.best.Best.{Best}
 use Rattle.xw_fill.specs.declared.best.Best.TheVariants as bests
 use Rattle.xw_fill.specs.declared.best.climb.Climb.{Climb}
+use Rattle.xw_fill.specs.declared.best.pace.Pace.{Pace}
 use Rattle.xw_fill.specs.declared.best.probe.Prober.{Prober}
 use Rattle.xw_fill.specs.declared.best.probe.Probe.{Probe}
 use Rattle.xw_fill.specs.declared.best.probe.Probe.TheVariants.{Filled, NoFill, Limit}
@@ -105,9 +107,15 @@ IsOffered saved before now filled worst sum =
     (IsBetter before.found before.sum worst sum × (now.found ≡ Some worst) × (now.sum ≡ sum) × (saved now.best ≡ filled))
     ⊎ ((IsBetter before.found before.sum worst sum → ⊥) × (now.found ≡ before.found) × (now.sum ≡ before.sum) × (saved now.best ≡ saved before.best))
 
+-- if the last try of known entries found a fill, it was offered
+abbrev pub HasOffered : {E S : Type 0} → (S → State) → Climb E S → Climb E S → Type 0
+HasOffered saved before now = (worst : ℕ) → now.prober.last.value ≡ Filled worst →
+    (filled : State) × IsFilledAt (flags before.prober.plan.named.items) (saved before.start) filled worst × IsOffered saved before now filled worst (grade_sum (flags before.prober.fresh.items) filled)
+
 -- What every step of a search for the best fill keeps, whichever grades and parts it tries: the fill that it holds gets
--- better or stays, by its worst grade and then by the sum of its grades, and its bound gets lower or stays. It takes no placement back and keeps their limit. A fill that it found without a
--- placement has the entries of the start.
+-- better or stays, by its worst grade and then by the sum of its grades, and its bound gets lower or stays. It takes no
+-- placement back, keeps their limit, and has counted all of them as its own. A fill that it found without a placement
+-- has the entries of the start.
 pub record HasClimbed {E S : Type 0} (saved : S → State) (before now : Climb E S) (from to : Allowance) : Type 0 where
   pub plan : now.prober.plan ≡ before.prober.plan
   pub least : now.prober.least ≡ before.prober.least
@@ -116,6 +124,7 @@ pub record HasClimbed {E S : Type 0} (saved : S → State) (before now : Climb E
   pub bound : now.bound ≤ before.bound
   pub made : from.made ≤ to.made
   pub limit : to.limit ≡ from.limit
+  pub counted : now.counted.value.made ≡ to.made
   pub idle : to.made ≡ from.made → IsIdle saved before → IsIdle saved now
 
 -- What a search keeps of a probe: a fill, which is better than the one before; or a bound; or nothing, and then the
@@ -124,6 +133,15 @@ abbrev pub IsTaken : {E S : Type 0} → ℕ → Climb E S → Climb E S → Allo
 IsTaken grade before now to (Filled least) = (now.found ≡ Some least) × (now.bound ≡ before.bound)
 IsTaken grade before now to NoFill = (now.found ≡ before.found) × (now.bound ≡ grade)
 IsTaken grade before now to Limit = (now.found ≡ before.found) × (now.bound ≡ before.bound) × (to.made ≡ to.until)
+
+-- the schedule has counted so many placements more for parts around a worst word, or as many as it can count
+abbrev pub HasScheduled : Pace → Pace → ℕ → Type 0
+HasScheduled before now made = min (before.parts + made) (2 ^ 64 - 1) ≤ now.parts
+
+-- how many of its placements a search has used: the words and letters that the engine has placed, and the known fills
+-- that were tried, each of which is one
+abbrev pub spent_by : {E S : Type 0} → ℕ → Climb E S → ℕ
+spent_by placed climb = placed + number climb.prober.tries
 
 -- how much a search may still do: the grades that it has not decided, and the placements that are left
 abbrev pub work_left : {E S : Type 0} → Climb E S → Allowance → ℕ

@@ -116,6 +116,7 @@ pub fn enter<E: Searchable>(
     ensures filled { result ≡ Ok true → HasEntered (flags plan.now.named.items) (E.state engine.old) (E.state engine.new) Filled }
     ensures back { result ≡ Ok false → E.state engine.new ≡ E.state engine.old }
     ensures unchanged { OnErr result (E.state engine.new ≡ E.state engine.old) }
+    ensures count { E.placed engine.new ≡ E.placed engine.old }
 {
     let list = written_of(alloc, engine, plan, entries)?;
     stack.begin(engine);

@@ -1,13 +1,15 @@
 //! The search for the best fill: what it keeps of the grades that it tries.
-ghost use Rattle.std.specs.Prelude.{◌≡◌, ◌+◌, ◌<◌, ◌≤◌, ◌⊎◌, true, false, IfOk, OnOk, IfSome};
+ghost use Rattle.std.specs.Prelude.{◌≡◌, suc, ◌+◌, ◌<◌, ◌≤◌, ◌⊎◌, true, false, IfOk, OnOk, IfSome};
 ghost use Rattle.xw_words.specs.Dictionary.{best_grade};
+ghost use Rattle.xw_feas.specs.Count.{number};
+ghost use Rattle.xw_fill.specs.Allowance.{HasPlacedWithin};
 ghost use Rattle.xw_fill.specs.Inner.OfState.{IsPlan};
 ghost use Rattle.xw_fill.specs.NamedFill.{flags};
 ghost use Rattle.xw_fill.specs.Best.{IsBest, IsFilledAt};
 ghost use Rattle.xw_feas.specs.Snapshot.{IsTwin};
 ghost use Rattle.xw_feas.specs.State.{State};
 ghost use Rattle.xw_fill.specs.declared.allowance.Allowance.{Allowance as AllowanceOf};
-ghost use Rattle.xw_fill.specs.Inner.Climbing.{IsAtLeast, IsBetter, IsClimbing, IsOffered, IsProbed, HasClimbed, IsTaken, IsIdle, grade_sum, next_grade, work_left, best_of};
+ghost use Rattle.xw_fill.specs.Inner.Climbing.{IsAtLeast, IsBetter, IsClimbing, IsOffered, IsProbed, HasClimbed, HasScheduled, IsTaken, HasOffered, IsIdle, grade_sum, next_grade, spent_by, work_left, best_of};
 
 use crate::allowance::Allowance;
 use crate::best::Best;
@@ -19,6 +21,7 @@ use crate::best::probe::{Probe, Prober, bound_of};
 use crate::named_lights::plan::Plan;
 use crate::search::Filling;
 use std::alloc::{AllocError, Global};
+use std::snapshot::Snapshot;
 use xw_feas::searchable::Searchable;
 use xw_letters::letter::Letter;
 
@@ -27,6 +30,8 @@ use xw_letters::letter::Letter;
 /// - `found`: the greatest grade at which `best` is a fill, if one was found. `sum`: the sum of the grades of its new
 ///   words.
 /// - `bound`: a grade at which no fill exists.
+/// - `counted`: the allowance after the last search. It takes no memory: it tells the prover that every placement that
+///   was counted is one of this search.
 #[derive(Drop)]
 pub struct Climb<E: Searchable> {
     prober: Prober<E>,
@@ -35,16 +40,25 @@ pub struct Climb<E: Searchable> {
     found: Option<u8>,
     sum: u64,
     bound: u8,
+    counted: Snapshot<Allowance>,
 }
 
 impl<E: Searchable> Climb<E> {
     /// A search that has found a bound and nothing else.
-    pub fn new(alloc: Global, engine: &mut E, plan: Plan) -> Result<Climb<E>, AllocError>
+    pub fn new(
+        alloc: Global,
+        engine: &mut E,
+        plan: Plan,
+        allowance: &Allowance,
+    ) -> Result<Climb<E>, AllocError>
         requires plan { IsPlan (E.state engine.old) plan }
         ensures climbing { IfOk result (λ climb. IsClimbing E.saved climb (E.state engine.old)) }
         ensures none { IfOk result (λ climb. climb.found ≡ None) }
         ensures plan { IfOk result (λ climb. climb.prober.plan ≡ plan) }
+        ensures counted { IfOk result (λ climb. climb.counted.value.made ≡ allowance.now.made) }
         ensures unchanged { E.state engine.new ≡ E.state engine.old }
+        ensures count { E.placed engine.new ≡ E.placed engine.old }
+        ensures tries { IfOk result (λ climb. number climb.prober.tries ≡ 0) }
     {
         let prober = Prober::new(alloc, engine, plan)?;
         let start = engine.snapshot()?;
@@ -57,6 +71,7 @@ impl<E: Searchable> Climb<E> {
             found: None,
             sum: 0,
             bound,
+            counted: Snapshot::of(allowance),
         })
     }
 
@@ -94,6 +109,8 @@ impl<E: Searchable> Climb<E> {
         ensures sum { self.new.sum ≡ self.old.sum }
         ensures prober { self.new.prober ≡ self.old.prober }
         ensures bound { self.new.bound ≡ self.old.bound }
+        ensures counted { self.new.counted ≡ self.old.counted }
+        ensures count { E.placed engine.new ≡ E.placed engine.old }
     {
         engine.exchange(&mut self.start);
         engine.save(&mut self.start);
@@ -112,6 +129,8 @@ impl<E: Searchable> Climb<E> {
         ensures best { E.saved self.new.best ≡ E.state engine.old }
         ensures prober { self.new.prober ≡ self.old.prober }
         ensures bound { self.new.bound ≡ self.old.bound }
+        ensures counted { self.new.counted ≡ self.old.counted }
+        ensures count { E.placed engine.new ≡ E.placed engine.old }
     {
         engine.save(&mut self.best);
         self.found = Some(grade);
@@ -129,6 +148,8 @@ impl<E: Searchable> Climb<E> {
         ensures offered { IsOffered E.saved self.old self.new (E.state engine.old) grade (grade_sum (flags self.old.prober.fresh.items) (E.state engine.old)) }
         ensures prober { self.new.prober ≡ self.old.prober }
         ensures bound { self.new.bound ≡ self.old.bound }
+        ensures counted { self.new.counted ≡ self.old.counted }
+        ensures count { E.placed engine.new ≡ E.placed engine.old }
     {
         let sum = grade_sum(engine, &self.prober.fresh);
         let is_better = self.is_better(grade, sum);
@@ -151,18 +172,22 @@ impl<E: Searchable> Climb<E> {
         allowance: &mut Allowance,
     ) -> Result<Probe, AllocError>
         requires climbing { IsClimbing E.saved self.old (E.state engine.old) }
+        requires counted { self.old.counted.value.made ≡ allowance.old.made }
         requires new { next_grade self.old ≤ grade }
         requires below { grade < self.old.bound }
         ensures climbing { IsClimbing E.saved self.new (E.state engine.new) }
         ensures unchanged { E.state engine.new ≡ E.state engine.old }
         ensures climbed { HasClimbed E.saved self.old self.new allowance.old allowance.new }
+        ensures within { HasPlacedWithin allowance.old allowance.new (spent_by (E.placed engine.old) self.old) (spent_by (E.placed engine.new) self.new) }
         ensures until { allowance.new.until ≡ allowance.old.until }
         ensures found { IfOk result (IsAtLeast grade) }
         ensures taken { IfOk result (IsTaken grade self.old self.new allowance.new) }
     {
         let probe = self
             .prober
-            .probe(alloc, engine, grade, course.effort(), allowance)?;
+            .probe(alloc, engine, grade, course.effort(), allowance);
+        self.counted = Snapshot::of(allowance);
+        let probe = probe?;
         match probe {
             Probe::Filled(found) => {
                 course.parts.note_best(engine, &self.prober.fresh);
@@ -183,11 +208,13 @@ impl<E: Searchable> Climb<E> {
         allowance: &mut Allowance,
     ) -> Result<(), AllocError>
         requires climbing { IsClimbing E.saved self.old (E.state engine.old) }
+        requires counted { self.old.counted.value.made ≡ allowance.old.made }
         requires below { next_grade self.old < self.old.bound }
         requires left { allowance.old.made < allowance.old.limit }
         ensures climbing { IsClimbing E.saved self.new (E.state engine.new) }
         ensures unchanged { E.state engine.new ≡ E.state engine.old }
         ensures climbed { HasClimbed E.saved self.old self.new allowance.old allowance.new }
+        ensures within { HasPlacedWithin allowance.old allowance.new (spent_by (E.placed engine.old) self.old) (spent_by (E.placed engine.new) self.new) }
         ensures moved { OnOk result (work_left self.new allowance.new < work_left self.old allowance.old) }
     {
         let left = allowance.left();
@@ -210,9 +237,11 @@ impl<E: Searchable> Climb<E> {
         allowance: &mut Allowance,
     ) -> Result<(), AllocError>
         requires climbing { IsClimbing E.saved self.old (E.state engine.old) }
+        requires counted { self.old.counted.value.made ≡ allowance.old.made }
         ensures climbing { IsClimbing E.saved self.new (E.state engine.new) }
         ensures unchanged { E.state engine.new ≡ E.state engine.old }
         ensures climbed { HasClimbed E.saved self.old self.new allowance.old allowance.new }
+        ensures within { HasPlacedWithin allowance.old allowance.new (spent_by (E.placed engine.old) self.old) (spent_by (E.placed engine.new) self.new) }
     {
         let grade = self.next_grade();
         if grade < self.bound {
@@ -232,7 +261,10 @@ impl<E: Searchable> Climb<E> {
         requires climbing { IsClimbing E.saved self.old (E.state engine.old) }
         ensures climbing { IsClimbing E.saved self.new (E.state engine.new) }
         ensures unchanged { E.state engine.new ≡ E.state engine.old }
-        ensures climbed { (from to : AllowanceOf) → from.made < to.made → to.limit ≡ from.limit → HasClimbed E.saved self.old self.new from to }
+        ensures offered { OnOk result (HasOffered E.saved self.old self.new) }
+        ensures climbed { (from to : AllowanceOf) → from.made < to.made → to.limit ≡ from.limit → self.old.counted.value.made ≡ to.made → HasClimbed E.saved self.old self.new from to }
+        ensures count { E.placed engine.new ≡ E.placed engine.old }
+        ensures tries { number self.new.prober.tries ≡ suc (number self.old.prober.tries) }
     {
         let probe = self.prober.try_known(alloc, engine, entries)?;
         Ok(match probe {
@@ -251,9 +283,12 @@ impl<E: Searchable> Climb<E> {
         allowance: &mut Allowance,
     ) -> Result<(), AllocError>
         requires climbing { IsClimbing E.saved self.old (E.state engine.old) }
+        requires counted { self.old.counted.value.made ≡ allowance.old.made }
         ensures climbing { IsClimbing E.saved self.new (E.state engine.new) }
         ensures unchanged { E.state engine.new ≡ E.state engine.old }
         ensures climbed { HasClimbed E.saved self.old self.new allowance.old allowance.new }
+        ensures within { HasPlacedWithin allowance.old allowance.new (spent_by (E.placed engine.old) self.old) (spent_by (E.placed engine.new) self.new) }
+        ensures offered { OnOk result (allowance.old.made < allowance.new.made → HasOffered E.saved self.old self.new) }
     {
         let entries = course.parts.best.entries.as_slice();
         if entries.is_empty() || allowance.left() == 0 {
@@ -261,6 +296,7 @@ impl<E: Searchable> Climb<E> {
         }
         allowance.grant(1);
         allowance.count();
+        self.counted = Snapshot::of(allowance);
         let _ = self.try_known(alloc, engine, entries)?;
         Ok(())
     }
@@ -275,25 +311,30 @@ impl<E: Searchable> Climb<E> {
         allowance: &mut Allowance,
     ) -> Result<bool, AllocError>
         requires climbing { IsClimbing E.saved self.old (E.state engine.old) }
+        requires counted { self.old.counted.value.made ≡ allowance.old.made }
         ensures climbing { IsClimbing E.saved self.new (E.state engine.new) }
         ensures unchanged { E.state engine.new ≡ E.state engine.old }
         ensures climbed { HasClimbed E.saved self.old self.new allowance.old allowance.new }
+        ensures within { HasPlacedWithin allowance.old allowance.new (spent_by (E.placed engine.old) self.old) (spent_by (E.placed engine.new) self.new) }
+        ensures scheduled { goal ≡ Goal.Worst → HasScheduled course.old.pace course.new.pace 0 }
     {
         let left = allowance.left();
         allowance.grant(PLACEMENTS.min(left));
         let parts = &mut course.parts;
         let filling = self.prober.fill_part(alloc, engine, parts, allowance);
+        self.counted = Snapshot::of(allowance);
         let is_better = match filling {
             Ok(filling) => Ok(parts.note(engine, &self.prober.fresh, goal, filling)),
             Err(failed) => Err(failed),
         };
         let made = left.saturating_sub(allowance.left());
-        course.pace.count_part(goal, made.saturating_add(FEE));
+        course.pace.count_part(goal, made);
         self.go_back(engine);
         is_better
     }
 
-    /// Fills a part again, and keeps the fill if it is better than the best one.
+    /// Fills a part again, and keeps the fill if it is better than the best one. To try the fill is one more placement,
+    /// which the caller has counted.
     fn refill(
         &mut self,
         alloc: Global,
@@ -303,11 +344,14 @@ impl<E: Searchable> Climb<E> {
         allowance: &mut Allowance,
     ) -> Result<(), AllocError>
         requires climbing { IsClimbing E.saved self.old (E.state engine.old) }
+        requires counted { self.old.counted.value.made ≡ allowance.old.made }
         ensures climbing { IsClimbing E.saved self.new (E.state engine.new) }
         ensures unchanged { E.state engine.new ≡ E.state engine.old }
         ensures made { allowance.old.made ≤ allowance.new.made }
         ensures limit { allowance.new.limit ≡ allowance.old.limit }
         ensures climbed { (from : AllowanceOf) → from.made < allowance.old.made → allowance.old.limit ≡ from.limit → HasClimbed E.saved self.old self.new from allowance.new }
+        ensures within { spent_by (E.placed engine.new) self.new + allowance.old.made ≤ suc (spent_by (E.placed engine.old) self.old + allowance.new.made) }
+        ensures scheduled { goal ≡ Goal.Worst → HasScheduled course.old.pace course.new.pace 0 }
     {
         let is_better = self.fill_part(alloc, engine, goal, course, allowance)?;
         if !is_better {
@@ -320,7 +364,8 @@ impl<E: Searchable> Climb<E> {
         Ok(())
     }
 
-    /// Empties a part of a fill and fills it again. The part counts some placements besides those of its search.
+    /// Empties a part of a fill and fills it again. The part counts some placements besides those of its search, also if
+    /// there is no part: so a search whose fill could not be noted goes on with grades.
     fn try_part(
         &mut self,
         alloc: Global,
@@ -330,14 +375,19 @@ impl<E: Searchable> Climb<E> {
         allowance: &mut Allowance,
     ) -> Result<(), AllocError>
         requires climbing { IsClimbing E.saved self.old (E.state engine.old) }
+        requires counted { self.old.counted.value.made ≡ allowance.old.made }
         requires left { allowance.old.made < allowance.old.limit }
         ensures climbing { IsClimbing E.saved self.new (E.state engine.new) }
         ensures unchanged { E.state engine.new ≡ E.state engine.old }
         ensures climbed { HasClimbed E.saved self.old self.new allowance.old allowance.new }
+        ensures within { HasPlacedWithin allowance.old allowance.new (spent_by (E.placed engine.old) self.old) (spent_by (E.placed engine.new) self.new) }
         ensures fee { (allowance.old.made + 20 ≤ allowance.new.made) ⊎ (allowance.new.made ≡ allowance.new.limit) }
+        ensures scheduled { goal ≡ Goal.Worst → HasScheduled course.old.pace course.new.pace 20 }
     {
         allowance.grant(FEE.min(allowance.left()));
         allowance.count_all();
+        self.counted = Snapshot::of(allowance);
+        course.pace.count_part(goal, FEE);
         let is_part = course.parts.empty_next(alloc, engine, goal, self.bound)?;
         if !is_part {
             return Ok(());
@@ -359,10 +409,12 @@ impl<E: Searchable> Climb<E> {
         allowance: &mut Allowance,
     ) -> Result<(), AllocError>
         requires climbing { IsClimbing E.saved self.old (E.state engine.old) }
+        requires counted { self.old.counted.value.made ≡ allowance.old.made }
         requires left { allowance.old.made < allowance.old.limit }
         ensures climbing { IsClimbing E.saved self.new (E.state engine.new) }
         ensures unchanged { E.state engine.new ≡ E.state engine.old }
         ensures climbed { HasClimbed E.saved self.old self.new allowance.old allowance.new }
+        ensures within { HasPlacedWithin allowance.old allowance.new (spent_by (E.placed engine.old) self.old) (spent_by (E.placed engine.new) self.new) }
         ensures moved { OnOk result (work_left self.new allowance.new < work_left self.old allowance.old) }
     {
         let is_open = self.next_grade() < self.bound;
@@ -389,9 +441,11 @@ impl<E: Searchable> Climb<E> {
         allowance: &mut Allowance,
     ) -> Result<(), AllocError>
         requires climbing { IsClimbing E.saved self.old (E.state engine.old) }
+        requires counted { self.old.counted.value.made ≡ allowance.old.made }
         ensures climbing { IsClimbing E.saved self.new (E.state engine.new) }
         ensures unchanged { E.state engine.new ≡ E.state engine.old }
         ensures climbed { HasClimbed E.saved self.old self.new allowance.old allowance.new }
+        ensures within { HasPlacedWithin allowance.old allowance.new (spent_by (E.placed engine.old) self.old) (spent_by (E.placed engine.new) self.new) }
     {
         if !self.prober.plan.targets.is_empty() {
             return self.try_best(alloc, engine, course, allowance);
@@ -409,9 +463,11 @@ impl<E: Searchable> Climb<E> {
         allowance: &mut Allowance,
     ) -> Result<(), AllocError>
         requires climbing { IsClimbing E.saved self.old (E.state engine.old) }
+        requires counted { self.old.counted.value.made ≡ allowance.old.made }
         ensures climbing { IsClimbing E.saved self.new (E.state engine.new) }
         ensures unchanged { E.state engine.new ≡ E.state engine.old }
         ensures climbed { HasClimbed E.saved self.old self.new allowance.old allowance.new }
+        ensures within { HasPlacedWithin allowance.old allowance.new (spent_by (E.placed engine.old) self.old) (spent_by (E.placed engine.new) self.new) }
         ensures ended { OnOk result ((allowance.new.made ≡ allowance.new.limit) ⊎ (self.new.bound ≤ next_grade self.new)) }
     {
         course.begin(allowance.left());
@@ -427,7 +483,9 @@ impl<E: Searchable> Climb<E> {
         requires climbing { IsClimbing E.saved self.old (E.state engine.old) }
         ensures best { IsBest (flags self.old.prober.plan.named.items) (E.state engine.old) (E.state engine.new) result }
         ensures found { result ≡ best_of self.old.found self.old.prober.least self.old.bound }
+        ensures entered { IfSome self.old.found (λ grade. E.state engine.new ≡ E.saved self.old.best) }
         ensures idle { IsIdle E.saved self.old → E.state engine.new ≡ E.state engine.old }
+        ensures count { E.placed engine.new ≡ E.placed engine.old }
     {
         match self.found {
             Some(least) => {

@@ -21,7 +21,8 @@ pub const NO_BOUND: u8 = BEST_GRADE + 1;
 
 /// Leaves out the words below a grade, and brings back the others.
 pub fn choose_least<E: Feasible>(engine: &mut E, grade: u8)
-    ensures { E.state engine.new ≡ at_least (E.state engine.old) grade }
+    ensures state { E.state engine.new ≡ at_least (E.state engine.old) grade }
+    ensures count { E.placed engine.new ≡ E.placed engine.old }
 {
     let _ = engine.edit(&Edit::Least(grade));
 }
@@ -32,6 +33,7 @@ fn is_dead_at<E: Feasible>(engine: &mut E, watched: &[bool], grade: u8) -> bool
     ensures state { E.state engine.new ≡ at_least (E.state engine.old) grade }
     ensures dead { result ≡ true → IsDeadAt (flags watched.now) (E.state engine.old) grade }
     ensures alive { result ≡ false → AreAliveAt (flags watched.now) (E.state engine.old) grade }
+    ensures count { E.placed engine.new ≡ E.placed engine.old }
 {
     choose_least(engine, grade);
     first_dead(engine, watched).is_some()
@@ -48,6 +50,7 @@ pub fn first_deadly<E: Feasible>(engine: &mut E, watched: &[bool], from: u8, to:
     ensures below { result ≤ to }
     ensures dead { result < to → IsDeadAt (flags watched.now) (E.state engine.old) result }
     ensures alive { (grade : ℕ) → from ≤ grade → suc grade ≡ result → AreAliveAt (flags watched.now) (E.state engine.old) grade }
+    ensures count { E.placed engine.new ≡ E.placed engine.old }
 {
     let mut low = from;
     let mut high = to;

@@ -1,5 +1,6 @@
 //! Which grades a search for the best fill tries, and with how many placements each.
-ghost use Rattle.std.specs.Prelude.{◌<◌, ◌≤◌};
+ghost use Rattle.std.specs.Prelude.{◌≡◌, ◌<◌, ◌≤◌};
+ghost use Rattle.xw_fill.specs.Inner.Climbing.{HasScheduled};
 
 use crate::best::grades::NO_BOUND;
 use crate::best::parts::Goal;
@@ -11,7 +12,19 @@ const FIRST: u64 = 750;
 /// How many placements a grade gets first after a fill.
 const BUDGET: u64 = 2000;
 
-/// How many grades the second step up goes. The first one goes halfway to the bound.
+/// A search that may make fewer placements hurries: its first step down is short, and it leaps.
+const FEW: u64 = 5000;
+
+/// How many placements the first step down gets in a search that hurries.
+const PRICE: u64 = 200;
+
+/// After a fill that took fewer placements, the next step up is a leap in a search that hurries.
+const EASY: u64 = 300;
+
+/// How many placements a leap gets at least. It gets twice those of the fill before it, if these are more.
+const LEAP: u64 = 200;
+
+/// How many grades a step up goes that follows the first one or a leap. The first one and leaps go halfway to the bound.
 const STEP: u8 = 8;
 
 /// How many grades a later step up goes at most.
@@ -54,12 +67,15 @@ pub enum Direction {
 
 /// The progress of a search for the best fill. It goes up from the best fill, in steps that get longer with each fill
 /// and shorter with each grade that is not decided, and in turn down from the bound, by fewer grades the more the last
-/// bound cost. If a step of one grade is not decided, the next one in its direction gets twice as many placements.
+/// bound cost. If a step of one grade is not decided, the next one in its direction gets twice as many placements. With
+/// few placements it hurries: after a fill that came easily it leaps, which is to try the grade halfway to the bound with
+/// few placements.
 /// Which grades are tried is not promised.
 /// - `direction`: of the grade that is tried now.
 /// - `spent`: how many placements this grade has used.
-/// - `step`, `budget`: how far the next step up goes, and its placements.
+/// - `step`, `budget`: how far the next step up goes, and its placements. `leap`: its placements if it is a leap.
 /// - `stride`, `price`: how far the next step down goes beyond one grade, and its placements.
+/// - `hurries`: whether it may make few placements, with those of the searches that it continues.
 /// - `up`, `down`, `parts`: the placements that were made in each direction, and for parts around a worst word.
 /// - `reserve`: how many placements are left for the mean.
 /// - `floor`: one more than the best grade at which this search, or one that it continues, found a fill. Grades below
@@ -72,8 +88,10 @@ pub struct Pace {
     pub spent: u64,
     step: u8,
     budget: u64,
+    leap: Option<u64>,
     stride: u8,
     price: u64,
+    hurries: bool,
     up: u64,
     down: u64,
     parts: u64,
@@ -90,8 +108,10 @@ impl Pace {
             spent: 0,
             step: NO_BOUND,
             budget: FIRST,
+            leap: None,
             stride: 2,
             price: BUDGET,
+            hurries: false,
             up: 0,
             down: 0,
             parts: 0,
@@ -104,6 +124,11 @@ impl Pace {
     /// Begins a search with so many placements.
     pub fn begin(&mut self, left: u64) {
         self.reserve = left / SHARES;
+        let made = self.up.saturating_add(self.down);
+        self.hurries = made.saturating_add(left) < FEW;
+        if self.hurries && self.down == 0 {
+            self.price = PRICE;
+        }
     }
 
     /// How many of the placements that are left are not for the mean.
@@ -131,7 +156,9 @@ impl Pace {
     }
 
     /// Counts the placements of a part.
-    pub fn count_part(&mut self, goal: Goal, made: u64) {
+    pub fn count_part(&mut self, goal: Goal, made: u64)
+        ensures { goal ≡ Goal.Worst → HasScheduled self.old self.new made }
+    {
         if goal == Goal::Worst {
             self.parts = self.parts.saturating_add(made);
         }
@@ -169,7 +196,7 @@ impl Pace {
         ensures { 0 < result }
     {
         let budget = match self.direction {
-            Direction::Up => self.budget,
+            Direction::Up => self.leap.unwrap_or(self.budget),
             Direction::Down => self.price,
         };
         budget.saturating_sub(self.spent).max(1)
@@ -206,20 +233,29 @@ impl Pace {
 
     /// The next step up.
     fn step_after(&mut self, probe: Probe) {
+        let has_leapt = self.leap.is_some();
+        self.leap = None;
         match probe {
-            Probe::Filled(_) => {
-                self.step = if self.step > LONGEST {
-                    STEP
-                } else {
-                    self.step.saturating_mul(2).min(LONGEST)
-                };
-                self.budget = (self.budget / 2).max(BUDGET);
-            }
+            Probe::Filled(_) => self.step_after_fill(),
+            Probe::Limit if has_leapt => self.step = (self.step / 2).min(STEP).max(1),
             Probe::Limit if self.step <= 1 => {
                 self.budget = self.budget.saturating_mul(2);
                 self.step = STEP / 2;
             }
             _ => self.step = (self.step / 2).max(1),
+        }
+    }
+
+    /// The next step up after a fill.
+    fn step_after_fill(&mut self) {
+        self.budget = (self.budget / 2).max(BUDGET);
+        if self.hurries && self.spent < EASY {
+            self.leap = Some(self.spent.saturating_mul(2).max(LEAP));
+            self.step = NO_BOUND;
+        } else if self.step > LONGEST {
+            self.step = STEP;
+        } else {
+            self.step = self.step.saturating_mul(2).min(LONGEST);
         }
     }
 

@@ -1,7 +1,8 @@
 //! A search for a fill with the words of a grade and better.
 ghost use Rattle.std.specs.Prelude.{◌≡◌, ◌⊎◌, ℕ, suc, ◌≤◌, length, IfOk, OnErr};
 ghost use Rattle.xw_words.specs.Dictionary.{best_grade};
-ghost use Rattle.xw_fill.specs.Allowance.{IsCounted};
+ghost use Rattle.xw_feas.specs.Count.{number};
+ghost use Rattle.xw_fill.specs.Allowance.{IsCounted, HasPlacedWithin};
 ghost use Rattle.xw_fill.specs.OfState.{light_count};
 ghost use Rattle.xw_fill.specs.Inner.OfState.{IsPlan};
 ghost use Rattle.xw_fill.specs.NamedFill.{flags};
@@ -22,6 +23,8 @@ use crate::search::Filling;
 use crate::stack::Stack;
 use crate::why::entries::write;
 use std::alloc::{AllocError, Global};
+use std::snapshot::Snapshot;
+use xw_feas::count::Count;
 use xw_feas::feasible::Feasible;
 use xw_feas::searchable::Searchable;
 use xw_letters::letter::Letter;
@@ -44,6 +47,7 @@ pub fn bound_of<E: Feasible>(engine: &mut E, plan: &Plan, least: u8) -> u8
     requires least { least ≡ (E.state engine.old).words.least }
     ensures bound { IsBound (flags plan.now.named.items) (E.state engine.old) result }
     ensures unchanged { E.state engine.new ≡ E.state engine.old }
+    ensures count { E.placed engine.new ≡ E.placed engine.old }
 {
     let bound = first_deadly(engine, &plan.watched, least, NO_BOUND);
     choose_least(engine, least);
@@ -64,6 +68,7 @@ fn greatest_grade<E: Feasible>(engine: &mut E, watched: &[bool], fresh: &[bool],
     ensures active { AreActiveAt (flags fresh.now) (E.state engine.old) result }
     ensures alive { AreAliveAt (flags watched.now) (E.state engine.old) result }
     ensures greatest { IsDeadAt (flags watched.now) (E.state engine.old) (suc result) ⊎ ((other : ℕ) → other ≤ best_grade → AreActiveAt (flags fresh.now) (E.state engine.old) other → other ≤ result) }
+    ensures count { E.placed engine.new ≡ E.placed engine.old }
 {
     let worst = worst_grade(engine, fresh);
     first_deadly(engine, watched, grade + 1, worst + 1) - 1
@@ -73,12 +78,16 @@ fn greatest_grade<E: Feasible>(engine: &mut E, watched: &[bool], fresh: &[bool],
 /// - `fresh`: a flag for each light that was not wholly entered at the start.
 /// - `least`: the least grade of active words.
 /// - `stack`: the stack of each probe, whose snapshots stay from probe to probe.
+/// - `last`: what `try_known` found last. It takes no memory: it tells the prover what the search has to offer.
+/// - `tries`: how many known fills were tried. It takes no memory either.
 #[derive(Drop)]
 pub struct Prober<E: Searchable> {
     pub plan: Plan,
     pub fresh: Vec<bool>,
     pub least: u8,
     stack: Stack<E, Frame>,
+    last: Snapshot<Probe>,
+    tries: Count,
 }
 
 impl<E: Searchable> Prober<E> {
@@ -87,6 +96,7 @@ impl<E: Searchable> Prober<E> {
         requires plan { IsPlan (E.state engine.now) plan }
         ensures prober { IfOk result (λ prober. IsProber E.saved prober (E.state engine.now)) }
         ensures plan { IfOk result (λ prober. prober.plan ≡ plan) }
+        ensures tries { IfOk result (λ prober. number prober.tries ≡ 0) }
     {
         let fresh = fresh_lights(alloc, engine)?;
         let stack = stack_for(alloc, engine, &plan)?;
@@ -95,6 +105,8 @@ impl<E: Searchable> Prober<E> {
             fresh,
             least: engine.bank().least(),
             stack,
+            last: Snapshot::of(&Probe::Limit),
+            tries: Count::new(),
         })
     }
 
@@ -119,6 +131,8 @@ impl<E: Searchable> Prober<E> {
         ensures limit { result ≡ Ok Probe.Limit → allowance.new.made ≡ allowance.new.until }
         ensures ok { IfOk result (IsProbed (flags self.old.plan.named.items) (E.state engine.old) grade (E.state engine.new)) }
         ensures unchanged { OnErr result (E.state engine.new ≡ E.state engine.old) }
+        ensures within { HasPlacedWithin allowance.old allowance.new (E.placed engine.old) (E.placed engine.new) }
+        ensures tries { number self.new.tries ≡ number self.old.tries }
     {
         choose_least(engine, grade);
         let plan = &self.plan;
@@ -137,7 +151,7 @@ impl<E: Searchable> Prober<E> {
         probe
     }
 
-    /// Looks whether some entries of the cells to fill are a fill. Answers `Filled` if they are, and `Limit` if not.
+    /// Looks whether some entries of the cells to fill are a fill, and counts a try. Answers `Filled` if they are, and `Limit` if not.
     pub fn try_known(
         &mut self,
         alloc: Global,
@@ -150,19 +164,26 @@ impl<E: Searchable> Prober<E> {
         ensures fresh { self.new.fresh ≡ self.old.fresh }
         ensures least { self.new.least ≡ self.old.least }
         ensures ok { IfOk result (IsProbed (flags self.old.plan.named.items) (E.state engine.old) self.old.least (E.state engine.new)) }
+        ensures last { IfOk result (λ probe. self.new.last.value ≡ probe) }
         ensures unchanged { OnErr result (E.state engine.new ≡ E.state engine.old) }
+        ensures count { E.placed engine.new ≡ E.placed engine.old }
+        ensures tries { number self.new.tries ≡ suc (number self.old.tries) }
     {
+        self.tries.raise();
         let plan = &self.plan;
         let fresh = self.fresh.as_slice();
         let is_fill = enter(alloc, engine, &mut self.stack, plan, fresh, entries)?;
         if !is_fill {
+            self.last = Snapshot::of(&Probe::Limit);
             return Ok(Probe::Limit);
         }
         let watched = self.plan.watched.as_slice();
         let least = self.least;
         let grade = greatest_grade(engine, watched, fresh, least);
         choose_least(engine, least);
-        Ok(Probe::Filled(grade))
+        let probe = Probe::Filled(grade);
+        self.last = Snapshot::of(&probe);
+        Ok(probe)
     }
 
     /// Fills the cells of the named lights that are empty now. Only entries change.
@@ -181,6 +202,8 @@ impl<E: Searchable> Prober<E> {
         ensures made { allowance.old.made ≤ allowance.new.made }
         ensures limit { allowance.new.limit ≡ allowance.old.limit }
         ensures twin { IsTwin (E.state engine.old) (E.state engine.new) }
+        ensures within { HasPlacedWithin allowance.old allowance.new (E.placed engine.old) (E.placed engine.new) }
+        ensures tries { number self.new.tries ≡ number self.old.tries }
     {
         let named = Vec::from_slice(alloc, &self.plan.named)?;
         let plan = Plan::of(alloc, engine, named)?;
@@ -204,6 +227,8 @@ impl<E: Searchable> Prober<E> {
         ensures made { allowance.old.made ≤ allowance.new.made }
         ensures limit { allowance.new.limit ≡ allowance.old.limit }
         ensures twin { IsTwin (E.state engine.old) (E.state engine.new) }
+        ensures within { HasPlacedWithin allowance.old allowance.new (E.placed engine.old) (E.placed engine.new) }
+        ensures tries { number self.new.tries ≡ number self.old.tries }
     {
         let list = written_of(alloc, engine, &self.plan, &parts.entries)?;
         write(engine, &list);

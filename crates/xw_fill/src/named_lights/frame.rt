@@ -1,5 +1,5 @@
 //! A cell that a search fills: entering its letter, and taking it back.
-ghost use Rattle.std.specs.Prelude.{◌≡◌, Some, None, IfSome, IfNone, true, slice_set};
+ghost use Rattle.std.specs.Prelude.{◌≡◌, suc, Some, None, IfSome, IfNone, true, slice_set};
 ghost use Rattle.xw_feas.specs.Board.{board_of, is_open};
 ghost use Rattle.xw_feas.specs.State.{State};
 ghost use Rattle.xw_fill.specs.NamedFill.{flags};
@@ -29,6 +29,7 @@ fn set_letter<E: Feasible>(engine: &mut E, cell: usize, letter: Letter)
     requires { is_open (board_of (E.state engine.old).grid) cell ≡ true }
     ensures entries { entries_of (E.state engine.new) ≡ slice_set (entries_of (E.state engine.old)) cell (Some letter) }
     ensures rest { DiffersInEntries (E.state engine.old) (E.state engine.new) }
+    ensures count { E.placed engine.new ≡ suc (E.placed engine.old) }
 {
     let cell = engine.grid().cell_at(cell);
     let _ = engine.edit(&Edit::Set(cell, letter));
@@ -48,6 +49,7 @@ fn try_letter<E: Searchable>(
     ensures entered { IfNone result (IsLetterSet cell letter (E.state engine.old) (E.state engine.new)) }
     ensures same { IfSome result (λ light. E.state engine.new ≡ E.state engine.old) }
     ensures dead { IfSome result (λ light. (there : State) × IsLetterSet cell letter (E.state engine.old) there × IsDead (flags watched.now) there light) }
+    ensures count { E.placed engine.new ≡ suc (E.placed engine.old) }
 {
     let cell = engine.grid().cell_at(cell);
     match engine.try_edit(&EntryEdit::Set(cell, letter), watched, mark) {
@@ -61,6 +63,7 @@ fn clear_cell<E: Feasible>(engine: &mut E, cell: usize)
     requires { is_open (board_of (E.state engine.old).grid) cell ≡ true }
     ensures entries { entries_of (E.state engine.new) ≡ slice_set (entries_of (E.state engine.old)) cell None }
     ensures rest { DiffersInEntries (E.state engine.old) (E.state engine.new) }
+    ensures count { E.placed engine.new ≡ E.placed engine.old }
 {
     let cell = engine.grid().cell_at(cell);
     let _ = engine.edit(&Edit::Clear(cell));

@@ -1,10 +1,10 @@
 //! One run of the search: depth first by letters, until a fill, a cut or the end.
-ghost use Rattle.std.specs.Prelude.{◌≡◌, ◌<◌, ℕ, suc, length, true, false, ◌||◌, ◌==◌, [], IfOk};
+ghost use Rattle.std.specs.Prelude.{◌≡◌, ◌<◌, ℕ, suc, length, true, false, ◌||◌, ◌==◌, [], IfOk, OnOk, OnErr};
 ghost use Rattle.xw_letters.specs.LetterSet.{has};
 ghost use Rattle.xw_feas.specs.Board.{board_of};
 ghost use Rattle.xw_feas.specs.Snapshot.{IsTwin};
 ghost use Rattle.xw_fill.specs.Position.{DiffersInEntries};
-ghost use Rattle.xw_fill.specs.Allowance.{IsCounted};
+ghost use Rattle.xw_fill.specs.Allowance.{IsCounted, HasPlaced, HasPlacedWithin};
 ghost use Rattle.xw_fill.specs.OfState.{light_count, IsFillOf};
 ghost use Rattle.xw_fill.specs.Inner.OfState.{HasNone, IsPlan, IsOpen, IsRefuted, AreAlive, IsApartAt};
 ghost use Rattle.xw_fill.specs.Inner.Stack.{start_of, IsReady, StandsAt};
@@ -131,6 +131,8 @@ fn try_letter<E: Searchable>(
     ensures start { start_of E.saved stack.new ≡ start_of E.saved stack.old }
     ensures entries { DiffersInEntries (E.state engine.old) (E.state engine.new) }
     ensures tried { IfOk result (λ stands. IsTried (flags plan.now.watched.items) frame stands (E.state engine.old) stack.old.placements.items (E.state engine.new) stack.new.placements.items) }
+    ensures placed { OnOk result (E.placed engine.new ≡ suc (E.placed engine.old)) }
+    ensures none { OnErr result (E.placed engine.new ≡ E.placed engine.old) }
 {
     let cell = frame.cell;
     allowance.count();
@@ -174,6 +176,8 @@ fn search<E: Searchable>(
     ensures start { start_of E.saved stack.new ≡ start_of E.saved stack.old }
     ensures entries { DiffersInEntries (E.state engine.old) (E.state engine.new) }
     ensures counted { IsCounted allowance.old allowance.new (E.state engine.old) (E.state engine.new) }
+    ensures placed { (result ≡ Ending.Memory → ⊥) → HasPlaced allowance.old allowance.new (E.placed engine.old) (E.placed engine.new) }
+    ensures within { HasPlacedWithin allowance.old allowance.new (E.placed engine.old) (E.placed engine.new) }
     ensures until { allowance.new.until ≡ allowance.old.until }
     ensures limit { result ≡ Ending.Limit → allowance.new.made ≡ allowance.new.until }
     ensures cut { result ≡ Ending.Cut → allowance.old.made < allowance.new.made }
@@ -238,7 +242,8 @@ fn search<E: Searchable>(
     }
 }
 
-/// One run: a search that leaves the state as it was unless it finds a fill.
+/// One run: a search that leaves the state as it was unless it finds a fill. It counts exactly the letters that it
+/// places.
 pub fn run<E: Searchable>(
     engine: &mut E,
     stack: &mut Stack<E, Frame>,
@@ -252,6 +257,8 @@ pub fn run<E: Searchable>(
     requires ready { IsReady E.saved stack.old (E.state engine.old) }
     ensures ready { IsReady E.saved stack.new (E.state engine.old) }
     ensures counted { IsCounted allowance.old allowance.new (E.state engine.old) (E.state engine.new) }
+    ensures placed { (result ≡ Ending.Memory → ⊥) → HasPlaced allowance.old allowance.new (E.placed engine.old) (E.placed engine.new) }
+    ensures within { HasPlacedWithin allowance.old allowance.new (E.placed engine.old) (E.placed engine.new) }
     ensures until { allowance.new.until ≡ allowance.old.until }
     ensures limit { result ≡ Ending.Limit → allowance.new.made ≡ allowance.new.until }
     ensures cut { result ≡ Ending.Cut → allowance.old.made < allowance.new.made }

@@ -19,6 +19,7 @@ pub fn write<E: Feasible>(engine: &mut E, list: &[(Cell, Option<Letter>)])
     requires { All (CanBeWritten (E.state engine.old).grid) list.now }
     ensures entries { entries_of (E.state engine.new) ≡ written_in (entries_of (E.state engine.old)) (by_index (E.state engine.old).grid list.now) }
     ensures rest { DiffersInEntries (E.state engine.old) (E.state engine.new) }
+    ensures count { E.placed engine.new ≡ E.placed engine.old }
 {
     let _ = engine.edit(&Edit::Write(list));
 }

@@ -4,14 +4,14 @@ use Rattle.std.specs.List.{list_any, IsDistinct, AllByRecursion}
 use Rattle.std.specs.List.Sorted.{IsPermutation}
 use Rattle.std.proofs.lemmas.Bool.{or_left, or_right, or_cases, cases_eq, cases_lt, cases_Bool, both_ways, eq-eqb, eqb-true, cond-true, cond-false, false_from_ne_true}
 use Rattle.std.proofs.lemmas.Cmp.{nat_eq_equiv}
-use Rattle.std.proofs.lemmas.List.{get_or-set_same, get_or-set_other, get_or_past, set_past, length-set, length-append}
-use Rattle.std.proofs.lemmas.List.Folds.{list_any-append}
+use Rattle.std.proofs.lemmas.List.{get_or-set_same, get_or-set_other, get_or_past, get_or_push, get_or_append_left, set_past, length-set, length-append}
+use Rattle.std.proofs.lemmas.List.Folds.{list_any-append, list_any_at}
 use Rattle.std.proofs.lemmas.List.Sorted.{IsPermutation-append_comm, list_any-IsPermutation}
 use Rattle.std.proofs.lemmas.List.Sums.{sum_by-set}
 use Rattle.std.proofs.lemmas.Map.Keys.{IsDistinct-push, IsDistinct-tail, IsDistinct-IsPermutation}
 use Rattle.std.proofs.lemmas.Map.Steps.{length-le_from_distinct_below}
 use Rattle.std.specs.Prelude.{◌⊎◌}
-use Rattle.xw_net.specs.Worklist.{ListOfLights, is_marked, is_waiting, unmarked, IsWorklist, Grows, HasSeeds, MarksOnly, Adds}
+use Rattle.xw_net.specs.Worklist.{ListOfLights, is_marked, is_waiting, unmarked, IsWorklist, ArePlaced, IsKeptList, IsTakenFrom, Grows, HasSeeds, MarksOnly, Adds}
 
 -- ---- lights that wait
 
@@ -154,6 +154,109 @@ released_list marks lights room light list gone = record {
   once = list.once;
   roomy = omega (arith, list.roomy, length-set marks light false);
 }
+
+-- ---- the places of the lights that wait
+
+list_places : (marks : List Bool) (lights places : List ℕ) (capacity : ℕ) → IsKeptList marks lights places capacity → (i : ℕ) → i < length lights → get_or lights i 0 < length places
+unfolding is_waiting
+list_places marks lights places capacity kept i lt =
+    omega (arith, marked_below marks (get_or lights i 0) (kept.list.marked (get_or lights i 0) (list_any_at (λ n. eqb n (get_or lights i 0)) lights i 0 lt (eq-eqb (get_or lights i 0) (get_or lights i 0) refl))), kept.list.roomy)
+
+pub kept_empty : (marks : List Bool) (lights places : List ℕ) (capacity : ℕ) → lights ≡ [] → length marks ≤ length places → length places ≤ capacity → IsKeptList marks lights places capacity
+kept_empty marks lights places capacity empty roomy held = record {
+  list = empty_list marks lights (length places) empty roomy;
+  placed = λ i lt. absurd (omega (arith, lt, ap length empty));
+  held = held;
+}
+
+module _ (marks : List Bool) (lights places : List ℕ) (capacity : ℕ) (kept : IsKeptList marks lights places capacity) where
+  -- more marks, or fewer, without a change of the list
+  pub kept_marked : (marks' : List Bool) → IsWorklist marks' lights (length places) → IsKeptList marks' lights places capacity
+  kept_marked marks' list = record { list = list; placed = kept.placed; held = kept.held }
+
+  -- there is room for more lights
+  pub kept_longer : (places' : List ℕ) (capacity' : ℕ) → ((light : ℕ) → light < length places → get_or places' light 0 ≡ get_or places light 0) → length places ≤ length places' → length places' ≤ capacity' → IsKeptList marks lights places' capacity'
+  kept_longer places' capacity' same longer held = record {
+    list = record { marked = kept.list.marked; once = kept.list.once; roomy = omega (arith, kept.list.roomy, longer) };
+    placed = λ i lt. same (get_or lights i 0) (list_places marks lights places capacity kept i lt) ∙ kept.placed i lt;
+    held = held;
+  }
+
+  -- one more light waits, at the end
+  module _ (light capacity' : ℕ) (lt : light < length marks) (new : is_marked marks light ≡ false) (more : capacity ≤ capacity') where
+    stays : (i : ℕ) → i < length lights → get_or lights i 0 ≡ light → ⊥
+    unfolding is_waiting
+    stays i few e =
+        both_ways (is_marked marks light) new
+        (kept.list.marked light (list_any_at (λ n. eqb n light) lights i 0 few (eq-eqb (get_or lights i 0) light e)))
+
+    placed_now : ArePlaced (lights ++ light ∷ []) (set places light (length lights))
+    placed_now i few = elim (cases_eq i (length lights)) [
+      | inl last ↦
+          let read : get_or (lights ++ light ∷ []) i 0 ≡ light = get_or_push lights light 0 i (sym last) in
+          ap (λ n. get_or (set places light (length lights)) n 0) read ∙ get_or-set_same places light (length lights) 0 (omega (arith, lt, kept.list.roomy)) ∙ sym last
+      | inr apart ↦
+          let below : i < length lights = omega (arith, few, apart, length-append lights (light ∷ [])) in
+          let read : get_or (lights ++ light ∷ []) i 0 ≡ get_or lights i 0 = get_or_append_left lights (light ∷ []) 0 i below in
+          ap (λ n. get_or (set places light (length lights)) n 0) read ∙ get_or-set_other places light (get_or lights i 0) (length lights) 0 (stays i below) ∙ kept.placed i below
+    ]
+
+    pub kept_inserted : IsKeptList (set marks light true) (lights ++ light ∷ []) (set places light (length lights)) capacity'
+    kept_inserted = record {
+      list = inserted_list marks lights (length places) (length (set places light (length lights))) light kept.list (omega (arith, length-set places light (length lights))) lt new;
+      placed = placed_now;
+      held = omega (arith, kept.held, more, length-set places light (length lights));
+    }
+
+  -- the last light was taken
+  pub kept_popped : (rest : List ℕ) (light : ℕ) → lights ≡ rest ++ light ∷ [] → IsKeptList marks rest places capacity
+  kept_popped rest light is = record {
+    list = taken_list marks lights rest (length places) light kept.list (last_moved rest light lights is);
+    placed = λ i few.
+        let read : get_or lights i 0 ≡ get_or rest i 0 = ap (λ l. get_or l i 0) is ∙ get_or_append_left rest (light ∷ []) 0 i few in
+        ap (λ n. get_or places n 0) (sym read) ∙ kept.placed i (omega (arith, few, ap length is, length-append rest (light ∷ [])));
+    held = kept.held;
+  }
+
+  -- the light at an index was taken, the last one moved there, and that was noted
+  module _ (rest places' : List ℕ) (light from : ℕ) (moved : IsPermutation lights (light ∷ rest)) (taken : IsTakenFrom lights rest from)
+      (noted : from < length rest → places' ≡ set places (get_or rest from 0) from) (same : length rest ≤ from → places' ≡ places) where
+    last_at : from < length rest → get_or rest from 0 ≡ get_or lights (length rest) 0
+    last_at = taken.there
+
+    as_long : length places' ≡ length places
+    as_long = elim (cases_lt from (length rest)) [
+      | inl lt ↦ ap length (noted lt) ∙ length-set places (get_or rest from 0) from
+      | inr past ↦ ap length (same past)
+    ]
+
+    placed_moved : from < length rest → (i : ℕ) → i < length rest → get_or places' (get_or rest i 0) 0 ≡ i
+    placed_moved lt i few = elim (cases_eq i from) [
+      | inl here ↦
+          let within : get_or rest from 0 < length places = subst (λ n. n < length places) (sym (last_at lt)) (list_places marks lights places capacity kept (length rest) (omega (arith, taken.less))) in
+          ap (λ l. get_or l (get_or rest i 0) 0) (noted lt) ∙ ap (λ n. get_or (set places (get_or rest from 0) from) (get_or rest n 0) 0) here ∙ get_or-set_same places (get_or rest from 0) from 0 within ∙ sym here
+      | inr apart ↦
+          let read = taken.others i few apart in
+          let other : get_or rest i 0 ≡ get_or rest from 0 → ⊥ = λ e.
+          let one : get_or places (get_or lights i 0) 0 ≡ i = kept.placed i (omega (arith, few, taken.less)) in
+          let two : get_or places (get_or lights (length rest) 0) 0 ≡ length rest = kept.placed (length rest) (omega (arith, taken.less)) in
+          omega (arith, few, one, two, ap (λ n. get_or places n 0) (sym read ∙ e ∙ last_at lt)) in
+          ap (λ l. get_or l (get_or rest i 0) 0) (noted lt) ∙ get_or-set_other places (get_or rest from 0) (get_or rest i 0) from 0 other ∙ ap (λ n. get_or places n 0) read ∙ kept.placed i (omega (arith, few, taken.less))
+    ]
+
+    placed_past : length rest ≤ from → (i : ℕ) → i < length rest → get_or places' (get_or rest i 0) 0 ≡ i
+    placed_past past i few =
+        ap (λ l. get_or l (get_or rest i 0) 0) (same past) ∙ ap (λ n. get_or places n 0) (taken.others i few (λ e. omega (arith, e, few, past))) ∙ kept.placed i (omega (arith, few, taken.less))
+
+    pub kept_taken : IsKeptList marks rest places' capacity
+    kept_taken = record {
+      list = subst (IsWorklist marks rest) (sym as_long) (taken_list marks lights rest (length places) light kept.list moved);
+      placed = λ i few. elim (cases_lt from (length rest)) [
+        | inl lt ↦ placed_moved lt i few
+        | inr past ↦ placed_past past i few
+      ];
+      held = omega (arith, as_long, kept.held);
+    }
 
 -- after a light was taken, every other light still waits
 pub waits_taken : (lights rest : List ℕ) (light other : ℕ) → IsPermutation lights (light ∷ rest) → (other ≡ light → ⊥) → is_waiting lights other ≡ true → is_waiting rest other ≡ true

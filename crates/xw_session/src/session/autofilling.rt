@@ -1,5 +1,5 @@
 //! Answers `autofill`.
-ghost use Rattle.std.specs.Prelude.{◌≡◌, IfOk, IfErr, OnOk, OnErr};
+ghost use Rattle.std.specs.Prelude.{◌≡◌, ◌+◌, ◌≤◌, IfOk, IfErr, OnOk, OnErr};
 ghost use Rattle.xw_fill.specs.NamedFill.{IsAutofilled, is_named, AreLights};
 ghost use Rattle.xw_session.specs.NamedSearch.{names_of as names_of_lights, IsUnsearched};
 ghost use Rattle.xw_session.specs.Answer.{AnswersSearch};
@@ -17,7 +17,8 @@ use xw_fill::search::Filling;
 use xw_lines::device::{Sink, WriteFailed};
 
 /// Fills these lights, or all lights if there are none, if a search finds a fill within its limit. Continues the
-/// search that left the hint, if it was for the same lights and seed.
+/// search that left the hint, if it was for the same lights and seed. Places at most `limit` words and letters, and all of
+/// them before it answers `Limit`.
 fn filled<E: Searchable>(
     alloc: Global,
     engine: &mut E,
@@ -31,6 +32,8 @@ fn filled<E: Searchable>(
     ensures refused { IfErr result (IsUnsearched (E.state engine.old) (names_of_lights lights.entry)) }
     ensures unchanged { OnErr result (E.state engine.new ≡ E.state engine.old) }
     ensures idle { limit ≡ 0 → E.state engine.new ≡ E.state engine.old }
+    ensures within { E.placed engine.new ≤ limit + E.placed engine.old }
+    ensures limit { result ≡ Ok Filling.Limit → E.placed engine.new ≡ limit + E.placed engine.old }
 {
     let names = names_of(alloc, engine, lights)?;
     let mut allowance = Allowance::new(limit);

@@ -1,7 +1,8 @@
 //! Answers `best`.
-ghost use Rattle.std.specs.Prelude.{◌≡◌, IfOk, IfErr, OnOk, OnErr};
+ghost use Rattle.std.specs.Prelude.{◌≡◌, ◌+◌, ◌≤◌, IfOk, IfErr, OnOk, OnErr};
 ghost use Rattle.xw_fill.specs.NamedFill.{is_named, AreLights};
 ghost use Rattle.xw_fill.specs.Best.{IsBest};
+ghost use Rattle.xw_fill.specs.OneSearch.{IsBestWithin};
 ghost use Rattle.xw_lines.specs.Sends.{Sends};
 ghost use Rattle.xw_answers.specs.Text.{number_line};
 ghost use Rattle.xw_session.specs.NamedSearch.{names_of as names_of_lights, IsUnsearched};
@@ -22,6 +23,7 @@ use xw_lines::device::{Sink, WriteFailed};
 
 /// Fills these lights, or all lights if there are none, with the best fill that a search finds within its limit.
 /// Continues the search that left the hint, if it was for the same lights and seed and began with the same entries.
+/// Places at most `limit` words and letters.
 fn best_filled<E: Searchable>(
     alloc: Global,
     engine: &mut E,
@@ -31,10 +33,12 @@ fn best_filled<E: Searchable>(
     hint: &mut Option<BestHint>,
 ) -> Result<Best, Refusal>
     ensures ok { IfOk result (IsBest (is_named (E.state engine.old) (names_of_lights lights.entry)) (E.state engine.old) (E.state engine.new)) }
+    ensures within { IfOk result (IsBestWithin E.state E.saved (is_named (E.state engine.old) (names_of_lights lights.entry)) engine.old engine.new limit) }
     ensures known { OnOk result (AreLights (E.state engine.old) (names_of_lights lights.entry)) }
     ensures refused { IfErr result (IsUnsearched (E.state engine.old) (names_of_lights lights.entry)) }
     ensures unchanged { OnErr result (E.state engine.new ≡ E.state engine.old) }
     ensures idle { limit ≡ 0 → E.state engine.new ≡ E.state engine.old }
+    ensures placed { E.placed engine.new ≤ limit + E.placed engine.old }
 {
     let names = names_of(alloc, engine, lights)?;
     let mut allowance = Allowance::new(limit);

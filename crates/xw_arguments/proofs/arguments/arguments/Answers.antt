@@ -9,7 +9,7 @@ use Rattle.xw_arguments.proofs.arguments.arguments.Goals as goal
 
 pub returns-in-Err-clause-usage : goal.returns-in-Err-clause-usage
 returns-in-Err-clause-usage g c =
-    told_of _ (map g.S.AsStr.text c.args.words.now) _ _ c.explanation.result (failed (app_of c.in_ok-command.command) (map g.S.AsStr.text c.args.words.now) (kind_of c.in-Err.error) c.in_ok-command.ensures.shape c.in-Err.ensures.kinds) c.explanation.ensures
+    told_of _ (map g.S.AsStr.text c.args.words.now) _ _ _ c.explanation.result (failed (app_of c.in_ok-command.command) (map g.S.AsStr.text c.args.words.now) (kind_of c.in-Err.error) c.in_ok-command.ensures.shape c.in-Err.ensures.kinds) c.explanation.ensures
 
 pub returns-in-Ok-call_of-clause-parsed : goal.returns-in-Ok-call_of-clause-parsed
 returns-in-Ok-call_of-clause-parsed g c =

@@ -1,5 +1,5 @@
 use Rattle.std.proofs.Common.{◌≡◌, codes, refl, rules, append_assoc}
-use Rattle.xw_arguments.specs.Tips.{list_line, option_line, puzzle_line, tip_text}
+use Rattle.xw_arguments.specs.Tips.{list_line, option_line, puzzle_line, session_line, tip_text}
 use Rattle.xw_arguments.proofs.TipLemmas.{has_tip}
 use Rattle.xw_arguments.proofs.tips.tipped.Goals as goal
 
@@ -17,3 +17,8 @@ pub returns-in-Puzzle : goal.returns-in-Puzzle
 returns-in-Puzzle c =
     let is : tip_text c.args.tip ≡ puzzle_line c.in-Puzzle.file.now = search rules in
     has_tip (λ text. text.bytes.items) c.format-in-Puzzle.result _ _ _ c.args.error.now (codes "\n\n  tip: to start with this puzzle, use '--from ") c.in-Puzzle.file.now (codes "'\n") c.args.rest.now is refl (simp append_assoc) c.format-in-Puzzle.ensures.ok
+
+pub returns-in-Session : goal.returns-in-Session
+returns-in-Session c =
+    let is : tip_text c.args.tip ≡ session_line c.in-Session.file.now = search rules in
+    has_tip (λ text. text.bytes.items) c.format-in-Session.result _ _ _ c.args.error.now (codes "\n\n  tip: to go on with this session, use '--journal ") c.in-Session.file.now (codes "'\n") c.args.rest.now is refl (simp append_assoc) c.format-in-Session.ensures.ok

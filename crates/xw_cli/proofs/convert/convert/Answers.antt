@@ -10,8 +10,8 @@ returns g c = (
     puzzle = puzzle_view c.in_ok-puzzle.puzzle;
     mid = c.read_puzzle.new.self;
     found = c.in_ok-puzzle.ensures.ok;
-    written = c.write_puzzle.new.self;
-    writes = c.in_ok-write_puzzle.ensures.ok;
+    written = c.put_puzzle.new.desk;
+    writes = c.in_ok-put_puzzle.ensures.ok;
     text = c.tell_text.ensures c.in_ok-note.ensures.note;
   },
 )

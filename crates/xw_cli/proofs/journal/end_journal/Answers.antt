@@ -1,9 +1,8 @@
-use Rattle.std.proofs.Common.{◌∙◌, arith}
-use Rattle.xw_cli.proofs.Steps.{ended, unended}
+use Rattle.xw_cli.proofs.Steps.{found_ended, found_unended}
 use Rattle.xw_cli.proofs.journal.end_journal.Goals as goal
 
 pub returns-clause-ok : goal.returns-clause-ok
-returns-clause-ok g c = ended c.replace_journal.result c.args.file.now c.as_slice.result.now c.args.session.now c.args.refused c.args.desk.now c.replace_journal.new.desk (c.as_slice.ensures.value ∙ c.in_ok-bytes.ensures) (omega arith) c.replace_journal.ensures.ok
+returns-clause-ok g c = found_ended c.replace_if.result c.args.file.now c.args.refused c.args.session.now c.args.desk.now c.find_journal.new.desk c.replace_if.new.desk c.in_ok-find_journal.ensures.ok c.replace_if.ensures.ok
 
 pub returns-clause-err : goal.returns-clause-err
-returns-clause-err g c = unended c.replace_journal.result c.args.file.now c.as_slice.result.now c.args.session.now c.args.desk.now c.replace_journal.new.desk (c.as_slice.ensures.value ∙ c.in_ok-bytes.ensures) c.replace_journal.ensures.err
+returns-clause-err g c = found_unended c.replace_if.result c.args.file.now c.args.session.now c.args.desk.now c.find_journal.new.desk c.replace_if.new.desk c.in_ok-find_journal.ensures.ok c.replace_if.ensures.err

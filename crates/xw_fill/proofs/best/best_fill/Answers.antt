@@ -8,3 +8,12 @@ returns-else-eq-clause-ok g c = c.in_ok-best.ensures.ok
 
 pub returns-clause-ok : goal.returns-clause-ok
 returns-clause-ok g c = c.in_ok-best-2.ensures.ok
+
+pub returns-then-eq-clause-one : goal.returns-then-eq-clause-one
+returns-then-eq-clause-one g c = c.in_ok-best.ensures.one
+
+pub returns-else-eq-clause-one : goal.returns-else-eq-clause-one
+returns-else-eq-clause-one g c = c.in_ok-best.ensures.one
+
+pub returns-clause-one : goal.returns-clause-one
+returns-clause-one g c = c.in_ok-best-2.ensures.one

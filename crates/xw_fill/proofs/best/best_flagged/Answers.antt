@@ -1,9 +1,9 @@
-use Rattle.std.proofs.Common.{◌≡◌, sym, ap, ◌∙◌, subst, inl, inr}
+use Rattle.std.proofs.Common.{◌≡◌, arith, sym, ap, ◌∙◌, subst, inl, inr}
 use Rattle.std.specs.Prelude.{IfSome}
 use Rattle.xw_feas.specs.State.{State}
 use Rattle.xw_fill.specs.NamedFill.{flags}
 use Rattle.xw_fill.specs.Best.{IsBest}
-use Rattle.xw_fill.specs.Inner.Climbing.{IsIdle}
+use Rattle.xw_fill.specs.Inner.Climbing.{IsClimbing, IsIdle}
 use Rattle.xw_fill.specs.declared.best.Best.TheVariants.{Limit}
 use Rattle.xw_fill.proofs.ClimbLemmas.{no_limit}
 use Rattle.xw_fill.proofs.best.best_flagged.Goals as goal
@@ -29,6 +29,26 @@ returns-clause-counted g c =
           c.finish.ensures.idle (climbed.idle none began) ∙ c.in_ok-run.ensures.unchanged ∙ c.in_ok-climb.ensures.unchanged;
     }
 
+pub returns-clause-one : goal.returns-clause-one
+returns-clause-one g c =
+    let began = c.in_ok-climb.ensures in
+    let ran = c.in_ok-run.ensures in
+    let saved = g.E.Searchable.saved in
+    let start = g.E.Feasible.state c.args.engine.now in
+    let named = ap (λ plan. plan.named) began.plan ∙ c.in_ok-plan.ensures.named in
+    record {
+      first = c.in_ok-climb.climb;
+      last = c.run.new.self;
+      began = began.climbing;
+      lights = λ light in_grid. ap (λ vec. flags vec.items light) named;
+      empty = began.none;
+      own = began.counted;
+      climbed = ran.climbed;
+      ended = subst (IsClimbing saved c.run.new.self) (ran.unchanged ∙ began.unchanged) ran.climbing;
+      answer = c.finish.ensures.found;
+      entered = c.finish.ensures.entered;
+    }
+
 pub returns-clause-limit : goal.returns-clause-limit
 returns-clause-limit g c bound is =
     let climb = c.run.new.self in
@@ -37,3 +57,6 @@ returns-clause-limit g c bound is =
       | inl spent ↦ spent
       | inr over ↦ absurd (no_limit climb.found climb.prober.least climb.bound bound over (sym c.finish.ensures.found ∙ told))
     ]
+
+pub returns-clause-within : goal.returns-clause-within
+returns-clause-within g c = omega (arith, c.in_ok-run.ensures.within, c.finish.ensures.count, c.in_ok-climb.ensures.count, c.in_ok-climb.ensures.tries)

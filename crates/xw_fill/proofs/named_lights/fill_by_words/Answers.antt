@@ -25,3 +25,9 @@ returns-clause-found g c =
 pub returns-clause-ok : goal.returns-clause-ok
 returns-clause-ok g c =
     filled_all c.share.result (g.E.Feasible.state c.args.engine.now) (g.E.Feasible.state c.fill.new.engine) c.in_ok-filling.filling (g.met.E.Feasible.well_formed c.args.engine.now).board c.in_ok-filling.ensures.found c.in_ok-filling.ensures.fill
+
+pub returns-clause-within : goal.returns-clause-within
+returns-clause-within g c = omega (arith, c.fill.ensures.within, c.share.ensures, c.count_all.ensures.made)
+
+pub returns-clause-placed : goal.returns-clause-placed
+returns-clause-placed g c is_limit = omega (arith, c.in_ok-filling.ensures.limit is_limit, c.share.ensures, c.count_all.ensures.made)

@@ -14,8 +14,13 @@ abbrev is_filled : Ending → Type 0
 is_filled endings.Filled = Unit {0}
 is_filled other = ⊥
 
+-- an ending that is Memory
+abbrev is_memory : Ending → Type 0
+is_memory endings.Memory = Unit {0}
+is_memory other = ⊥
+
 pub loop-effort-init : goal.loop-effort-init
-loop-effort-init g c = record { same = refl; made = omega arith; until = refl; limit = refl; ready = c.requires.ready }
+loop-effort-init g c = record { same = refl; made = omega arith; until = refl; limit = refl; count = refl; ready = c.requires.ready }
 
 pub run-requires-clause-plan : goal.run-requires-clause-plan
 run-requires-clause-plan g c = subst (λ (s : State). IsPlan (position_of s) c.args.plan.now) (sym c.loop-effort.invariant.same) c.requires.plan
@@ -57,6 +62,7 @@ loop-effort-preserved g c = record {
   made = omega (arith, c.loop-effort.invariant.made, c.run.ensures.counted.made);
   until = c.run.ensures.until ∙ c.loop-effort.invariant.until;
   limit = c.run.ensures.counted.limit ∙ c.loop-effort.invariant.limit;
+  count = omega (arith, c.loop-effort.invariant.count, c.in-Cut.ensures.placed (λ e. subst is_memory (sym e) tt));
   ready = subst (IsReady g.E.Searchable.saved c.run.new.stack) (sym (c.in-Cut.ensures.same (λ e. subst is_filled (sym e) tt))) c.run.ensures.ready;
 }
 
@@ -100,3 +106,24 @@ returns-in-Limit-clause-ready g c = subst (IsReady g.E.Searchable.saved c.run.ne
 
 pub returns-in-Memory-clause-ready : goal.returns-in-Memory-clause-ready
 returns-in-Memory-clause-ready g c = subst (IsReady g.E.Searchable.saved c.run.new.stack) c.loop-effort.invariant.same c.run.ensures.ready
+
+pub returns-in-Filled-clause-placed : goal.returns-in-Filled-clause-placed
+returns-in-Filled-clause-placed g c = omega (arith, c.loop-effort.invariant.count, c.in-Filled.ensures.placed (λ e. subst is_memory (sym e) tt))
+
+pub returns-in-NoFill-clause-placed : goal.returns-in-NoFill-clause-placed
+returns-in-NoFill-clause-placed g c = omega (arith, c.loop-effort.invariant.count, c.in-NoFill.ensures.placed (λ e. subst is_memory (sym e) tt))
+
+pub returns-in-Limit-clause-placed : goal.returns-in-Limit-clause-placed
+returns-in-Limit-clause-placed g c = omega (arith, c.loop-effort.invariant.count, c.in-Limit.ensures.placed (λ e. subst is_memory (sym e) tt))
+
+pub returns-in-Filled-clause-within : goal.returns-in-Filled-clause-within
+returns-in-Filled-clause-within g c = omega (arith, c.loop-effort.invariant.count, c.run.ensures.within)
+
+pub returns-in-NoFill-clause-within : goal.returns-in-NoFill-clause-within
+returns-in-NoFill-clause-within g c = omega (arith, c.loop-effort.invariant.count, c.run.ensures.within)
+
+pub returns-in-Limit-clause-within : goal.returns-in-Limit-clause-within
+returns-in-Limit-clause-within g c = omega (arith, c.loop-effort.invariant.count, c.run.ensures.within)
+
+pub returns-in-Memory-clause-within : goal.returns-in-Memory-clause-within
+returns-in-Memory-clause-within g c = omega (arith, c.loop-effort.invariant.count, c.run.ensures.within)

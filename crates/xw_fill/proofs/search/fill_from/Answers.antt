@@ -112,6 +112,7 @@ search-preserved-in-None-next_word_index g c =
       searching = searching-spent start current c.search.stack.placements.items c.search.used c.in-Words.light c.in-Words.from sound searching c.in-None-next_word_index.ensures;
       room = c.search.invariant.room;
       few = c.search.invariant.few;
+      count = c.search.invariant.count;
     }
 
 pub returns-in-None-clause-answers : goal.returns-in-None-clause-answers
@@ -135,6 +136,7 @@ search-init g c =
       stands = c.requires.stands;
       room = c.requires.room;
       few = omega arith;
+      count = omega arith;
       noted = rw c.requires.empty c.requires.entered;
       long = c.requires.long;
     }
@@ -162,6 +164,7 @@ search-preserved-in-Some g c =
       stands = c.back.ensures.stands;
       room = rw c.back.ensures.capacity c.search.invariant.room;
       few = c.search.invariant.few;
+      count = c.back.ensures.count ∙ c.search.invariant.count;
       long = c.search.invariant.long;
       noted = noted-back left start tried c.search.since 0 (subst (λ tries. AreNotedAlong start tries c.search.since 0) items c.search.invariant.noted);
     }
@@ -242,6 +245,7 @@ search-preserved-in-Some-try_word g c =
       stands = c.try_word.ensures.stands;
       room = omega (arith, c.try_word.ensures.capacity, c.search.invariant.room);
       few = omega (arith, c.if-used-limit.false, c.search.invariant.few);
+      count = omega (arith, c.try_word.ensures.count, c.search.invariant.count);
       noted = rw items (noted-more tries _ start _ _ current tried c.search.since c.try_word.new.since 0 c.search.invariant.searching.trail c.search.invariant.noted stay last);
       long = c.try_word.ensures.long ∙ c.search.invariant.long;
     }
@@ -268,6 +272,7 @@ search-preserved g c =
       stands = c.try_word.ensures.stands;
       room = omega (arith, c.try_word.ensures.capacity, c.search.invariant.room);
       few = omega (arith, c.if-used-limit.false, c.search.invariant.few);
+      count = omega (arith, c.try_word.ensures.count, c.search.invariant.count);
       noted = rw (died.kept, died.notes) c.search.invariant.noted;
       long = ap length died.notes ∙ c.search.invariant.long;
     }
@@ -300,3 +305,15 @@ search-smaller-in-Some-try_word g c =
 
 pub search-smaller : goal.search-smaller
 search-smaller g c = omega (arith, ap length c.in-None-try_word.ensures.died.kept, c.if-used-limit.false, c.search.invariant.few)
+
+pub returns-in-Done-clause-within : goal.returns-in-Done-clause-within
+returns-in-Done-clause-within g c = omega (arith, c.search.invariant.count, c.search.invariant.few)
+
+pub returns-in-None-clause-within : goal.returns-in-None-clause-within
+returns-in-None-clause-within g c = omega (arith, c.back.ensures.count, c.search.invariant.count, c.search.invariant.few)
+
+pub returns-then-used-limit-clause-within : goal.returns-then-used-limit-clause-within
+returns-then-used-limit-clause-within g c = omega (arith, c.reset.ensures.count, c.search.invariant.count, c.search.invariant.few)
+
+pub returns-then-used-limit-clause-limit : goal.returns-then-used-limit-clause-limit
+returns-then-used-limit-clause-limit g c is_limit = omega (arith, c.reset.ensures.count, c.search.invariant.count, c.if-used-limit.true)

@@ -22,6 +22,7 @@ invariant-search g l =
       stands : StandsAt g.E.Searchable.saved IsMade is_forced l.stack now;
       room : light_count (position_of start) ≤ vec_capacity l.stack.placements;
       few : l.used ≤ l.limit;
+      count : g.E.Feasible.placed l.engine ≡ l.used + g.E.Feasible.placed l.initial.engine;
       long : length l.since ≡ light_count (position_of start);
       noted : AreNotedAlong (position_of start) tries l.since 0;
     }

@@ -1,9 +1,11 @@
-use Rattle.std.proofs.Common.{◌+◌, ◌<◌, ◌≤◌, length, take, None, sym, ◌∙◌, subst, arith}
+use Rattle.std.proofs.Common.{[], ◌+◌, ◌<◌, ◌≤◌, length, take, None, refl, sym, ◌∙◌, subst, arith}
 use Rattle.std.proofs.lemmas.List.{length-set, take_more_set}
 use Rattle.xw_feas.specs.Board.{board_of, light_at}
 use Rattle.xw_feas.proofs.ShapeLemmas.{light_small}
 use Rattle.xw_fill.proofs.StateLemmas.{in_grid_light, light_size}
 use Rattle.xw_fill.proofs.ScanLemmas.{IsTakingBack, take_back-init, take_back-step, take_back-pass, take_back-end}
+use Rattle.xw_feas.specs.State.{list_written}
+use Rattle.xw_fill.proofs.CountLemmas.{uncounted}
 use Rattle.xw_fill.proofs.tries.clear_blanks.Goals as goal
 use Rattle.xw_fill.proofs.tries.clear_blanks.Goals.{then-tried-pos, else-tried-pos}
 
@@ -63,10 +65,14 @@ returns-clause-back g c =
     let before = g.E.Feasible.state c.args.engine.now in
     let found = c.light_at-light.result in
     let all : length (light_at (board_of before.grid) c.args.tried.now.light) ≤ c.loop-pos.pos = omega (arith, light_size before.grid c.args.tried.now.light c.light_at-light.result (in_grid_light before.grid c.args.tried.now.light c.requires) c.light_at-light.ensures, c.loop-pos-test.false) in
-    (take_back-end before (g.E.Feasible.state c.edit.follows.lender-at-none) (g.E.Feasible.answers c.args.engine.now) (g.E.Feasible.answers c.edit.follows.lender-at-none) c.args.tried.now _ c.loop-pos.pos c.edit.result c.loop-pos.invariant.back all c.edit.follows.holds-at-none).0
+    (take_back-end before (g.E.Feasible.state c.edit.follows.lender-at-none) (g.E.Feasible.answers c.args.engine.now) (g.E.Feasible.answers c.edit.follows.lender-at-none) c.args.tried.now _ c.loop-pos.pos c.edit.result c.loop-pos.invariant.back all c.edit.follows.holds-at-none.0).0
 
 pub returns-clause-entries : goal.returns-clause-entries
 returns-clause-entries g c =
     let before = g.E.Feasible.state c.args.engine.now in
     let all : length (light_at (board_of before.grid) c.args.tried.now.light) ≤ c.loop-pos.pos = omega (arith, light_size before.grid c.args.tried.now.light c.light_at-light.result (in_grid_light before.grid c.args.tried.now.light c.requires) c.light_at-light.ensures, c.loop-pos-test.false) in
-    (take_back-end before (g.E.Feasible.state c.edit.follows.lender-at-none) (g.E.Feasible.answers c.args.engine.now) (g.E.Feasible.answers c.edit.follows.lender-at-none) c.args.tried.now _ c.loop-pos.pos c.edit.result c.loop-pos.invariant.back all c.edit.follows.holds-at-none).1
+    (take_back-end before (g.E.Feasible.state c.edit.follows.lender-at-none) (g.E.Feasible.answers c.args.engine.now) (g.E.Feasible.answers c.edit.follows.lender-at-none) c.args.tried.now _ c.loop-pos.pos c.edit.result c.loop-pos.invariant.back all c.edit.follows.holds-at-none.0).1
+
+-- whatever the list
+pub returns-clause-count : goal.returns-clause-count
+returns-clause-count g c = c.edit.follows.holds-at-none.1 ∙ uncounted (list_written []) c.edit.result (g.E.Feasible.placed c.args.engine.now) refl

@@ -8,7 +8,10 @@ pub place_word_at-requires-clause-index : goal.place_word_at-requires-clause-ind
 place_word_at-requires-clause-index g c = known_within (g.E.Feasible.state c.args.engine.now) c.args.light c.args.index c.requires.light c.requires.index
 
 pub returns-clause-placed : goal.returns-clause-placed
-returns-clause-placed g c = (placing_known (g.E.Feasible.state c.args.engine.now) (g.E.Feasible.state c.place_word_at.new.self) c.args.light c.args.index (g.met.E.Feasible.well_formed c.args.engine.now) c.requires.light c.requires.index c.place_word_at.ensures).0
+returns-clause-placed g c = (placing_known (g.E.Feasible.state c.args.engine.now) (g.E.Feasible.state c.place_word_at.new.self) c.args.light c.args.index (g.met.E.Feasible.well_formed c.args.engine.now) c.requires.light c.requires.index c.place_word_at.ensures.made).0
 
 pub returns-clause-entries : goal.returns-clause-entries
-returns-clause-entries g c = (placing_known (g.E.Feasible.state c.args.engine.now) (g.E.Feasible.state c.place_word_at.new.self) c.args.light c.args.index (g.met.E.Feasible.well_formed c.args.engine.now) c.requires.light c.requires.index c.place_word_at.ensures).1
+returns-clause-entries g c = (placing_known (g.E.Feasible.state c.args.engine.now) (g.E.Feasible.state c.place_word_at.new.self) c.args.light c.args.index (g.met.E.Feasible.well_formed c.args.engine.now) c.requires.light c.requires.index c.place_word_at.ensures.made).1
+
+pub returns-clause-count : goal.returns-clause-count
+returns-clause-count g c = c.place_word_at.ensures.placed

@@ -28,6 +28,7 @@ loop-low-preserved-then-is_dead_at g c =
           let found = c.is_dead_at.ensures.dead c.if-is_dead_at.true in
           (found.0, subst (λ (s : State). IsDead watched (position_of s) found.0) (inv.differs grade) found.1);
       alive = inv.alive;
+      count = c.is_dead_at.ensures.count ∙ inv.count;
     }
 
 pub loop-low-preserved : goal.loop-low-preserved
@@ -48,6 +49,7 @@ loop-low-preserved g c =
           let here : grade ≡ other = omega (arith, next) in
           subst (λ n. AreAlive watched (position_of (at_least start n))) here
           (subst (λ (s : State). AreAlive watched (position_of s)) (inv.differs grade) (c.is_dead_at.ensures.alive c.if-is_dead_at.false));
+      count = c.is_dead_at.ensures.count ∙ inv.count;
     }
 
 pub returns-clause-alive : goal.returns-clause-alive

@@ -11,6 +11,7 @@ invariant-loop-low g l = record {
   below : l.high ≤ l.to;
   dead : l.high < l.to → IsDeadAt (flags l.watched) (g.E.Feasible.state l.initial.engine) l.high;
   alive : (grade : ℕ) → l.from ≤ grade → suc grade ≡ l.low → AreAliveAt (flags l.watched) (g.E.Feasible.state l.initial.engine) grade;
+  count : g.E.Feasible.placed l.engine ≡ g.E.Feasible.placed l.initial.engine;
 }
 
 abbrev pub decreases-loop-low : goal.decreases-loop-low

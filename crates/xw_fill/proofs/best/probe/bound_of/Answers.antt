@@ -24,4 +24,4 @@ returns-clause-bound g c =
 pub returns-clause-unchanged : goal.returns-clause-unchanged
 returns-clause-unchanged g c =
     let state = g.E.Feasible.state c.args.engine.now in
-    c.choose_least.ensures ∙ c.first_deadly-bound.ensures.state c.args.least ∙ ap (λ n. at_least state n) c.requires.least ∙ at_least-same state (g.met.E.Feasible.well_formed c.args.engine.now)
+    c.choose_least.ensures.state ∙ c.first_deadly-bound.ensures.state c.args.least ∙ ap (λ n. at_least state n) c.requires.least ∙ at_least-same state (g.met.E.Feasible.well_formed c.args.engine.now)

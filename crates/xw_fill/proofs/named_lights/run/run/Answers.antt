@@ -1,4 +1,4 @@
-use Rattle.std.proofs.Common.{◌∙◌, subst}
+use Rattle.std.proofs.Common.{◌∙◌, subst, arith}
 use Rattle.xw_feas.proofs.SnapshotLemmas.{IsTwin-then, IsTwin-turned, CanSave-twin}
 use Rattle.xw_fill.specs.Inner.Stack.{IsReady}
 use Rattle.xw_fill.proofs.AllowanceLemmas.{counted_same}
@@ -27,3 +27,9 @@ returns-else-ne-clause-ready g c =
       root = CanSave-twin (saved stack.root) before (IsTwin-then (saved stack.root) now before c.search-ending.ensures.twin back);
       marks = CanMark-then saved stack.marks now before (CanSave-twin now before back) c.search-ending.ensures.marks;
     }
+
+pub returns-then-ne-clause-placed : goal.returns-then-ne-clause-placed
+returns-then-ne-clause-placed g c no_memory = omega (arith, c.search-ending.ensures.placed no_memory, c.reset.ensures.count)
+
+pub returns-then-ne-clause-within : goal.returns-then-ne-clause-within
+returns-then-ne-clause-within g c = omega (arith, c.search-ending.ensures.within, c.reset.ensures.count)

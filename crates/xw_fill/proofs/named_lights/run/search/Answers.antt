@@ -43,6 +43,7 @@ loop-letter-init g c =
       stand = omega (arith, ap length c.requires.empty);
       until = refl;
       limit = refl;
+      count = refl;
     }
 
 pub next_letter-requires : goal.next_letter-requires
@@ -95,6 +96,7 @@ loop-letter-preserved-in_default-next_letter g c =
       stand = omega (arith, inv.stand, ap length taken.placements_are, length-append c.retreat.new.self.placements.items (c.in-Some-retreat.below ∷ taken.after));
       until = inv.until;
       limit = inv.limit;
+      count = omega (arith, inv.count, c.retreat.ensures.count);
     }
 
 pub returns-then-is_spent-clause-twin : goal.returns-then-is_spent-clause-twin
@@ -167,6 +169,7 @@ loop-letter-preserved-then-not-stands g c =
       stand = omega (arith, c.loop-letter.invariant.stand, c.try_letter.ensures.made, ap length led.0);
       until = c.try_letter.ensures.until ∙ c.loop-letter.invariant.until;
       limit = c.try_letter.ensures.limit ∙ c.loop-letter.invariant.limit;
+      count = omega (arith, c.loop-letter.invariant.count, c.in-Ok.ensures.placed, c.try_letter.ensures.made);
     }
 
 pub next_cell-requires-in-loop-letter : goal.next_cell-requires-in-loop-letter
@@ -231,6 +234,7 @@ loop-letter-preserved g c =
       stand = omega (arith, c.loop-letter.invariant.stand, c.try_letter.ensures.made, ap length led.0, length-append stack (frame ∷ []));
       until = c.try_letter.ensures.until ∙ c.loop-letter.invariant.until;
       limit = c.try_letter.ensures.limit ∙ c.loop-letter.invariant.limit;
+      count = omega (arith, c.loop-letter.invariant.count, c.in-Ok.ensures.placed, c.try_letter.ensures.made);
     }
 
 pub returns-in_default-clause-counted : goal.returns-in_default-clause-counted
@@ -268,3 +272,31 @@ returns-in_default-next_cell-clause-counted g c =
 
 pub returns-then-fails-cut-clause-cut : goal.returns-then-fails-cut-clause-cut
 returns-then-fails-cut-clause-cut g c is_cut = omega (arith, c.loop-letter.invariant.stand, c.try_letter.ensures.made)
+
+pub returns-in_default-retreat-clause-placed : goal.returns-in_default-retreat-clause-placed
+returns-in_default-retreat-clause-placed g c no_memory = omega (arith, c.loop-letter.invariant.count, c.retreat.ensures.count)
+
+pub returns-in_default-retreat-clause-within : goal.returns-in_default-retreat-clause-within
+returns-in_default-retreat-clause-within g c = omega (arith, c.loop-letter.invariant.count, c.retreat.ensures.count)
+
+pub returns-then-is_spent-clause-placed : goal.returns-then-is_spent-clause-placed
+returns-then-is_spent-clause-placed g c no_memory = c.loop-letter.invariant.count
+
+pub returns-then-is_spent-clause-within : goal.returns-then-is_spent-clause-within
+returns-then-is_spent-clause-within g c = omega (arith, c.loop-letter.invariant.count)
+
+-- a letter that found no memory was counted and not placed
+pub returns-in_default-try_letter-clause-within : goal.returns-in_default-try_letter-clause-within
+returns-in_default-try_letter-clause-within g c = omega (arith, c.loop-letter.invariant.count, c.in_default-try_letter.ensures.none, c.try_letter.ensures.made)
+
+pub returns-then-fails-cut-clause-placed : goal.returns-then-fails-cut-clause-placed
+returns-then-fails-cut-clause-placed g c no_memory = omega (arith, c.loop-letter.invariant.count, c.in-Ok.ensures.placed, c.try_letter.ensures.made)
+
+pub returns-then-fails-cut-clause-within : goal.returns-then-fails-cut-clause-within
+returns-then-fails-cut-clause-within g c = omega (arith, c.loop-letter.invariant.count, c.in-Ok.ensures.placed, c.try_letter.ensures.made)
+
+pub returns-in_default-next_cell-clause-placed : goal.returns-in_default-next_cell-clause-placed
+returns-in_default-next_cell-clause-placed g c no_memory = omega (arith, c.loop-letter.invariant.count, c.in-Ok.ensures.placed, c.try_letter.ensures.made)
+
+pub returns-in_default-next_cell-clause-within : goal.returns-in_default-next_cell-clause-within
+returns-in_default-next_cell-clause-within g c = omega (arith, c.loop-letter.invariant.count, c.in-Ok.ensures.placed, c.try_letter.ensures.made)

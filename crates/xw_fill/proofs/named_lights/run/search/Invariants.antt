@@ -1,4 +1,5 @@
 use Rattle.std.proofs.Common.{◌≡◌, ◌≤◌, ◌+◌, ◌-◌, ◌*◌, length}
+use Rattle.xw_fill.specs.Allowance.{HasPlaced}
 use Rattle.xw_fill.specs.NamedFill.{flags}
 use Rattle.xw_fill.specs.Inner.Progress.{is_forced, IsLetterEntered}
 use Rattle.xw_fill.specs.Inner.Stack.{start_of, StandsAt}
@@ -16,6 +17,7 @@ invariant-loop-letter g l =
       stand : l.initial.allowance.made + length l.stack.placements.items ≤ l.allowance.made;
       until : l.allowance.until ≡ l.initial.allowance.until;
       limit : l.allowance.limit ≡ l.initial.allowance.limit;
+      count : HasPlaced l.initial.allowance l.allowance (g.E.Feasible.placed l.initial.engine) (g.E.Feasible.placed l.engine);
     }
 
 abbrev pub decreases-loop-letter : goal.decreases-loop-letter

@@ -53,7 +53,7 @@ back_at g c =
     elim c.if-not-unmark.branch [
       | then-not-unmark w ↦
           ap g.E.Feasible.state w.engine-is
-          ∙ w.take_back.ensures parted.before (subst (λ engine. is_placed c.in_ok-last.last parted.before (g.E.Feasible.state engine)) (sym (c.unmark.ensures.engine_same w.if-not-unmark.true)) parted.is)
+          ∙ w.take_back.ensures.back parted.before (subst (λ engine. is_placed c.in_ok-last.last parted.before (g.E.Feasible.state engine)) (sym (c.unmark.ensures.engine_same w.if-not-unmark.true)) parted.is)
       | else-not-unmark w ↦
           ap g.E.Feasible.state w.engine-is
           ∙ sym (marked_at g c w.if-not-unmark.false).1

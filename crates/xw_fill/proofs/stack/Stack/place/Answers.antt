@@ -14,7 +14,7 @@ pub returns-then-is_err-clause-entries : goal.returns-then-is_err-clause-entries
 returns-then-is_err-clause-entries g c = DiffersInEntries-itself (g.E.Feasible.state c.args.engine.now)
 
 pub returns-clause-entries : goal.returns-clause-entries
-returns-clause-entries g c = g.met.M.Placement.entries c.args.placement (g.E.Feasible.state c.args.engine.now) (g.E.Feasible.state c.place.new.engine) c.place.ensures
+returns-clause-entries g c = g.met.M.Placement.entries c.args.placement (g.E.Feasible.state c.args.engine.now) (g.E.Feasible.state c.place.new.engine) c.place.ensures.placed
 
 pub returns-clause-stands : goal.returns-clause-stands
 returns-clause-stands g c =
@@ -28,9 +28,9 @@ returns-clause-stands g c =
     let all = held_of saved old.marks ++ before ∷ [] in
     let ok : is_ok c.push.result ≡ true = c.is_err.ensures.negation ∙ ap not c.if-is_err.false in
     let pushed : c.push.new.self.items ≡ old.placements.items ++ c.args.placement ∷ [] = c.push.ensures.items ∙ ap (λ b. cond b (old.placements.items ++ c.args.placement ∷ []) old.placements.items) ok in
-    let twin = IsTwin-entries before after (g.met.M.Placement.entries c.args.placement before after c.place.ensures) in
+    let twin = IsTwin-entries before after (g.met.M.Placement.entries c.args.placement before after c.place.ensures.placed) in
     let states = stands.states ++ before ∷ [] in
-    let through = subst (λ items. LeadThrough is_placed items states after) (sym pushed) (lead_more is_placed old.placements.items c.args.placement stands.states before after stands.through c.place.ensures) in
+    let through = subst (λ items. LeadThrough is_placed items states after) (sym pushed) (lead_more is_placed old.placements.items c.args.placement stands.states before after stands.through c.place.ensures.placed) in
     let root = IsTwin-then (saved old.root) before after stands.root twin in
     elim c.if-not-is_forced.branch [
       | then-not-is_forced w ↦

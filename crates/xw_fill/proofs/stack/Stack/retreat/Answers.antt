@@ -32,6 +32,7 @@ loop-last-init g c =
         choices = stands.held;
         unmarked = λ is. ap g.E.Feasible.state (c.back-is_marked.ensures.engine_same is);
       };
+      count = c.back-is_marked.ensures.count;
       at_mark = λ is. refl;
     }
 
@@ -51,6 +52,7 @@ loop-last-preserved g c =
       capacity = c.pop.ensures.capacity ∙ invariant.capacity;
       on = on_more g.M.Placement.is_placed g.M.Placement.forced c.args.self.now.placements.items (g.E.Feasible.state c.args.engine.now) (held_of g.E.Searchable.saved c.args.self.now.marks) c.loop-last.self.placements.items c.back-is_marked.result (g.E.Feasible.state c.loop-last.engine) c.loop-last.invariant.on c.pop.new.self.items c.in-Some.last c.in-Some.ensures.items (g.E.Feasible.state c.undo.new.engine) (sym c.is_forced.ensures ∙ c.if-not-is_forced.false)
           (λ is. c.undo.ensures.back is last.before (subst (g.M.Placement.is_placed c.in-Some.last last.before) (sym (invariant.on.unmarked is)) last.is));
+      count = c.undo.ensures.count ∙ invariant.count;
       at_mark = λ is. ap g.E.Feasible.state (c.undo.ensures.same is) ∙ invariant.at_mark is;
     }
 
@@ -149,3 +151,6 @@ returns-clause-stands g c =
 pub returns-clause-same : goal.returns-clause-same
 returns-clause-same g c = λ none.
     on_none g.M.Placement.is_placed g.M.Placement.forced c.args.self.now.placements.items (g.E.Feasible.state c.args.engine.now) (held_of g.E.Searchable.saved c.args.self.now.marks) c.loop-last.self.placements.items c.back-is_marked.result (g.E.Feasible.state c.loop-last.engine) c.loop-last.invariant.on (unmarked_at g c) none
+
+pub returns-then-not-is_forced-clause-count : goal.returns-then-not-is_forced-clause-count
+returns-then-not-is_forced-clause-count g c = c.undo.ensures.count ∙ c.loop-last.invariant.count

@@ -11,6 +11,7 @@ invariant-loop-last g l = record {
   unprepared : l.self.is_prepared ≡ false;
   capacity : vec_capacity l.self.placements ≡ vec_capacity l.fn.self.placements;
   on : IsOnTheWay g.M.Placement.is_placed g.M.Placement.forced l.fn.self.placements.items (g.E.Feasible.state l.fn.engine) (held_of g.E.Searchable.saved l.fn.self.marks) l.self.placements.items l.is_marked (g.E.Feasible.state l.engine);
+  count : g.E.Feasible.placed l.engine ≡ g.E.Feasible.placed l.fn.engine;
   at_mark : l.is_marked ≡ true → g.E.Feasible.state l.engine ≡ g.E.Feasible.state l.initial.engine;
 }
 

@@ -7,3 +7,6 @@ returns-clause-placed g c = none_then c.try_word.result c.try_word.ensures.place
 
 pub returns-clause-dead : goal.returns-clause-dead
 returns-clause-dead g c = IfSome_then c.try_word.result c.try_word.ensures.dead (λ light is. (is.0, word_makes c.args.self.now (g.E.Feasible.state c.args.engine.now) is.0 (g.met.E.Feasible.well_formed c.args.engine.now) c.requires.may is.1, is.2))
+
+pub returns-clause-count : goal.returns-clause-count
+returns-clause-count g c = c.try_word.ensures.count

@@ -23,8 +23,8 @@ invariant_of-self c =
       same_cells = entries_cells old.position now action old.net old.kept c.place_known.ensures.made c.place_known.ensures.shape c.settle-self.new.net c.keep_letters.new.before.items c.keep_letters.ensures kept;
     }
 
-pub returns : goal.returns
-returns c =
+pub returns-clause-done : goal.returns-clause-done
+returns-clause-done c =
     let old = c.args.self.now in
     let now = c.place_known.new.self in
     let action = known_placed (state_of old) c.args.light c.args.index in

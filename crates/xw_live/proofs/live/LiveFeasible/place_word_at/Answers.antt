@@ -1,4 +1,7 @@
 use Rattle.xw_live.proofs.live.LiveFeasible.place_word_at.Goals as goal
 
-pub returns : goal.returns
-returns c = c.place_known.ensures
+pub returns-clause-done : goal.returns-clause-done
+returns-clause-done c = c.place_known.ensures.done
+
+pub returns-clause-placed : goal.returns-clause-placed
+returns-clause-placed c = c.place_known.ensures.placed

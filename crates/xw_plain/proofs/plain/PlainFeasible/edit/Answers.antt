@@ -13,13 +13,16 @@ returns c =
       (
         refl,
         (λ _. tt),
-        record {
-          state = c.in_ok-apply.ensures.made;
-          changes =
-              ap spelled_out (c.changed.ensures ∙ ap (λ before. changed_sets new.position.grid before new.letters.items 0) c.in_ok-apply.ensures.letters)
-              ∙ changes_told new.position.grid old.letters.items new.letters.items (answers_of (board_of old.position.grid) old.position.bank.words old.words.items old.letters.items) (answers_of (board_of new.position.grid) new.position.bank.words new.words.items new.letters.items)
-              (λ index. sets_at (board_of old.position.grid) old.position.bank.words old.words.items old.letters.items index) (λ index. sets_at (board_of new.position.grid) new.position.bank.words new.words.items new.letters.items index);
-        },
+        (
+          record {
+            state = c.in_ok-apply.ensures.made;
+            changes =
+                ap spelled_out (c.changed.ensures ∙ ap (λ before. changed_sets new.position.grid before new.letters.items 0) c.in_ok-apply.ensures.letters)
+                ∙ changes_told new.position.grid old.letters.items new.letters.items (answers_of (board_of old.position.grid) old.position.bank.words old.words.items old.letters.items) (answers_of (board_of new.position.grid) new.position.bank.words new.words.items new.letters.items)
+                (λ index. sets_at (board_of old.position.grid) old.position.bank.words old.words.items old.letters.items index) (λ index. sets_at (board_of new.position.grid) new.position.bank.words new.words.items new.letters.items index);
+          },
+          c.in_ok-apply.ensures.placed,
+        ),
       ),
       record { edited = tt },
     )

@@ -21,8 +21,8 @@ returns g c =
     let told = c.with_watch-edited.ensures in
     subst (λ (s : SessionState). AnswersBy g.W.Sink.transcript g.W.Sink.failures s (moved s (after s.engine action)) (want_of_action s action) c.answer_lines.result end c.args.sink.now c.answer_lines.new.sink) c.self.view_is (record {
       reply = _;
-      fits = edit_fits start (g.E.Feasible.state now) (g.E.Feasible.answers left.engine) (g.E.Feasible.answers now) action (g.met.E.Feasible.exact left.engine) (g.met.E.Feasible.exact now) c.edit.result c.edit.follows.holds-at-none;
-      effect = edit_effect start (g.E.Feasible.state now) (g.E.Feasible.answers left.engine) (g.E.Feasible.answers now) action c.edit.result c.edit.follows.holds-at-none;
+      fits = edit_fits start (g.E.Feasible.state now) (g.E.Feasible.answers left.engine) (g.E.Feasible.answers now) action (g.met.E.Feasible.exact left.engine) (g.met.E.Feasible.exact now) c.edit.result c.edit.follows.holds-at-none.0;
+      effect = edit_effect start (g.E.Feasible.state now) (g.E.Feasible.answers left.engine) (g.E.Feasible.answers now) action c.edit.result c.edit.follows.holds-at-none.0;
       sends = subst (λ (edited : Result Watched Refusal). Sends g.W.Sink.transcript g.W.Sink.failures c.args.sink.now c.answer_lines.new.sink c.answer_lines.result (text_of (lines_reply watched_lines edited end))) told (c.answer_lines.ensures.sends end);
       step = subst (λ (edited : Result Watched Refusal). IfOk c.answer_lines.result (λ ended. ended ≡ ended_by (lines_reply watched_lines edited end))) told (c.answer_lines.ensures.step end);
     })

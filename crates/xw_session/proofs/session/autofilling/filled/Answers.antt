@@ -23,3 +23,15 @@ pub returns-clause-idle : goal.returns-clause-idle
 returns-clause-idle g c none =
     let made = c.autofill.new.allowance in
     c.autofill.ensures.counted.idle (omega (arith, none, c.autofill.ensures.counted.limit, c.new-allowance.ensures.made, c.new-allowance.ensures.limit, made.within, made.shared))
+
+pub returns-clause-within : goal.returns-clause-within
+returns-clause-within g c =
+    let made = c.autofill.new.allowance in
+    omega (arith, c.autofill.ensures.within, c.autofill.ensures.counted.limit, c.new-allowance.ensures.made, c.new-allowance.ensures.limit, made.within, made.shared)
+
+pub returns-clause-limit : goal.returns-clause-limit
+returns-clause-limit g c is_limit =
+    omega (arith, c.autofill.ensures.placed is_limit, c.autofill.ensures.limit is_limit, c.autofill.ensures.counted.limit, c.new-allowance.ensures.made, c.new-allowance.ensures.limit)
+
+pub returns-in_err-names-clause-within : goal.returns-in_err-names-clause-within
+returns-in_err-names-clause-within g c = omega arith

@@ -15,4 +15,4 @@ returns-clause-climbing g c =
     let start = g.E.Feasible.state c.args.engine.now in
     let served = c.fill_part-filling.ensures in
     subst (IsClimbing saved c.go_back.new.self) (sym (c.go_back.ensures.back ∙ c.requires.climbing.began))
-    (c.go_back.ensures.climbing start (probed saved climb c.fill_part-filling.new.self start c.requires.climbing served.prober served.plan served.fresh))
+    (c.go_back.ensures.climbing start (probed saved climb (record climb { counted = c.of.result }) c.fill_part-filling.new.self start c.requires.climbing served.prober served.plan served.fresh))

@@ -18,7 +18,7 @@ fill_empty-filling-requires g c =
     let before = g.E.Feasible.state c.args.engine.now in
     let written = g.E.Feasible.state c.write.new.engine in
     let now = g.E.Feasible.state c.choose_least.new.engine in
-    let can = can_save_part before written now c.args.parts.now.grade (IsTwin-entries before written c.write.ensures.rest) c.choose_least.ensures in
+    let can = can_save_part before written now c.args.parts.now.grade (IsTwin-entries before written c.write.ensures.rest) c.choose_least.ensures.state in
     record { ready = ready_then g.E.Searchable.saved c.args.self.now.stack before now can.0 c.requires.prober.ready }
 
 pub returns-clause-prober : goal.returns-clause-prober
@@ -27,7 +27,7 @@ returns-clause-prober g c =
     let before = g.E.Feasible.state c.args.engine.now in
     let written = g.E.Feasible.state c.write.new.engine in
     let now = g.E.Feasible.state c.choose_least.new.engine in
-    let can = can_save_part before written now c.args.parts.now.grade (IsTwin-entries before written c.write.ensures.rest) c.choose_least.ensures in
+    let can = can_save_part before written now c.args.parts.now.grade (IsTwin-entries before written c.write.ensures.rest) c.choose_least.ensures.state in
     let filled = c.fill_empty-filling.ensures in
     served_more saved c.args.self.now c.fill_empty-filling.new.self before c.requires.prober filled.plan filled.fresh filled.least (ready_then saved c.fill_empty-filling.new.self.stack now before can.1 filled.ready)
 
@@ -37,4 +37,4 @@ returns-clause-twin g c =
     let written = g.E.Feasible.state c.write.new.engine in
     let filled = g.E.Feasible.state c.fill_empty-filling.new.engine in
     twin_back before written filled (g.E.Feasible.state c.choose_least-2.new.engine) c.args.parts.now.grade c.args.self.now.least (g.met.E.Feasible.well_formed c.args.engine.now) c.requires.prober.least
-    (IsTwin-entries before written c.write.ensures.rest) (subst (λ s. IsTwin s filled) c.choose_least.ensures c.fill_empty-filling.ensures.twin) c.choose_least-2.ensures
+    (IsTwin-entries before written c.write.ensures.rest) (subst (λ s. IsTwin s filled) c.choose_least.ensures.state c.fill_empty-filling.ensures.twin) c.choose_least-2.ensures.state

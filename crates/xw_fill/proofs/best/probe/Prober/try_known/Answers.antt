@@ -1,4 +1,4 @@
-use Rattle.std.proofs.Common.{◌≡◌, ◌<◌, ◌≤◌, ℕ, length, arith, sym, ap, ◌∙◌, subst}
+use Rattle.std.proofs.Common.{◌≡◌, ◌<◌, ◌≤◌, ℕ, length, arith, refl, sym, ap, ◌∙◌, subst}
 use Rattle.std.specs.Prelude.{Ok}
 use Rattle.xw_fill.specs.Position.{Position, position_of}
 use Rattle.xw_fill.specs.Search.{light_count}
@@ -7,7 +7,7 @@ use Rattle.xw_fill.specs.Best.{at_least}
 use Rattle.xw_fill.specs.Inner.Climbing.{AreFresh, AreActiveAt, AreAliveAt}
 use Rattle.xw_fill.specs.Inner.Progress.{is_watched}
 use Rattle.xw_fill.proofs.LetterSearch.{position_at}
-use Rattle.xw_fill.proofs.GradeLemmas.{served, active_now, alive_now, filled_now}
+use Rattle.xw_fill.proofs.GradeLemmas.{served_more, active_now, alive_now, filled_now}
 use Rattle.xw_fill.proofs.CandidateLemmas.{known_fill}
 use Rattle.xw_fill.proofs.best.probe.Prober.try_known.Goals as goal
 
@@ -53,10 +53,10 @@ greatest_grade-grade-requires-clause-alive g c =
     (alive_now plan.named.items c.as_slice-fresh.result.now c.as_slice-watched.result.now before now before.words.least fresh are found.0 found.1 before.words.least found.0)
 
 pub returns-clause-prober : goal.returns-clause-prober
-returns-clause-prober g c = served g.E.Searchable.saved c.args.self.now c.enter.new.stack (g.E.Feasible.state c.args.engine.now) c.requires.prober c.enter.ensures.ready
+returns-clause-prober g c = served_more g.E.Searchable.saved c.args.self.now (record c.args.self.now { stack = c.enter.new.stack; last = c.of-2.result; tries = c.raise.new.self }) (g.E.Feasible.state c.args.engine.now) c.requires.prober refl refl refl c.enter.ensures.ready
 
 pub returns-then-not-is_fill-clause-prober : goal.returns-then-not-is_fill-clause-prober
-returns-then-not-is_fill-clause-prober g c = served g.E.Searchable.saved c.args.self.now c.enter.new.stack (g.E.Feasible.state c.args.engine.now) c.requires.prober c.enter.ensures.ready
+returns-then-not-is_fill-clause-prober g c = served_more g.E.Searchable.saved c.args.self.now (record c.args.self.now { stack = c.enter.new.stack; last = c.of.result; tries = c.raise.new.self }) (g.E.Feasible.state c.args.engine.now) c.requires.prober refl refl refl c.enter.ensures.ready
 
 pub returns-clause-ok : goal.returns-clause-ok
 returns-clause-ok g c =
@@ -70,7 +70,7 @@ returns-clause-ok g c =
     let are : (light : ℕ) → light < light_count (position_of before) → flags c.as_slice-watched.result.now light ≡ is_watched (flags plan.named.items) (position_of before) light =
     λ light in_grid. ap (λ list. flags list light) c.as_slice-watched.ensures.value ∙ c.requires.prober.plan.watched.are light in_grid in
     let fresh = subst (AreFresh (position_of before)) (sym c.as_slice-fresh.ensures.value) c.requires.prober.fresh in
-    let back : after ≡ at_least rest before.words.least = c.choose_least.ensures ∙ ap (λ n. at_least rest n) c.requires.prober.least in
+    let back : after ≡ at_least rest before.words.least = c.choose_least.ensures.state ∙ ap (λ n. at_least rest n) c.requires.prober.least in
     let graded = c.greatest_grade-grade.ensures in (
       graded.above,
       filled_now plan.named.items c.as_slice-fresh.result.now c.as_slice-watched.result.now before now before.words.least fresh are found.0 found.1 rest after c.greatest_grade-grade.result formed graded.state back

@@ -14,3 +14,6 @@ returns-clause-placed g c = none_then c.try_letter.result c.try_letter.ensures.e
 
 pub returns-clause-dead : goal.returns-clause-dead
 returns-clause-dead g c = IfSome_then c.try_letter.result c.try_letter.ensures.dead (λ light is. (is.0, entered_in c.args.self.now (g.E.Feasible.state c.args.engine.now) is.0 c.requires.may is.1, is.2))
+
+pub returns-clause-count : goal.returns-clause-count
+returns-clause-count g c = c.try_letter.ensures.count
