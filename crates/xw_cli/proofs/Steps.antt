@@ -24,7 +24,7 @@ use Rattle.xw_cli.specs.Journals.{HasReplayed, IsEnded, IsNotEnded, IsUnended, I
 use Rattle.xw_cli.specs.declared.session_files.Refusals.{Refusals}
 use Rattle.xw_cli.specs.SessionFiles.{Copies, IsLoaded, IsLoadedTold, IsLoadingTold, IsResumed, KeepsOld, Replays, TellsReplay, after_report, explained_reports, file_of, left_line, old_line}
 use Rattle.xw_cli.specs.Unended.{KeepsBefore, KeepsBeside, TellsUnended, record_file, unended_lines}
-use Rattle.xw_cli.specs.Performed.{Closes, EditsOrFails, Ends, IsNotSaved, IsOpened, IsRunWith, IsSaved, IsUnresumed, IsUnrun, IsUnsaved, RunsOrFails, Saves, StillPuts}
+use Rattle.xw_cli.specs.Performed.{Closes, Ends, IsNotSaved, IsOpened, IsRunWith, IsSaved, IsUnresumed, IsUnrun, IsUnsaved, OpensOrFails, RunsOrFails, Saves, StillPuts}
 use Rattle.xw_cli.specs.Saved.{IsNotOver, IsOver, KeepsAs, Leaves, UnkeptAs}
 
 -- ---- the word list
@@ -210,9 +210,9 @@ begun_in_vain name is_synced start refused state failure old new has memory =
 -- ---- a call of `edit`
 
 pub edits : (files : SessionFiles) (journal : Option (Bor (List ℕ))) (opened : SessionState) (result : Result ExitStatus Failure) (old mid new : Moment) → IsOpened files opened old mid → files.journal_file ≡ journal
-    → RunsOrFails journal files opened result mid new → EditsOrFails files result old new
+    → RunsOrFails journal files opened result mid new → OpensOrFails files result old new
 edits files journal opened result old mid new is_opened is (inl run) =
     inl (record { opened = opened; mid = mid; is_opened = is_opened; is_run = subst (λ (j : Option (Bor (List ℕ))). IsRunWith j files opened result mid new) (sym is) run })
 edits files journal opened (Ok status) old mid new is_opened is (inr why) = absurd why
 edits files journal opened (Err failure) old mid new is_opened is (inr why) =
-    inr (inr (inr (record { opened = opened; mid = mid; is_opened = is_opened; unrun = subst (λ (j : Option (Bor (List ℕ))). IsUnrun j files opened failure mid new) (sym is) why })))
+    inr (inr (record { opened = opened; mid = mid; is_opened = is_opened; unrun = subst (λ (j : Option (Bor (List ℕ))). IsUnrun j files opened failure mid new) (sym is) why }))

@@ -22,7 +22,7 @@ use Rattle.xw_desk.specs.declared.failure.Failure.{Failure}
 use Rattle.xw_desk.specs.declared.failure.Failure.TheVariants as failures
 use Rattle.xw_desk.specs.declared.failure.ExitStatus.{ExitStatus}
 use Rattle.xw_desk.specs.declared.failure.ExitStatus.TheVariants.{Accepted}
-use Rattle.xw_desk.specs.Apart.{AreInUse, AreUnwritable, IsNotApart}
+use Rattle.xw_desk.specs.Apart.{AreInUse, AreUnwritable, AreWritable, IsNotApart}
 use Rattle.xw_desk.specs.Checked.{IsCheckOf}
 use Rattle.xw_desk.specs.Desk.{Asks, Moment, ReportsIf}
 use Rattle.xw_desk.specs.Explained.{IsReported, IsTold}
@@ -310,16 +310,25 @@ pub record IsOpenedInVain (files : SessionFiles) (failure : Failure) (old new : 
   pub is_opened : IsOpened files opened old mid
   pub unrun : IsUnrun files.journal_file files opened failure mid new
 
--- why no session is run: files that must differ are one, one is the journal of another program or cannot be written, or
--- a file to start with has a fault. No file is replaced then.
-abbrev pub IsUnedited : SessionFiles → Failure → Moment → Moment → Type 0
-IsUnedited files failure old new =
-    ((IsNotApart files failure ⊎ (AreInUse files failure ⊎ AreUnwritable files failure)) × (new ≡ old))
-    ⊎ (IsUnopened files failure old new ⊎ IsOpenedInVain files failure old new)
+-- a session is opened and run, or a failure ends the call before: a file to start with has a fault, or no session is run
+abbrev pub OpensOrFails : SessionFiles → Result ExitStatus Failure → Moment → Moment → Type 0
+OpensOrFails files result old new =
+    IsEdited files result old new ⊎ MatchResult result (λ _. ⊥) (λ failure. IsUnopened files failure old new ⊎ IsOpenedInVain files failure old new)
 
--- a session is run, or a failure ends the call before
+-- why no file is opened: files that must differ are one, or a file to write is the journal of another program or cannot be
+-- written
+abbrev pub AreNotKept : SessionFiles → Failure → Moment → Moment → Type 0
+AreNotKept files failure old new = ((IsNotApart files failure ⊎ AreInUse files failure) × (new ≡ old)) ⊎ AreUnwritable files failure old new
+
+-- The files to write can be written, and then a session is run, or a failure ends the call before.
+pub record EditsWritable (files : SessionFiles) (result : Result ExitStatus Failure) (old new : Moment) : Type 0 where
+  pub mid : Moment
+  pub writable : AreWritable files old mid
+  pub opens : OpensOrFails files result mid new
+
+-- a session is run, or a failure ends the call before; no file is replaced then
 abbrev pub EditsOrFails : SessionFiles → Result ExitStatus Failure → Moment → Moment → Type 0
-EditsOrFails files result old new = IsEdited files result old new ⊎ MatchResult result (λ _. ⊥) (λ failure. IsUnedited files failure old new)
+EditsOrFails files result old new = EditsWritable files result old new ⊎ MatchResult result (λ _. ⊥) (λ failure. AreNotKept files failure old new)
 
 -- ---- any call
 

@@ -1,7 +1,7 @@
 //! Runs a session: opens its files, answers the input, and writes its files.
-ghost use Rattle.std.specs.Prelude.{◌≡◌, ◌⊎◌, IfErr};
-ghost use Rattle.xw_desk.specs.Apart.{AreInUse, AreUnwritable, IsNotApart};
-ghost use Rattle.xw_cli.specs.Performed.{EditsOrFails};
+ghost use Rattle.std.specs.Prelude.{IfErr, OnOk};
+ghost use Rattle.xw_desk.specs.Apart.{AreWritable};
+ghost use Rattle.xw_cli.specs.Performed.{AreNotKept, EditsOrFails, OpensOrFails};
 
 use crate::answer::answer;
 use crate::answer_journaled::answer_journaled;
@@ -32,12 +32,12 @@ fn keep_files<'a, D: Disk, I: Source, O: Outlet, E: Sink>(
     desk: &mut Desk<D, I, O, E>,
     named: SessionFiles<'a>,
 ) -> Result<(), Failure<'a>>
-    ensures why { IfErr result (λ failure. IsNotApart named.entry failure ⊎ (AreInUse named.entry failure ⊎ AreUnwritable named.entry failure)) }
-    ensures same { desk.new ≡ desk.old }
+    ensures ok { OnOk result (AreWritable named.entry desk.old desk.new) }
+    ensures err { IfErr result (λ failure. AreNotKept named.entry failure desk.old desk.new) }
 {
     keep_apart(&desk.disk, named)?;
     keep_free(&desk.disk, named)?;
-    keep_writable(&mut desk.disk, named)
+    keep_writable(desk, named)
 }
 
 /// Runs a session whose files are apart.
@@ -45,7 +45,7 @@ fn edit_apart<'a, F: Searchable, D: Disk, I: Source, O: Outlet, E: Sink>(
     desk: &mut Desk<D, I, O, E>,
     named: SessionFiles<'a>,
 ) -> Result<ExitStatus, Failure<'a>>
-    ensures { EditsOrFails named.entry result desk.old desk.new }
+    ensures { OpensOrFails named.entry result desk.old desk.new }
 {
     let session: Session<F> = open(desk, named)?;
     match named.journal_file {

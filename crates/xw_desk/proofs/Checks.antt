@@ -1,5 +1,5 @@
 -- How several files are checked one after another.
-use Rattle.std.proofs.Common.{◌≡◌, ◌⊎◌, ◌∙◌, ◌++◌, ◌<◌, ◌+◌, inl, inr, refl, sym, ap, subst, suc, ℕ, Bool, true, false, List, [], ◌∷◌, Result, Ok, Err, IfOk, drop, get_or, length, map, take}
+use Rattle.std.proofs.Common.{◌≡◌, ◌⊎◌, ◌∙◌, ◌++◌, ◌<◌, ◌+◌, inl, inr, refl, sym, ap, subst, suc, ℕ, true, false, List, [], ◌∷◌, Result, Ok, Err, IfOk, drop, get_or, length, map, take}
 use Rattle.std.specs.Prelude.{fold, IfErr}
 use Rattle.std.proofs.Math.Seq.{drop-cons}
 use Rattle.std.proofs.lemmas.List.{map-append, take-append-drop, take_more}

@@ -1,53 +1,22 @@
 -- Files of a call that must differ, and the failure that says so.
-use Rattle.std.specs.Prelude.{◌≡◌, ◌⊎◌, ◌&&◌, ◌||◌, ℕ, Bool, true, false, not, bytes_eq, codes, is_some, List, Option, Some, None, option_map, IfSome}
+use Rattle.std.specs.Prelude.{◌≡◌, ◌⊎◌, ◌&&◌, ◌||◌, ℕ, Bool, true, false, not, bytes_eq, codes, is_some, List, Ok, Option, Some, None, option_map, IfSome}
 use Rattle.std.specs.Borrow.{Bor}
 use Rattle.xw_files.specs.declared.kind.Kind.TheVariants.{Puz}
 use Rattle.xw_desk.specs.declared.apart.Pair.{Pair}
 use Rattle.xw_desk.specs.declared.apart.Pair.TheVariants.{ListAndWritten, PuzzleAndSession, StartAndSession, StartAndPuzzle, InputAndWritten, OutputAndOther, OtherAndJournal}
 use Rattle.xw_desk.specs.declared.apart.Role.{Role}
 use Rattle.xw_desk.specs.declared.apart.Role.TheVariants.{Output, Kept, List as Words, Puzzle, Start, Commands, Input, Written, Session, Journal}
-use Rattle.xw_disk.specs.declared.disk.DiskFault.{DiskFault}
+use Rattle.xw_disk.specs.CallFile.{IsKeptAs, IsNamed, IsSource}
+use Rattle.xw_disk.specs.Disk.{try_}
+use Rattle.xw_disk.specs.declared.disk.CallFile.{CallFile}
+use Rattle.xw_disk.specs.declared.disk.CallFile.TheVariants as call_files
 use Rattle.xw_arguments.specs.declared.arguments.SessionFiles.{SessionFiles}
 use Rattle.xw_desk.specs.declared.failure.Failure.{Failure}
 use Rattle.xw_desk.specs.declared.failure.Failure.TheVariants as failures
-use Rattle.xw_desk.specs.Files.{IfNamed}
-use Rattle.xw_desk.specs.Told.{IsFaultOf, IsInUse}
+use Rattle.xw_desk.specs.Desk.{Asks, Moment}
+use Rattle.xw_desk.specs.Files.{IfNamed, IsUntried}
+use Rattle.xw_desk.specs.Told.{IsInUse}
 use Rattle.xw_desk.specs.Names.{IsKindNamed}
-
--- this file cannot be written, because it is the word list
-abbrev pub IsOneFile : List ℕ → Failure → Type 0
-IsOneFile name (failures.OneFile file) = file.now ≡ name
-IsOneFile name other = ⊥
-
--- this file is named for the puzzle and for the session
-abbrev pub IsTwoTexts : List ℕ → Failure → Type 0
-IsTwoTexts name (failures.TwoTexts file) = file.now ≡ name
-IsTwoTexts name other = ⊥
-
--- this file is named for the session, and is the puzzle to start with
-abbrev pub IsOverPuzzle : List ℕ → Failure → Type 0
-IsOverPuzzle name (failures.OverPuzzle file) = file.now ≡ name
-IsOverPuzzle name other = ⊥
-
--- this file is named for the puzzle, and has the commands to start with
-abbrev pub IsOverStart : List ℕ → Failure → Type 0
-IsOverStart name (failures.OverStart file) = file.now ≡ name
-IsOverStart name other = ⊥
-
--- this file is named to be written, and is standard input
-abbrev pub IsOverInput : List ℕ → Failure → Type 0
-IsOverInput name (failures.OverInput file) = file.now ≡ name
-IsOverInput name other = ⊥
-
--- this file is one of the call, and is standard output
-abbrev pub IsSharedOutput : List ℕ → Failure → Type 0
-IsSharedOutput name (failures.SharedOutput file) = file.now ≡ name
-IsSharedOutput name other = ⊥
-
--- this file is named for the journal and has another role
-abbrev pub IsSharedJournal : List ℕ → Failure → Type 0
-IsSharedJournal name (failures.SharedJournal file) = file.now ≡ name
-IsSharedJournal name other = ⊥
 
 -- ---- which files must differ
 
@@ -126,15 +95,18 @@ has files Written = is_some files.to_file
 has files Session = is_some files.save_file
 has files Journal = is_some files.journal_file
 
--- the failure for two files of a call that are one; the name is that of the second
-abbrev pub IsOfPair : Pair → List ℕ → Failure → Type 0
-IsOfPair ListAndWritten name failure = IsOneFile name failure
-IsOfPair PuzzleAndSession name failure = IsTwoTexts name failure
-IsOfPair StartAndSession name failure = IsOverPuzzle name failure
-IsOfPair StartAndPuzzle name failure = IsOverStart name failure
-IsOfPair InputAndWritten name failure = IsOverInput name failure
-IsOfPair OutputAndOther name failure = IsSharedOutput name failure
-IsOfPair OtherAndJournal name failure = IsSharedJournal name failure
+-- this file of a call is the one with this role
+abbrev pub IsFileOf : SessionFiles → Role → CallFile → Type 0
+IsFileOf files Output file = file ≡ call_files.Output
+IsFileOf files Kept file = IfNamed files.save_file (λ name. IsKeptAs name file)
+IsFileOf files Words file = IfNamed files.dict (λ name. IsSource name file)
+IsFileOf files Puzzle file = IfNamed files.from_file (λ name. IsSource name file)
+IsFileOf files Start file = IfNamed files.resume_file (λ name. IsSource name file)
+IsFileOf files Commands file = (reads_input files ≡ false) × (file ≡ call_files.Input)
+IsFileOf files Input file = IsNamed (codes "/dev/stdin") file
+IsFileOf files Written file = IfNamed files.to_file (λ name. IsNamed name file)
+IsFileOf files Session file = IfNamed files.save_file (λ name. IsNamed name file)
+IsFileOf files Journal file = IfNamed files.journal_file (λ name. IsNamed name file)
 
 -- this file is named for the session, and its name asks for `.puz`
 abbrev pub IsNamedPuz : List ℕ → Failure → Type 0
@@ -152,15 +124,16 @@ IsRefusedPuz saved failure = IfNamed saved (λ name. IsSavedAsPuz name failure)
 abbrev pub IsReadTwice : SessionFiles → Failure → Type 0
 IsReadTwice files failure = (is_input files.dict && (is_input files.from_file || is_input files.resume_file) ≡ true) × (failure ≡ failures.InputTwice)
 
--- files with these roles must differ, for this reason
-abbrev pub MustDiffer : Role → Role → Pair → Type 0
-MustDiffer one other pair = pair_of one other ≡ Some pair
+-- The files of the call with these roles must differ, and the disk found that they are one. The failure says so, and names
+-- the second.
+abbrev pub IsFoundOne : SessionFiles → Role → Role → Failure → Type 0
+IsFoundOne files one other (failures.SameFile pair file same) =
+    (pair_of one other ≡ Some pair) × IfSome (name_of files other) (λ name. file.now ≡ name) × IsFileOf files one same.one × IsFileOf files other same.other
+IsFoundOne files one other failure = ⊥
 
--- two files of the call have roles in which they must differ, and the failure names the second; or an allocation failed
+-- two files of the call must differ, and are one; or an allocation failed
 abbrev pub IsRefused : SessionFiles → Failure → Type 0
-IsRefused files failure =
-    (failure ≡ failures.Memory)
-    ⊎ ((one : Role) × (other : Role) × (pair : Pair) × MustDiffer one other pair × (has files one ≡ true) × IfSome (name_of files other) (λ name. IsOfPair pair name failure))
+IsRefused files failure = (failure ≡ failures.Memory) ⊎ ((one : Role) × (other : Role) × IsFoundOne files one other failure)
 
 -- two files are standard input, the session is written as `.puz`, or two files are one that must differ
 abbrev pub IsNotApart : SessionFiles → Failure → Type 0
@@ -173,9 +146,27 @@ IsRefusedJournal written failure = IfNamed written (λ name. IsInUse name failur
 abbrev pub AreInUse : SessionFiles → Failure → Type 0
 AreInUse files failure = IsRefusedJournal files.save_file failure ⊎ IsRefusedJournal files.to_file failure
 
--- a file to write at the end cannot be written now
-abbrev pub IsRefusedWrite : Option (Bor (List ℕ)) → Failure → Type 0
-IsRefusedWrite written failure = IfNamed written (λ name. (fault : DiskFault) × IsFaultOf fault name failure)
+-- the file was tried and can be written, if one is named
+abbrev pub CanWrite : Option (Bor (List ℕ)) → Moment → Moment → Type 0
+CanWrite None old new = new ≡ old
+CanWrite (Some file) old new = Asks (try_ file.now (Ok tt)) old new
 
-abbrev pub AreUnwritable : SessionFiles → Failure → Type 0
-AreUnwritable files failure = IsRefusedWrite files.save_file failure ⊎ IsRefusedWrite files.to_file failure
+-- the file was tried and cannot be written
+abbrev pub IsRefusedWrite : Option (Bor (List ℕ)) → Failure → Moment → Moment → Type 0
+IsRefusedWrite written failure old new = IfNamed written (λ name. IsUntried name failure old new)
+
+-- The files to write at the end were tried, and can be written now.
+pub record AreWritable (files : SessionFiles) (old new : Moment) : Type 0 where
+  pub mid : Moment
+  pub session : CanWrite files.save_file old mid
+  pub puzzle : CanWrite files.to_file mid new
+
+-- The session can be written, and the puzzle cannot.
+pub record IsPuzzleUnwritable (files : SessionFiles) (failure : Failure) (old new : Moment) : Type 0 where
+  pub mid : Moment
+  pub session : CanWrite files.save_file old mid
+  pub puzzle : IsRefusedWrite files.to_file failure mid new
+
+-- a file to write at the end cannot be written now
+abbrev pub AreUnwritable : SessionFiles → Failure → Moment → Moment → Type 0
+AreUnwritable files failure old new = IsRefusedWrite files.save_file failure old new ⊎ IsPuzzleUnwritable files failure old new

@@ -27,14 +27,8 @@ status_of (failures.OldUnwritable file number) = Failed
 status_of (failures.File file name) = Format
 status_of (failures.Located file name location) = Format
 status_of (failures.Line file number name) = Format
-status_of (failures.OneFile file) = Usage
-status_of (failures.TwoTexts file) = Usage
-status_of (failures.OverPuzzle file) = Usage
-status_of (failures.OverStart file) = Usage
-status_of (failures.OverInput file) = Usage
-status_of (failures.SharedOutput file) = Usage
+status_of (failures.SameFile pair file same) = Usage
 status_of (failures.SavedAsPuz file) = Usage
-status_of (failures.SharedJournal file) = Usage
 status_of failures.InputTwice = Usage
 
 -- the outcome of answering commands; `before` is the number of lines refused earlier

@@ -1,5 +1,5 @@
 -- What is printed for arguments that are not a call, and for a failure.
-use Rattle.std.specs.Prelude.{◌≡◌, ◌⊎◌, ◌++◌, ◌&&◌, ℕ, Bool, true, false, List, [], ◌∷◌, codes}
+use Rattle.std.specs.Prelude.{◌≡◌, ◌⊎◌, ◌++◌, ◌&&◌, ℕ, Bool, true, false, List, [], codes}
 use Rattle.xw_arguments.specs.declared.arguments.Usage.{Usage}
 use Rattle.xw_arguments.specs.declared.arguments.Usage.TheVariants.{Help, Wrong, Memory}
 use Rattle.xw_desk.specs.Desk.{FailsToShow, Moment, Reports, Shows}

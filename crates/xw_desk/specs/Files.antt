@@ -1,6 +1,6 @@
 -- Which failure names a file that cannot be read or written, or a fault of a file; what is read from a puzzle file,
 -- and what is written to one.
-use Rattle.std.specs.Prelude.{◌≡◌, ◌⊎◌, ◌++◌, ℕ, Bool, true, false, List, [], ◌∷◌, Option, Some, None, Ok, Err, codes}
+use Rattle.std.specs.Prelude.{◌≡◌, ◌⊎◌, ◌++◌, ℕ, Bool, true, false, List, Option, Some, None, Ok, Err, codes}
 use Rattle.std.specs.Borrow.{Bor}
 use Rattle.std.specs.List.{list_any}
 use Rattle.xw_grid.specs.Puzzle.{PuzzleShown}
@@ -15,7 +15,7 @@ use Rattle.xw_files.specs.declared.kind.Kind.TheVariants.{Puz, Text}
 use Rattle.xw_desk.specs.declared.failure.Failure.{Failure}
 use Rattle.xw_desk.specs.declared.failure.Failure.TheVariants as failures
 use Rattle.xw_desk.specs.declared.location.Location.{Location}
-use Rattle.xw_disk.specs.Disk.{read, replace}
+use Rattle.xw_disk.specs.Disk.{read, replace, try_}
 use Rattle.xw_disk.specs.declared.disk.DiskFault.{DiskFault}
 use Rattle.xw_desk.specs.Desk.{Asks, Moment, Reports, ReportsIf}
 use Rattle.xw_desk.specs.Told.{IsFaultOf}
@@ -84,6 +84,12 @@ pub record IsFound (name : List ℕ) (kind : Kind) (puzzle : PuzzleShown) (old n
   pub rebus : IsRebusTold name kind bytes mid new
 
 -- ---- writing a file
+
+-- The file with this name was tried, and could not be replaced.
+pub record IsUntried (name : List ℕ) (failure : Failure) (old new : Moment) : Type 0 where
+  pub fault : DiskFault
+  pub told : IsFaultOf fault name failure
+  pub asks : Asks (try_ name (Err fault)) old new
 
 -- The file with this name was to have these bytes, and was not replaced.
 pub record IsUnreplaced (name bytes : List ℕ) (failure : Failure) (old new : Moment) : Type 0 where

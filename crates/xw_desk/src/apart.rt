@@ -1,15 +1,21 @@
 //! Keeps the files of a call apart: a file that is written must be no other file of the call, nor the journal of
 //! another program.
-ghost use Rattle.std.specs.Prelude.{◌≡◌, is_some, option_map, IfErr};
-ghost use Rattle.xw_desk.specs.Apart.{AreInUse, AreUnwritable, has, is_input, name_of, pair_of, reads_input, pair_with_journal, pair_with_puzzle, pair_with_read, pair_with_session, IsNotApart, IsOfPair, IsReadTwice, IsRefused, IsRefusedJournal, IsRefusedPuz, IsRefusedWrite};
+ghost use Rattle.std.specs.Prelude.{◌≡◌, is_some, option_map, IfErr, IfSome, OnOk};
+ghost use Rattle.xw_disk.specs.CallFile.{IsKeptAs, IsNamed, IsSource};
+ghost use Rattle.xw_desk.specs.Apart.{AreInUse, AreUnwritable, AreWritable, CanWrite, has, is_input, name_of, pair_of, reads_input, pair_with_journal, pair_with_puzzle, pair_with_read, pair_with_session, IsFileOf, IsNotApart, IsReadTwice, IsRefused, IsRefusedJournal, IsRefusedPuz, IsRefusedWrite};
+ghost use Rattle.xw_desk.specs.Files.{IfNamed};
+ghost use Rattle.xw_desk.specs.Told.{reason};
 
-use crate::failure::{Failure, failure_of};
+use crate::desk::Desk;
+use crate::failure::Failure;
 use crate::names::kind_by_name;
+use crate::outlet::Outlet;
 use xw_arguments::SessionFiles;
 use xw_disk::identity::INPUT_PATH;
 use xw_disk::system::source;
 use xw_disk::{CallFile, Disk};
 use xw_files::Kind;
+use xw_lines::{Sink, Source};
 
 /// What a call does with a file.
 #[derive(Clone, Copy, Debug, PartialEq, Eq)]
@@ -67,6 +73,29 @@ pub enum Pair {
     OutputAndOther,
     /// Another file, and the journal.
     OtherAndJournal,
+}
+
+impl Pair {
+    /// Returns why the files must not be one, as it follows the name of the second in a message.
+    pub fn reason(self) -> &'static str
+        ensures { result.now ≡ reason self }
+    {
+        match self {
+            Pair::ListAndWritten => ": the word list cannot be the file to write",
+            Pair::PuzzleAndSession => {
+                ": the puzzle and the session cannot be written into one file"
+            }
+            Pair::StartAndSession => {
+                ": the session cannot be written over the puzzle to start with"
+            }
+            Pair::StartAndPuzzle => {
+                ": the puzzle cannot be written over the session to start with"
+            }
+            Pair::InputAndWritten => ": standard input cannot be the file to write",
+            Pair::OutputAndOther => ": standard output cannot be another file of the call",
+            Pair::OtherAndJournal => ": the journal cannot be another file of the call",
+        }
+    }
 }
 
 /// Returns why files with these roles must not be one, or `None` if they may be.
@@ -136,7 +165,8 @@ fn pair_with_read(one: Role, is_list: bool) -> Option<Pair>
 
 /// Returns the file of a call with a role, if there is one.
 fn file_of<'a>(files: SessionFiles<'a>, role: Role) -> Option<CallFile<'a>>
-    ensures { is_some result ≡ has files.entry role }
+    ensures has { is_some result ≡ has files.entry role }
+    ensures file { IfSome result (IsFileOf files.entry role) }
 {
     match role {
         Role::Output => Some(CallFile::Output),
@@ -155,7 +185,8 @@ fn file_of<'a>(files: SessionFiles<'a>, role: Role) -> Option<CallFile<'a>>
 
 /// Returns the file that one to write is kept as, if that is named.
 fn kept<'a>(name: Option<&'a str>) -> Option<CallFile<'a>>
-    ensures { is_some result ≡ is_some name.entry }
+    ensures some { is_some result ≡ is_some name.entry }
+    ensures file { IfSome result (λ file. IfNamed name.entry (λ name. IsKeptAs name file)) }
 {
     match name {
         Some(name) => Some(CallFile::Kept(name)),
@@ -165,7 +196,8 @@ fn kept<'a>(name: Option<&'a str>) -> Option<CallFile<'a>>
 
 /// Returns a file to write, if it is named.
 fn named<'a>(name: Option<&'a str>) -> Option<CallFile<'a>>
-    ensures { is_some result ≡ is_some name.entry }
+    ensures some { is_some result ≡ is_some name.entry }
+    ensures file { IfSome result (λ file. IfNamed name.entry (λ name. IsNamed name file)) }
 {
     match name {
         Some(name) => Some(CallFile::Named(name)),
@@ -175,7 +207,8 @@ fn named<'a>(name: Option<&'a str>) -> Option<CallFile<'a>>
 
 /// Returns a file to read, if it is named.
 fn read<'a>(name: Option<&'a str>) -> Option<CallFile<'a>>
-    ensures { is_some result ≡ is_some name.entry }
+    ensures some { is_some result ≡ is_some name.entry }
+    ensures file { IfSome result (λ file. IfNamed name.entry (λ name. IsSource name file)) }
 {
     match name {
         Some(name) => Some(source(name)),
@@ -237,10 +270,14 @@ fn refuse<'a, D: Disk>(
     let (Some(first), Some(second)) = (file_of(named, one), file_of(named, other)) else {
         return Ok(());
     };
-    if disk.is_one_file(first, second)? {
-        return Err(failure_of_pair(pair, name));
+    match disk.same_file(first, second)? {
+        Some(same) => Err(Failure::SameFile {
+            pair,
+            file: name,
+            same,
+        }),
+        None => Ok(()),
     }
-    Ok(())
 }
 
 /// Refuses to write the session over another file of the call that is not written itself.
@@ -283,21 +320,6 @@ fn reads_input(named: SessionFiles<'_>) -> bool
     is_input(named.dict) || is_input(named.from_file) || is_input(named.resume_file)
 }
 
-/// Returns the failure for two files that are one. `file` is the name of the second.
-fn failure_of_pair<'a>(pair: Pair, file: &'a str) -> Failure<'a>
-    ensures { IsOfPair pair file.entry.now result }
-{
-    match pair {
-        Pair::ListAndWritten => Failure::OneFile { file },
-        Pair::PuzzleAndSession => Failure::TwoTexts { file },
-        Pair::StartAndSession => Failure::OverPuzzle { file },
-        Pair::StartAndPuzzle => Failure::OverStart { file },
-        Pair::InputAndWritten => Failure::OverInput { file },
-        Pair::OutputAndOther => Failure::SharedOutput { file },
-        Pair::OtherAndJournal => Failure::SharedJournal { file },
-    }
-}
-
 /// Refuses a name for the session that asks for `.puz`.
 fn refuse_puz<'a>(saved: Option<&'a str>) -> Result<(), Failure<'a>>
     ensures { IfErr result (λ failure. IsRefusedPuz saved.entry failure) }
@@ -327,24 +349,27 @@ pub fn refuse_journal<'a, D: Disk>(disk: &D, written: Option<&'a str>) -> Result
 }
 
 /// Refuses a file to write at the end that cannot be written now.
-pub fn keep_writable<'a, D: Disk>(disk: &mut D, named: SessionFiles<'a>) -> Result<(), Failure<'a>>
-    ensures why { IfErr result (λ failure. AreUnwritable named.entry failure) }
-    ensures log { D.log disk.new ≡ D.log disk.old }
+pub fn keep_writable<'a, D: Disk, I: Source, O: Outlet, E: Sink>(
+    desk: &mut Desk<D, I, O, E>,
+    named: SessionFiles<'a>,
+) -> Result<(), Failure<'a>>
+    ensures ok { OnOk result (AreWritable named.entry desk.old desk.new) }
+    ensures err { IfErr result (λ failure. AreUnwritable named.entry failure desk.old desk.new) }
 {
-    refuse_unwritable(disk, named.save_file)?;
-    refuse_unwritable(disk, named.to_file)
+    refuse_unwritable(desk, named.save_file)?;
+    refuse_unwritable(desk, named.to_file)
 }
 
 /// Refuses a file that cannot be written now.
-fn refuse_unwritable<'a, D: Disk>(disk: &mut D, written: Option<&'a str>) -> Result<(), Failure<'a>>
-    ensures why { IfErr result (λ failure. IsRefusedWrite written.entry failure) }
-    ensures log { D.log disk.new ≡ D.log disk.old }
+fn refuse_unwritable<'a, D: Disk, I: Source, O: Outlet, E: Sink>(
+    desk: &mut Desk<D, I, O, E>,
+    written: Option<&'a str>,
+) -> Result<(), Failure<'a>>
+    ensures ok { OnOk result (CanWrite written.entry desk.old desk.new) }
+    ensures err { IfErr result (λ failure. IsRefusedWrite written.entry failure desk.old desk.new) }
 {
-    let Some(file) = written else {
-        return Ok(());
-    };
-    match disk.try_replace(file) {
-        Ok(()) => Ok(()),
-        Err(fault) => Err(failure_of(fault, file)),
+    match written {
+        Some(file) => desk.try_file(file),
+        None => Ok(()),
     }
 }

@@ -1,10 +1,10 @@
 //! What a call works with: the disk, the streams, and the allocator.
 ghost use Rattle.std.specs.Prelude.{◌≡◌, ◌∷◌, ◌++◌, [], IfOk, IfErr, OnOk, OnErr, Ok};
-ghost use Rattle.xw_disk.specs.Disk.{read, replace};
+ghost use Rattle.xw_disk.specs.Disk.{read, replace, try_};
 ghost use Rattle.xw_lines.specs.Device.{flushed};
 ghost use Rattle.xw_lines.specs.Sends.{Sends};
 ghost use Rattle.xw_desk.specs.Desk.{Asks, FailsToShow, Reports, Shows};
-ghost use Rattle.xw_desk.specs.Files.{IsUnreadFile, IsUnreplaced};
+ghost use Rattle.xw_desk.specs.Files.{IsUnreadFile, IsUnreplaced, IsUntried};
 
 use crate::failure::{Failure, failure_of};
 use crate::outlet::Outlet;
@@ -92,6 +92,17 @@ impl<D: Disk, I: Source, O: Outlet, E: Sink> Desk<D, I, O, E> {
     {
         match self.disk.read_own(file) {
             Ok(bytes) => Ok(bytes),
+            Err(fault) => Err(failure_of(fault, file)),
+        }
+    }
+
+    /// Fails if a file could not be replaced now. Changes no file.
+    pub fn try_file<'a>(&mut self, file: &'a str) -> Result<(), Failure<'a>>
+        ensures ok { OnOk result (Asks (try_ file.entry.now (Ok tt)) self.old self.new) }
+        ensures err { IfErr result (λ failure. IsUntried file.entry.now failure self.old self.new) }
+    {
+        match self.disk.try_replace(file) {
+            Ok(()) => Ok(()),
             Err(fault) => Err(failure_of(fault, file)),
         }
     }

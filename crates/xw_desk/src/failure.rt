@@ -7,11 +7,12 @@ ghost use Rattle.xw_desk.specs.Explained.{is_of_disk};
 ghost use Rattle.xw_desk.specs.Told.{IsFaultOf, IsOldFaultOf};
 ghost use Rattle.xw_disk.specs.Kept.{kept_name};
 
+use crate::apart::Pair;
 use crate::location::Location;
 use std::alloc::AllocError;
 use std::fmt;
 use std::process::ExitCode;
-use xw_disk::{DiskFault, Unkept};
+use xw_disk::{DiskFault, SameFile, Unkept};
 use xw_lines::RunEnd;
 
 /// The outcome of a run, as the exit status of the program.
@@ -86,36 +87,14 @@ pub enum Failure<'a> {
         number: usize,
         name: &'static str,
     },
-    /// The word list is a file to write.
-    OneFile {
+    /// Two files of the call are one, and must not be. `file` is the name of the second.
+    SameFile {
+        pair: Pair,
         file: &'a str,
-    },
-    /// The puzzle and the session are written into one file.
-    TwoTexts {
-        file: &'a str,
-    },
-    /// The session is written over the puzzle to start with.
-    OverPuzzle {
-        file: &'a str,
-    },
-    /// The puzzle is written over the commands to start with.
-    OverStart {
-        file: &'a str,
-    },
-    /// A file is written over standard input.
-    OverInput {
-        file: &'a str,
-    },
-    /// Standard output is another file of the call.
-    SharedOutput {
-        file: &'a str,
+        same: SameFile<'a>,
     },
     /// The name for the session asks for `.puz`.
     SavedAsPuz {
-        file: &'a str,
-    },
-    /// The journal is another file of the call.
-    SharedJournal {
         file: &'a str,
     },
     /// Two of the files to start with are standard input.
@@ -147,40 +126,10 @@ impl<'a> fmt::Display for Failure<'a> {
             Failure::Line { file, number, name } => {
                 write!(f, "xw: {file}: line {number}: {name}")
             }
-            Failure::OneFile { file } => {
-                write_named(f, file, ": the word list cannot be the file to write")
-            }
-            Failure::TwoTexts { file } => write_named(
-                f,
-                file,
-                ": the puzzle and the session cannot be written into one file",
-            ),
-            Failure::OverPuzzle { file } => write_named(
-                f,
-                file,
-                ": the session cannot be written over the puzzle to start with",
-            ),
-            Failure::OverStart { file } => write_named(
-                f,
-                file,
-                ": the puzzle cannot be written over the session to start with",
-            ),
-            Failure::OverInput { file } => {
-                write_named(f, file, ": standard input cannot be the file to write")
-            }
-            Failure::SharedOutput { file } => write_named(
-                f,
-                file,
-                ": standard output cannot be another file of the call",
-            ),
+            Failure::SameFile { pair, file, .. } => write_named(f, file, pair.reason()),
             Failure::SavedAsPuz { file } => {
                 write_named(f, file, ": the session cannot be written as .puz")
             }
-            Failure::SharedJournal { file } => write_named(
-                f,
-                file,
-                ": the journal cannot be another file of the call",
-            ),
             Failure::InputTwice => f.write_str("xw: -: standard input can be read only once"),
         }
     }
@@ -211,14 +160,8 @@ impl<'a> Failure<'a> {
             Failure::File { .. } => ExitStatus::Format,
             Failure::Located { .. } => ExitStatus::Format,
             Failure::Line { .. } => ExitStatus::Format,
-            Failure::OneFile { .. } => ExitStatus::Usage,
-            Failure::TwoTexts { .. } => ExitStatus::Usage,
-            Failure::OverPuzzle { .. } => ExitStatus::Usage,
-            Failure::OverStart { .. } => ExitStatus::Usage,
-            Failure::OverInput { .. } => ExitStatus::Usage,
-            Failure::SharedOutput { .. } => ExitStatus::Usage,
+            Failure::SameFile { .. } => ExitStatus::Usage,
             Failure::SavedAsPuz { .. } => ExitStatus::Usage,
-            Failure::SharedJournal { .. } => ExitStatus::Usage,
             Failure::InputTwice => ExitStatus::Usage,
             _ => ExitStatus::Failed,
         }

@@ -11,6 +11,8 @@ use Rattle.xw_disk.specs.declared.disk.Start.TheVariants.{Anew, Cut, Put}
 pub data Event : Type 0 where
   -- the file with this name was read: its bytes, or why it was not
   read : List ℕ → Result (List ℕ) DiskFault → Event
+  -- whether the file with this name could be replaced, though no file was changed
+  try_ : List ℕ → Result (Unit {0}) DiskFault → Event
   -- the file with this name was to have these bytes, and whether it was replaced
   replace : List ℕ → List ℕ → Result (Unit {0}) DiskFault → Event
   -- these bytes of the file with this name were to be kept beside it, under the name with this number, and whether they
@@ -90,6 +92,8 @@ to_parts (leave name bytes (Ok place)) = (8, (name, (bytes, (place, 0))))
 to_parts (leave name bytes (Err fault)) = (8, (name, (bytes, ([], fault_number fault))))
 to_parts (find name (Ok done)) = (9, (name, ([], ([], 0))))
 to_parts (find name (Err fault)) = (9, (name, ([], ([], fault_number fault))))
+to_parts (try_ name (Ok done)) = (10, (name, ([], ([], 0))))
+to_parts (try_ name (Err fault)) = (10, (name, ([], ([], fault_number fault))))
 to_parts (open_ name (Ok bytes)) = (3, (name, (bytes, ([], 0))))
 to_parts (open_ name (Err fault)) = (3, (name, ([], ([], fault_number fault))))
 to_parts (begin name bytes is_synced (Ok done)) = (4, (name, (bytes, (flag_list is_synced, 0))))
@@ -104,7 +108,7 @@ from_parts p =
     (cond (p.0 == 2) (keep p.1.0 p.1.1.0 (number_at p.1.1.1.0) (done_at p.1.1.1.1)) (cond (p.0 == 3) (open_ p.1.0 (bytes_at p.1.1.0 p.1.1.1.1))
     (cond (p.0 == 4) (begin p.1.0 p.1.1.0 (flag_at p.1.1.1.0) (done_at p.1.1.1.1)) (cond (p.0 == 5) (take_lines p.1.0 p.1.1.0)
     (cond (p.0 == 7) (stands p.1.0 (standing_at p.1.1.1.1)) (cond (p.0 == 8) (leave p.1.0 p.1.1.0 (bytes_at p.1.1.1.0 p.1.1.1.1))
-    (cond (p.0 == 9) (find p.1.0 (done_at p.1.1.1.1)) (end p.1.0 p.1.1.0 (done_at p.1.1.1.1))))))))))
+    (cond (p.0 == 9) (find p.1.0 (done_at p.1.1.1.1)) (cond (p.0 == 10) (try_ p.1.0 (done_at p.1.1.1.1)) (end p.1.0 p.1.1.0 (done_at p.1.1.1.1)))))))))))
 
 pub from_parts-to_parts : (e : Event) → from_parts (to_parts e) ≡ e
 from_parts-to_parts (read name (Ok bytes)) = refl
@@ -135,6 +139,12 @@ from_parts-to_parts (find name (Err Unreadable)) = refl
 from_parts-to_parts (find name (Err Unwritable)) = refl
 from_parts-to_parts (find name (Err InUse)) = refl
 from_parts-to_parts (find name (Err Replaced)) = refl
+from_parts-to_parts (try_ name (Ok tt)) = refl
+from_parts-to_parts (try_ name (Err Memory)) = refl
+from_parts-to_parts (try_ name (Err Unreadable)) = refl
+from_parts-to_parts (try_ name (Err Unwritable)) = refl
+from_parts-to_parts (try_ name (Err InUse)) = refl
+from_parts-to_parts (try_ name (Err Replaced)) = refl
 from_parts-to_parts (keep name bytes number (Err Memory)) = refl
 from_parts-to_parts (keep name bytes number (Err Unreadable)) = refl
 from_parts-to_parts (keep name bytes number (Err Unwritable)) = refl

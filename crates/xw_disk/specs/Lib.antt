@@ -1,3 +1,4 @@
 pub mod Disk
 pub mod Asked
 pub mod Kept
+pub mod CallFile

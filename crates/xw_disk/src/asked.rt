@@ -7,6 +7,7 @@ use xw_lines::history::History;
 pub enum Asked<'a> {
     Read(&'a str, &'a [u8]),
     Unread(&'a str, DiskFault),
+    Try(&'a str, Result<(), DiskFault>),
     Replace(&'a str, &'a [u8], Result<(), DiskFault>),
     Keep(&'a str, &'a [u8], u32),
     Unkept(&'a str, &'a [u8], Unkept),

@@ -1,6 +1,6 @@
 //! The trait of a disk. Its ghost log records what was asked of it and what it answered.
-ghost use Rattle.std.specs.Prelude.{◌≡◌, List, [], ◌∷◌, ◌++◌, Result, Ok, Err, MatchResult, IfOk};
-ghost use Rattle.xw_disk.specs.Disk.{Event, read, replace, keep, stands, leave, open_, begin, take_lines, find, end, started};
+ghost use Rattle.std.specs.Prelude.{◌≡◌, List, [], ◌∷◌, ◌++◌, Result, Ok, Err, MatchResult, IfOk, IfSome};
+ghost use Rattle.xw_disk.specs.Disk.{Event, read, try_, replace, keep, stands, leave, open_, begin, take_lines, find, end, started};
 
 use std::alloc::AllocError;
 use std::io;
@@ -38,6 +38,22 @@ pub enum CallFile<'a> {
     Input,
     /// The file that standard output goes to, if it is a regular file.
     Output,
+}
+
+/// Two files of a call that are one. Only a disk makes these.
+#[derive(Clone, Copy, Debug)]
+pub struct SameFile<'a> {
+    one: CallFile<'a>,
+    other: CallFile<'a>,
+}
+
+impl<'a> SameFile<'a> {
+    pub(crate) fn new(one: CallFile<'a>, other: CallFile<'a>) -> SameFile<'a>
+        ensures one { result.one ≡ one.entry }
+        ensures other { result.other ≡ other.entry }
+    {
+        SameFile { one, other }
+    }
 }
 
 /// What a file is before it is written over.
@@ -92,7 +108,7 @@ pub trait Disk {
 
     /// Fails if `replace` could not replace a file now. Changes no file.
     fn try_replace(&mut self, name: &str) -> Result<(), DiskFault>
-        ensures { log self.new ≡ log self.old };
+        ensures { log self.new ≡ log self.old ++ try_ name.now result ∷ [] };
 
     /// Keeps these bytes of a file in a new one beside it, with the same mode. Its name is the name of the file and `~`,
     /// or `~2`, `~3` and so on: the first that no file has and that does not lead to `apart`. Returns the number of this
@@ -151,8 +167,13 @@ pub trait Disk {
     fn end_journal(&mut self, name: &str, bytes: &[u8]) -> Result<(), DiskFault>
         ensures { log self.new ≡ log self.old ++ end name.now bytes.now result ∷ [] };
 
-    /// Returns whether two files of a call are one, by whatever names.
-    fn is_one_file(&self, one: CallFile<'_>, other: CallFile<'_>) -> Result<bool, AllocError>;
+    /// Returns two files of a call as one, or `None` if they are two. Their names may differ all the same.
+    fn same_file<'a>(
+        &self,
+        one: CallFile<'a>,
+        other: CallFile<'a>,
+    ) -> Result<Option<SameFile<'a>>, AllocError>
+        ensures { IfOk result (λ found. IfSome found (λ same. (same.one ≡ one.entry) × (same.other ≡ other.entry))) };
 
     /// Returns whether no other program has a file as its journal.
     fn is_free(&self, name: &str) -> bool;

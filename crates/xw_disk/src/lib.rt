@@ -13,5 +13,5 @@ mod reading;
 pub mod replacing;
 pub mod system;
 
-pub use disk::{CallFile, Disk, DiskFault, Standing, Start, Unkept};
+pub use disk::{CallFile, Disk, DiskFault, SameFile, Standing, Start, Unkept};
 pub use system::SystemDisk;

@@ -1,11 +1,12 @@
 //! The disk of the operating system.
 ghost use Rattle.std.specs.Prelude.{◌≡◌, [], ◌∷◌, ◌++◌, MatchResult, IfOk};
 ghost use Rattle.std.specs.Io.Buffered.{writer_inner};
+ghost use Rattle.xw_disk.specs.CallFile.{IsSource};
 ghost use Rattle.xw_disk.specs.Disk.{begin, started};
 
 use crate::appended::{Appended, JournalName, JournalWriter, Place};
 use crate::asked::Asked;
-use crate::disk::{CallFile, Disk, DiskFault, Standing, Start, Unkept};
+use crate::disk::{CallFile, Disk, DiskFault, SameFile, Standing, Start, Unkept};
 use crate::identity::{INPUT_PATH, Stamp, is_one_file, stamp_of, standing};
 use crate::leaving::leave;
 use crate::locks::{Held, Locks, System, hold};
@@ -84,7 +85,9 @@ fn bytes_of<R: System + AllocGlobal>(rt: &R, name: &str) -> io::Result<Vec<u8>> 
 }
 
 /// Returns the file that is read by a name. The name `-` stands for standard input.
-pub fn source<'a>(name: &'a str) -> CallFile<'a> {
+pub fn source<'a>(name: &'a str) -> CallFile<'a>
+    ensures { IsSource name.entry.now result }
+{
     if name == INPUT {
         CallFile::Input
     } else {
@@ -97,6 +100,19 @@ fn have_one_name(one: CallFile<'_>, other: CallFile<'_>) -> bool {
     match (one, other) {
         (CallFile::Named(one), CallFile::Named(other)) => one == other,
         _ => false,
+    }
+}
+
+/// Returns whether two files of a call are one. If that cannot be found, compares their names.
+fn is_found_one<R: System + AllocGlobal>(
+    rt: &R,
+    one: CallFile<'_>,
+    other: CallFile<'_>,
+) -> Result<bool, AllocError> {
+    match is_one_file(rt, one, other) {
+        Ok(is_one) => Ok(is_one),
+        Err(error) if error.kind() == ErrorKind::OutOfMemory => Err(AllocError),
+        Err(_) => Ok(have_one_name(one, other)),
     }
 }
 
@@ -165,7 +181,9 @@ impl<'a, R: System + AllocGlobal + Clone + Drop> Disk for SystemDisk<'a, R> {
     }
 
     fn try_replace(&mut self, name: &str) -> Result<(), DiskFault> {
-        self.answer(try_replace(self.rt, name).map_err(unwritable))
+        let answer = self.answer(try_replace(self.rt, name).map_err(unwritable));
+        self.log.note(&Asked::Try(name, answer));
+        answer
     }
 
     fn keep(&mut self, name: &str, apart: Option<&str>, bytes: &[u8]) -> Result<u32, Unkept> {
@@ -274,12 +292,15 @@ impl<'a, R: System + AllocGlobal + Clone + Drop> Disk for SystemDisk<'a, R> {
         answer
     }
 
-    fn is_one_file(&self, one: CallFile<'_>, other: CallFile<'_>) -> Result<bool, AllocError> {
-        match is_one_file(self.rt, one, other) {
-            Ok(is_one) => Ok(is_one),
-            Err(error) if error.kind() == ErrorKind::OutOfMemory => Err(AllocError),
-            Err(_) => Ok(have_one_name(one, other)),
+    fn same_file<'f>(
+        &self,
+        one: CallFile<'f>,
+        other: CallFile<'f>,
+    ) -> Result<Option<SameFile<'f>>, AllocError> {
+        if is_found_one(self.rt, one, other)? {
+            return Ok(Some(SameFile::new(one, other)));
         }
+        Ok(None)
     }
 
     fn is_free(&self, name: &str) -> bool {

@@ -6,7 +6,7 @@ use Rattle.xw_cli.proofs.edit.edit_apart.Goals as goal
 pub returns-in_err-session : goal.returns-in_err-session
 returns-in_err-session g c =
     let e = err_from_is_err_and c.from_residual.result c.from_residual.ensures.1 in
-    rw (e.1, e.2) (inr (inr (inl c.in_err-session.ensures.err)))
+    rw (e.1, e.2) (inr (inl c.in_err-session.ensures.err))
 
 pub returns-in-Some : goal.returns-in-Some
 returns-in-Some g c = edits c.args.named _ c.in_ok-session.session c.answer_journaled.result c.args.desk.now c.open.new.desk c.answer_journaled.new.desk c.in_ok-session.ensures.ok c.in-Some.is c.answer_journaled.ensures

@@ -1,5 +1,4 @@
-use Rattle.std.proofs.Common.{refl, subst}
-use Rattle.xw_desk.specs.Desk.{Moment, Reports}
+use Rattle.std.proofs.Common.{refl}
 use Rattle.xw_desk.proofs.Told.{goes_out}
 use Rattle.xw_desk.proofs.desk.Desk.report.Goals as goal
 
