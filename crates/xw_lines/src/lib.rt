@@ -7,6 +7,7 @@ pub mod line_buffer;
 pub mod outcome;
 pub mod run;
 pub mod standard;
+mod tries;
 
 pub use device::{DeviceFault, Sink, Source, WriteFailed};
 pub use outcome::{RunEnd, Step};

@@ -2,10 +2,12 @@
 ghost use Rattle.std.specs.Prelude.{◌≡◌, ◌≤◌, ◌<◌, ◌||◌, [], ◌∷◌, ◌++◌, length, take, IfOk, OnErr, MatchResult, false};
 ghost use Rattle.std.specs.Io.KnownBytes.{ReadConsumes, WriteAppends, Keeps};
 ghost use Rattle.xw_lines.specs.Device.{flushed, failures_after, counted_up, is_end};
+ghost use Rattle.xw_lines.specs.Tries.{calls, is_interrupted, AreRetries};
 
 use crate::device::{DeviceFault, Sink, Source};
 use crate::history::History;
-use std::io::{ErrorKind, Read, Write};
+use crate::tries::{Tries, is_interruption};
+use std::io::{self, ErrorKind, Read, Write};
 
 /// A `Read` as a `Source`.
 #[derive(Drop)]
@@ -88,6 +90,7 @@ fn read_retrying<R: Read>(reader: &mut R, buffer: &mut [u8]) -> Result<usize, De
 #[derive(Drop)]
 pub struct ToWrite<W> {
     writer: W,
+    tries: Tries,
     transcript: History,
     failures: u64,
 }
@@ -100,6 +103,7 @@ impl<W: Write> ToWrite<W> {
     {
         ToWrite {
             writer,
+            tries: Tries::new(),
             transcript: History::new(),
             failures: 0,
         }
@@ -136,8 +140,9 @@ impl<W: Write> Sink for ToWrite<W> {
         ensures none_due { IfOk result (λ count. length bytes.now ≡ 0 → self.new.failures ≡ self.old.failures) }
         ensures err { OnErr result (self.new.failures ≡ counted_up self.old.failures) }
         ensures written { WriteAppends (W.contents self.old.writer) (W.contents self.new.writer) result bytes.now }
+        ensures retried { AreRetries result (calls self.old.tries) (calls self.new.tries) }
     {
-        match write_retrying(&mut self.writer, bytes) {
+        match write_retrying(&mut self.writer, &mut self.tries, bytes) {
             Ok(count) => {
                 self.transcript.note(&bytes[..count]);
                 if count == 0 && !bytes.is_empty() {
@@ -170,19 +175,35 @@ impl<W: Write> Sink for ToWrite<W> {
 }
 
 /// Writes once, and retries when a signal interrupts the write.
-fn write_retrying<W: Write>(writer: &mut W, bytes: &[u8]) -> Result<usize, DeviceFault>
+fn write_retrying<W: Write>(
+    writer: &mut W,
+    tries: &mut Tries,
+    bytes: &[u8],
+) -> Result<usize, DeviceFault>
     ensures bound { IfOk result (λ count. count ≤ length bytes.now) }
     ensures bytes { WriteAppends (W.contents writer.old) (W.contents writer.new) result bytes.now }
+    ensures tries { AreRetries result (calls tries.old) (calls tries.new) }
 {
     for _ in 0..u64::MAX {
-        match writer.write(bytes) {
+        match write_once(writer, tries, bytes) {
             Ok(taken) => return Ok(taken),
             Err(error) => {
-                if error.kind() != ErrorKind::Interrupted {
+                if !is_interruption(error.kind()) {
                     return Err(DeviceFault);
                 }
             }
         }
     }
     Err(DeviceFault)
+}
+
+/// Writes once.
+fn write_once<W: Write>(writer: &mut W, tries: &mut Tries, bytes: &[u8]) -> io::Result<usize>
+    ensures bound { IfOk result (λ count. count ≤ length bytes.now) }
+    ensures bytes { WriteAppends (W.contents writer.old) (W.contents writer.new) result bytes.now }
+    ensures tries { calls tries.new ≡ is_interrupted result ∷ calls tries.old }
+{
+    let taken = writer.write(bytes);
+    tries.note(&taken);
+    taken
 }

@@ -1,0 +1,16 @@
+-- Calls that are made again.
+use Rattle.std.proofs.Common.{◌≡◌, ◌++◌, ◌∷◌, ◌∙◌, ap, inl, Bool, true, false, List, [], Result}
+use Rattle.xw_lines.specs.Tries.{AreInterrupted, AreRetries}
+
+-- the calls since some moment, all of them interrupted
+abbrev pub Waits : List Bool → List Bool → Type 0
+Waits old mid = (calls : List Bool) × AreInterrupted calls × (mid ≡ calls ++ old)
+
+-- one more was interrupted
+pub waits_on : (last : Bool) (old mid new : List Bool) → last ≡ true → new ≡ last ∷ mid → Waits old mid → Waits old new
+waits_on last old mid new is noted waits = (last ∷ waits.0, (is, waits.1), noted ∙ ap (λ calls. last ∷ calls) waits.2)
+
+-- the last was not interrupted
+pub ended : {T E : Type 0} (result : Result T E) (last : Bool) (old mid new : List Bool) → last ≡ false → new ≡ last ∷ mid → Waits old mid → AreRetries result old new
+ended result last old mid new is noted waits =
+    record { interrupted = waits.0; all = waits.1; last = last ∷ []; calls = noted ∙ ap (λ calls. last ∷ calls) waits.2; end = inl (ap (λ call. call ∷ []) is) }
