@@ -1,12 +1,12 @@
 //! Adapters from `Read` to `Source` and from `Write` to `Sink`.
-ghost use Rattle.std.specs.Prelude.{◌≡◌, ◌≤◌, ◌<◌, ◌||◌, [], ◌∷◌, ◌++◌, length, take, IfOk, OnErr, MatchResult, false};
+ghost use Rattle.std.specs.Prelude.{◌≡◌, ◌≤◌, ◌<◌, ◌||◌, [], ◌∷◌, ◌++◌, length, take, Ok, IfOk, OnErr, MatchResult, false};
 ghost use Rattle.std.specs.Io.KnownBytes.{ReadConsumes, WriteAppends, Keeps};
 ghost use Rattle.xw_lines.specs.Device.{flushed, failures_after, counted_up, is_end};
 ghost use Rattle.xw_lines.specs.Tries.{calls, is_interrupted, AreRetries};
 
 use crate::device::{DeviceFault, Sink, Source};
 use crate::history::History;
-use crate::tries::{Tries, is_interruption};
+use crate::tries::{Tries, is_interrupted};
 use std::io::{self, ErrorKind, Read, Write};
 
 /// A `Read` as a `Source`.
@@ -185,16 +185,22 @@ fn write_retrying<W: Write>(
     ensures tries { AreRetries result (calls tries.old) (calls tries.new) }
 {
     for _ in 0..u64::MAX {
-        match write_once(writer, tries, bytes) {
-            Ok(taken) => return Ok(taken),
-            Err(error) => {
-                if !is_interruption(error.kind()) {
-                    return Err(DeviceFault);
-                }
-            }
+        let taken = write_once(writer, tries, bytes);
+        if !is_interrupted(&taken) {
+            return taken_of(taken);
         }
     }
     Err(DeviceFault)
+}
+
+/// Returns how many bytes a write took.
+fn taken_of(taken: io::Result<usize>) -> Result<usize, DeviceFault>
+    ensures { MatchResult taken (λ count. result ≡ Ok count) (λ _. IfOk result (λ _. ⊥)) }
+{
+    match taken {
+        Ok(count) => Ok(count),
+        Err(_) => Err(DeviceFault),
+    }
 }
 
 /// Writes once.

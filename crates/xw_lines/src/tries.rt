@@ -1,6 +1,6 @@
 //! Which calls of the system were interrupted, for clauses only.
 ghost use Rattle.std.specs.Prelude.{◌≡◌, [], ◌∷◌};
-ghost use Rattle.xw_lines.specs.Tries.{is_interrupted, is_interruption};
+ghost use Rattle.xw_lines.specs.Tries.{is_interrupted};
 
 use std::io::{self, ErrorKind};
 use std::snapshot::Snapshot;
@@ -41,18 +41,11 @@ impl Tries {
 }
 
 /// Returns whether a signal interrupted a call that returned this.
-fn is_interrupted(taken: &io::Result<usize>) -> bool
+pub fn is_interrupted(taken: &io::Result<usize>) -> bool
     ensures { result ≡ is_interrupted taken.now }
 {
     match taken {
         Ok(_) => false,
-        Err(error) => is_interruption(error.kind()),
+        Err(error) => error.kind() == ErrorKind::Interrupted,
     }
-}
-
-/// Returns whether an error of this kind says that a signal interrupted the call.
-pub fn is_interruption(kind: ErrorKind) -> bool
-    ensures { result ≡ is_interruption kind }
-{
-    kind == ErrorKind::Interrupted
 }
