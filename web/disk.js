@@ -219,12 +219,12 @@ export function keep(name, apart, bytes) {
 }
 
 /**
- * Leaves bytes that a file did not get in a new file, which nobody else may read: beside the file, in the current folder or in `/tmp`. Returns its name, or null
- * if there is no place for it.
+ * Leaves bytes that a file did not get in a new file, which nobody else may read: beside the file unless that is a device or a pipe, in the current folder or in
+ * `/tmp`. Returns its name, or null if there is no place for it.
  */
 export function leave(name, apart, bytes) {
   const last = basename(name);
-  for (const place of [name, last, `${TEMPORARY}/${last}`]) {
+  for (const place of [...(isSpecial(name) ? [] : [name]), last, `${TEMPORARY}/${last}`]) {
     try {
       return leaveAs(place, apart, bytes);
     } catch {
@@ -232,6 +232,16 @@ export function leave(name, apart, bytes) {
     }
   }
   return null;
+}
+
+// Returns whether a name leads to a device, a pipe or a socket. No file may be made in the folders of such names.
+function isSpecial(name) {
+  try {
+    const stat = found(name);
+    return Boolean(stat) && !stat.isFile() && !stat.isDirectory();
+  } catch {
+    return false;
+  }
 }
 
 function leaveAs(name, apart, bytes) {

@@ -322,6 +322,18 @@ CASES = {
         holds("mine.xw~", b"old"),
         holds("mine.xw~2", record()),
     ],
+    # No file is made beside a device.
+    "left_elsewhere, a full device": [
+        run(
+            "edit --save /dev/full",
+            b"size 2 1\n",
+            b"ok\n",
+            errors=b"xw: /dev/full: not saved; the session is kept as full~\nxw: /dev/full: cannot write\n",
+            status=FAILED,
+        ),
+        holds("full~", record()),
+        lambda room, program: compare("/dev/full~ is there", os.path.exists("/dev/full~"), False),
+    ],
     # Nor is it waited for that somebody reads a pipe.
     "left_elsewhere, a pipe without a reader": [
         lambda room, program: os.mkfifo(room / "pipe"),

@@ -123,7 +123,8 @@ pub trait Disk {
         ensures { log self.new ≡ log self.old ++ stands name.now result ∷ [] };
 
     /// Leaves bytes that a file did not get in a new file, which nobody else may read, and returns its name. It is beside the
-    /// file, in the current folder or in `/tmp`, is named as a file that is kept, and does not lead to `apart`.
+    /// file unless that is a device or a pipe, in the current folder or in `/tmp`, is named as a file that is kept, and does
+    /// not lead to `apart`.
     fn leave(&mut self, name: &str, apart: Option<&str>, bytes: &[u8]) -> Result<String, DiskFault>
         ensures { MatchResult result
             (λ place. log self.new ≡ log self.old ++ leave name.now bytes.now (Ok place.bytes.items) ∷ [])
