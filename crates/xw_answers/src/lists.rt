@@ -8,6 +8,7 @@ ghost use Rattle.xw_lines.specs.Sends.{Sends, Gathers};
 ghost use Rattle.xw_answers.specs.Text.{word_line, light_line, light_lines, circle_line, circle_lines, change_line, spelled_line};
 
 use crate::answer_line::{AnswerLine, Token};
+use crate::lights::put_light;
 use crate::text;
 use xw_feas::changed::Changed;
 use xw_feas::feasible::Feasible;
@@ -32,25 +33,27 @@ pub fn write_lights<W: Sink>(sink: &mut W, grid: &Grid, lights: &Lights) -> Resu
     requires { lights.now ≡ lights_of grid.now }
     ensures { Sends W.transcript W.failures sink.old sink.new result (light_lines grid.now) }
 {
+    let mut lines = AnswerLine::new();
     for index in 0..lights.len() {
-        write_light_at(sink, grid, lights, index)?;
+        put_light_at(&mut lines, grid, lights, index, sink)?;
     }
-    Ok(())
+    lines.send(sink)
 }
 
-/// Writes the line of the light at an index.
-fn write_light_at<W: Sink>(
-    sink: &mut W,
+/// Appends the line of the light at an index.
+fn put_light_at<W: Sink>(
+    lines: &mut AnswerLine,
     grid: &Grid,
     lights: &Lights,
     index: usize,
+    sink: &mut W,
 ) -> Result<(), WriteFailed>
     requires lights { lights.now ≡ lights_of grid.now }
     requires index { index < length lights.now }
-    ensures { Sends W.transcript W.failures sink.old sink.new result (light_line grid.now (slice_index_or lights.now index no_light)) }
+    ensures { Gathers W.transcript W.failures sink.old sink.new lines.old lines.new result (light_line grid.now (slice_index_or lights.now index no_light)) }
 {
     grid.well_formed();
-    text::write_light(sink, grid, &lights.at(index))
+    put_light(lines, grid, &lights.at(index), sink)
 }
 
 /// Writes the line of a cell if the cell is open and circled.

@@ -5,7 +5,7 @@ ghost use Rattle.xw_grid.specs.Grid.{entry as entry_of};
 ghost use Rattle.xw_grid.specs.Light.{lights_of};
 ghost use Rattle.xw_lines.specs.Sends.{Sends};
 ghost use Rattle.xw_commands.specs.Names.{direction_name};
-ghost use Rattle.xw_answers.specs.Text.{line_of, number_line, accepted, refused, letter_or_dot as byte_of_entry, pattern as pattern_in, pattern_of, light_of, light_line, cell_line, letters_line, change_line, entry_line, repeat_line, numbered_line, grade_line, spelled_line};
+ghost use Rattle.xw_answers.specs.Text.{line_of, number_line, accepted, refused, letter_or_dot as byte_of_entry, pattern as pattern_in, pattern_of, light_of, cell_line, letters_line, change_line, entry_line, repeat_line, numbered_line, grade_line, spelled_line};
 
 use crate::answer_line::{Token, write_line};
 use crate::lookup::light_named;
@@ -206,32 +206,6 @@ pub fn write_entry<W: Sink>(
             Token::Letters(&[letter]),
         ],
     )
-}
-
-/// Writes a light's name, its start cell and letters, and an LF.
-fn write_light_line<W: Sink>(sink: &mut W, light: &Light, letters: &[u8]) -> Result<(), WriteFailed>
-    ensures { Sends W.transcript W.failures sink.old sink.new result (line_of (decimal light.now.name.number ∷ direction_name light.now.name.direction ∷ decimal light.now.start.row ∷ decimal light.now.start.col ∷ letters.now ∷ [])) }
-{
-    write_line(
-        sink,
-        &[
-            Token::Number(u64::from(light.name.number)),
-            Token::Name(light.name.direction.name()),
-            Token::Number(u64::from(light.start.row)),
-            Token::Number(u64::from(light.start.col)),
-            Token::Bytes(letters),
-        ],
-    )
-}
-
-/// Writes the line of a light: its name, its start cell and its letters.
-pub fn write_light<W: Sink>(sink: &mut W, grid: &Grid, light: &Light) -> Result<(), WriteFailed>
-    requires short { light.now.size ≤ 255 }
-    requires inside { (light.now.start.row ≤ 255) × (light.now.start.col ≤ 255) }
-    ensures { Sends W.transcript W.failures sink.old sink.new result (light_line grid.now light.now) }
-{
-    let pattern = Pattern::new(grid, light);
-    write_light_line(sink, light, pattern.bytes())
 }
 
 /// Writes two lights' names, letters and an LF.

@@ -1,0 +1,10 @@
+use Rattle.std.proofs.Common.{[]}
+use Rattle.std.proofs.lemmas.Result.{err_from_is_err_and}
+use Rattle.xw_answers.specs.Text.{light_line}
+use Rattle.xw_answers.proofs.Gathering.{gathers-stops}
+use Rattle.xw_answers.proofs.lights.put_light.Goals as goal
+
+pub returns-in_err-make_room : goal.returns-in_err-make_room
+returns-in_err-make_room g c =
+    let e = err_from_is_err_and c.from_residual.result c.from_residual.ensures.1 in
+    rw e.1 (gathers-stops g.W.Sink.transcript g.W.Sink.failures c.args.sink.now c.make_room.new.sink c.args.line.now [] (light_line c.args.grid.now c.args.light.now) c.in_err-make_room.ensures.gathers)
