@@ -88,6 +88,18 @@ module _ {S : Type 0} (transcript : S → List ℕ) (failures : S → ℕ) where
   pub gathers-nothing : (E : Type 0) (old : S) (before : List ℕ) → Gathers {T = Unit {0}} {E = E} transcript failures old old before before (Ok (tt {0})) []
   gathers-nothing E old before = ([], record { transcript = sym (append-nil (transcript old)); parts = append-nil before; quiet = refl })
 
+  -- room was made, and a text is buffered
+  pub gathers-pushed : (F : Type 0) (old mid : S) (before between after text : List ℕ) → Gathers {T = Unit {0}} {E = F} transcript failures old mid before between (Ok (tt {0})) [] → after ≡ between ++ text
+      → Gathers {T = Unit {0}} {E = F} transcript failures old mid before after (Ok (tt {0})) text
+  gathers-pushed F old mid before between after text room pushed = (
+    room.0,
+    record {
+      transcript = room.1.transcript;
+      parts = ap (λ xs. xs ++ text) (sym (append-nil before) ∙ room.1.parts) ∙ append_assoc room.0 between text ∙ ap (λ xs. room.0 ++ xs) (sym pushed);
+      quiet = room.1.quiet;
+    },
+  )
+
   -- the writer failed within a text after another
   pub stops-in : (old mid new : S) (before between front text rest whole : List ℕ) → whole ≡ front ++ (text ++ rest)
       → Gathers {T = Unit {0}} {E = Unit {0}} transcript failures old mid before between (Ok (tt {0})) front

@@ -48,14 +48,12 @@ module _ (text : ℕ → List ℕ) (n : ℕ) where
   pub all_texts : (i : ℕ) → n ≤ i → flat_map text (take i (range_with_len 0 n)) ≡ flat_map text (range_with_len 0 n)
   all_texts i past = ap (flat_map text) (take_all i (range_with_len 0 n) (rw length-range_with_len past))
 
-  -- one more text is appended to a line, in two bytes
-  pub pair_more : (i one other : ℕ) (begun old now new : List ℕ) → i < n → one ∷ other ∷ [] ≡ text i → old ≡ begun ++ flat_map text (take i (range_with_len 0 n)) → now ≡ old ++ one ∷ [] → new ≡ now ++ other ∷ []
-      → new ≡ begun ++ flat_map text (take (i + 1) (range_with_len 0 n))
-  pair_more i one other begun old now new h pair was first second =
-      second ∙ ap (λ xs. xs ++ other ∷ []) (first ∙ ap (λ xs. xs ++ one ∷ []) was)
-      ∙ append_assoc (begun ++ flat_map text (take i (range_with_len 0 n))) (one ∷ []) (other ∷ [])
-      ∙ append_assoc begun (flat_map text (take i (range_with_len 0 n))) (one ∷ other ∷ [])
-      ∙ ap (λ xs. begun ++ xs) (ap (λ ys. flat_map text (take i (range_with_len 0 n)) ++ ys) pair ∙ sym (one_text_more i h))
+  -- one more text is appended to a line
+  pub text_pushed : (i : ℕ) (begun line pushed : List ℕ) → i < n → line ≡ begun ++ flat_map text (take i (range_with_len 0 n)) → pushed ≡ text i → line ++ pushed ≡ begun ++ flat_map text (take (i + 1) (range_with_len 0 n))
+  text_pushed i begun line pushed h was is =
+      ap (λ xs. xs ++ pushed) was
+      ∙ append_assoc begun (flat_map text (take i (range_with_len 0 n))) pushed
+      ∙ ap (λ xs. begun ++ xs) (ap (λ ys. flat_map text (take i (range_with_len 0 n)) ++ ys) is ∙ sym (one_text_more i h))
 
 -- the same, written to a writer
 module _ {S : Type 0} (transcript : S → List ℕ) (failures : S → ℕ) (text : ℕ → List ℕ) (n : ℕ) where

@@ -108,14 +108,30 @@ impl AnswerLine {
         self.len += 1;
     }
 
+    /// Appends a digit, which must fit.
+    fn push_digit(&mut self, digit: u16)
+        requires digit { digit < 10 }
+        requires room { length self.old < 512 }
+        ensures { self.new ≡ self.old ++ decimal digit }
+    {
+        self.push_byte(b'0' + digit as u8);
+    }
+
     /// Appends a number in decimal, which has at most five digits and must fit.
     pub fn push_number(&mut self, number: u16)
         requires { length self.old + 5 ≤ 512 }
         ensures number { self.new ≡ self.old ++ decimal number }
         ensures short { length (decimal number) ≤ 5 }
     {
-        let mut digits = Buffer::new();
-        self.push_bytes(digits.format(number).as_bytes());
+        if number < 10 {
+            self.push_digit(number);
+        } else if number < 100 {
+            self.push_digit(number / 10);
+            self.push_byte(b'0' + (number % 10) as u8);
+        } else {
+            let mut digits = Buffer::new();
+            self.push_bytes(digits.format(number).as_bytes());
+        }
     }
 
     /// Appends letters, which must fit.

@@ -1,11 +1,11 @@
 //! Writes answers that are lists, one line per item.
-ghost use Rattle.std.specs.Prelude.{◌≡◌, ◌<◌, ◌≤◌, flat_map, length, slice_index_or, take};
-ghost use Rattle.xw_grid.specs.Light.{lights_of, no_light};
+ghost use Rattle.std.specs.Prelude.{◌≡◌, flat_map, take};
+ghost use Rattle.xw_grid.specs.Light.{lights_of};
 ghost use Rattle.xw_feas.specs.Changed.{changes_left};
 ghost use Rattle.xw_feas.specs.Changes.{spelled_out};
 ghost use Rattle.xw_feas.specs.Spelled.{spelling};
 ghost use Rattle.xw_lines.specs.Sends.{Sends, Gathers};
-ghost use Rattle.xw_answers.specs.Text.{word_line, light_line, light_lines, circle_line, circle_lines, change_line, spelled_line};
+ghost use Rattle.xw_answers.specs.Text.{word_line, light_lines, circle_line, circle_lines, change_line, spelled_line};
 
 use crate::answer_line::{AnswerLine, Token};
 use crate::lights::put_light;
@@ -35,25 +35,9 @@ pub fn write_lights<W: Sink>(sink: &mut W, grid: &Grid, lights: &Lights) -> Resu
 {
     let mut lines = AnswerLine::new();
     for index in 0..lights.len() {
-        put_light_at(&mut lines, grid, lights, index, sink)?;
+        put_light(&mut lines, grid, lights, index, sink)?;
     }
     lines.send(sink)
-}
-
-/// Appends the line of the light at an index.
-fn put_light_at<W: Sink>(
-    lines: &mut AnswerLine,
-    grid: &Grid,
-    lights: &Lights,
-    index: usize,
-    sink: &mut W,
-) -> Result<(), WriteFailed>
-    requires lights { lights.now ≡ lights_of grid.now }
-    requires index { index < length lights.now }
-    ensures { Gathers W.transcript W.failures sink.old sink.new lines.old lines.new result (light_line grid.now (slice_index_or lights.now index no_light)) }
-{
-    grid.well_formed();
-    put_light(lines, grid, &lights.at(index), sink)
 }
 
 /// Writes the line of a cell if the cell is open and circled.

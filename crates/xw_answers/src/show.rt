@@ -4,7 +4,7 @@ ghost use Rattle.std.specs.List.{list_any};
 ghost use Rattle.xw_lines.specs.Sends.{Sends, Gathers};
 ghost use Rattle.xw_grid.specs.declared.cell.Side.TheVariants.{Below};
 ghost use Rattle.xw_grid.specs.Grid.{is_barred as is_barred_edge};
-ghost use Rattle.xw_answers.specs.Show.{cell_glyph as glyph_of, after_cell as byte_after, bar_glyph as glyph_of_bar, after_bar as byte_after_bar, cell_in as nth_cell, columns as columns_of, row_line, bar_line, has_bar_below as is_barred_below_row, row_lines, show_lines};
+ghost use Rattle.xw_answers.specs.Show.{cell_glyph as glyph_of, after_cell as byte_after, cell_pair as pair_of_cell, bar_pair as pair_of_bar, cell_in as nth_cell, columns as columns_of, row_line, bar_line, has_bar_below as is_barred_below_row, row_lines, show_lines};
 
 use crate::answer_line::AnswerLine;
 use xw_grid::{Cell, Grid, Side};
@@ -34,24 +34,26 @@ fn after_cell(grid: &Grid, cell: Cell) -> u8
     }
 }
 
-fn bar_glyph(grid: &Grid, cell: Cell) -> u8
-    ensures { result ≡ glyph_of_bar grid.now cell }
+fn cell_pair(grid: &Grid, cell: Cell) -> [u8; 2]
+    ensures { result ≡ pair_of_cell grid.now cell }
 {
-    if grid.is_barred(cell, Side::Below) {
+    [cell_glyph(grid, cell), after_cell(grid, cell)]
+}
+
+fn bar_pair(grid: &Grid, cell: Cell) -> [u8; 2]
+    ensures { result ≡ pair_of_bar grid.now cell }
+{
+    let bar = if grid.is_barred(cell, Side::Below) {
         b'='
     } else {
         b'.'
-    }
-}
-
-fn after_bar(grid: &Grid, cell: Cell) -> u8
-    ensures { result ≡ byte_after_bar grid.now cell }
-{
-    if cell.col == grid.width() {
+    };
+    let after = if cell.col == grid.width() {
         b'\n'
     } else {
         b'.'
-    }
+    };
+    [bar, after]
 }
 
 /// Returns the cell of a row after `before` other cells.
@@ -83,9 +85,7 @@ fn push_cells(line: &mut AnswerLine, grid: &Grid, row: u32)
     ensures { line.new ≡ line.old ++ row_line grid.now row }
 {
     for before in 0..grid.width() {
-        let cell = cell_in(row, before);
-        line.push_byte(cell_glyph(grid, cell));
-        line.push_byte(after_cell(grid, cell));
+        line.push_bytes(&cell_pair(grid, cell_in(row, before)));
     }
 }
 
@@ -95,9 +95,7 @@ fn push_bars(line: &mut AnswerLine, grid: &Grid, row: u32)
     ensures { line.new ≡ line.old ++ bar_line grid.now row }
 {
     for before in 0..grid.width() {
-        let cell = cell_in(row, before);
-        line.push_byte(bar_glyph(grid, cell));
-        line.push_byte(after_bar(grid, cell));
+        line.push_bytes(&bar_pair(grid, cell_in(row, before)));
     }
 }
 

@@ -1,7 +1,6 @@
 //! The lines of answers that have a fixed number of words.
 ghost use Rattle.std.specs.Prelude.{◌≡◌, ◌≤◌, [], ◌∷◌, decimal};
 ghost use Rattle.xw_letters.specs.LetterSet.{letters_in};
-ghost use Rattle.xw_grid.specs.Grid.{entry as entry_of};
 ghost use Rattle.xw_grid.specs.Light.{lights_of};
 ghost use Rattle.xw_lines.specs.Sends.{Sends};
 ghost use Rattle.xw_commands.specs.Names.{direction_name};
@@ -35,11 +34,11 @@ pub fn write_refused<W: Sink>(sink: &mut W, refusal: CommandRefusal) -> Result<(
     )
 }
 
-/// Returns the letter of a cell, or a dot if it has none.
-pub fn letter_or_dot(grid: &Grid, cell: Cell) -> u8
-    ensures { result ≡ byte_of_entry (entry_of grid.now cell) }
+/// Returns the letter in a cell, or a dot if it has none.
+pub fn letter_or_dot(entry: Option<Letter>) -> u8
+    ensures { result ≡ byte_of_entry entry }
 {
-    match grid.entry(cell) {
+    match entry {
         Some(letter) => letter.byte(),
         None => b'.',
     }
@@ -67,7 +66,7 @@ impl Pattern {
     {
         let mut bytes = ArrayVec::new();
         for k in 0..light.size {
-            bytes.push(letter_or_dot(grid, light.cell(k)));
+            bytes.push(letter_or_dot(grid.entry(light.cell(k))));
         }
         Pattern { bytes }
     }

@@ -18,16 +18,16 @@ loop-index-preserved g c =
     let lights = c.args.lights.now in
     let within : c.loop-index.index < length lights = omega (arith, c.loop-index-test.true, c.len-index-end.ensures.len) in
     item_gathered g.W.Sink.transcript g.W.Sink.failures (light_line c.args.grid.now) lights c.loop-index.index (get_or lights c.loop-index.index no_light) within (get_or_default lights c.loop-index.index no_light _ within)
-    c.args.sink.now c.loop-index.sink c.put_light_at.new.sink [] c.loop-index.lines c.put_light_at.new.lines c.loop-index.invariant c.in_ok-put_light_at.ensures
+    c.args.sink.now c.loop-index.sink c.put_light.new.sink [] c.loop-index.lines c.put_light.new.line c.loop-index.invariant c.in_ok-put_light.ensures
 
-pub returns-in_err-put_light_at : goal.returns-in_err-put_light_at
-returns-in_err-put_light_at g c =
+pub returns-in_err-put_light : goal.returns-in_err-put_light
+returns-in_err-put_light g c =
     let e = err_from_is_err_and c.from_residual.result c.from_residual.ensures.1 in
     let lights = c.args.lights.now in
     let within : c.loop-index.index < length lights = omega (arith, c.loop-index-test.true, c.len-index-end.ensures.len) in
     let stops = item_stops g.W.Sink.transcript g.W.Sink.failures (light_line c.args.grid.now) lights c.loop-index.index (get_or lights c.loop-index.index no_light) within (get_or_default lights c.loop-index.index no_light _ within)
-    c.args.sink.now c.loop-index.sink c.put_light_at.new.sink c.loop-index.lines c.loop-index.invariant c.in_err-put_light_at.ensures in
-    rw e.1 (subst (λ (lights : List Light). Begins (g.W.Sink.transcript c.args.sink.now) (g.W.Sink.transcript c.put_light_at.new.sink) (flat_map (light_line c.args.grid.now) lights) × HasFailed (g.W.Sink.failures c.args.sink.now) (g.W.Sink.failures c.put_light_at.new.sink)) c.requires stops)
+    c.args.sink.now c.loop-index.sink c.put_light.new.sink c.loop-index.lines c.loop-index.invariant c.in_err-put_light.ensures in
+    rw e.1 (subst (λ (lights : List Light). Begins (g.W.Sink.transcript c.args.sink.now) (g.W.Sink.transcript c.put_light.new.sink) (flat_map (light_line c.args.grid.now) lights) × HasFailed (g.W.Sink.failures c.args.sink.now) (g.W.Sink.failures c.put_light.new.sink)) c.requires stops)
 
 pub returns : goal.returns
 returns g c =

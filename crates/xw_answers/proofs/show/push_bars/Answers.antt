@@ -1,18 +1,16 @@
-use Rattle.std.proofs.Common.{◌≡◌, ◌++◌, ◌∷◌, [], ◌∙◌, ap, ℕ, List, length, arith, length-append}
-use Rattle.xw_answers.specs.Show.{bar_glyph, after_bar, bar_pair, cell_in}
-use Rattle.xw_answers.proofs.Sending.{pair_more, all_texts}
+use Rattle.std.proofs.Common.{◌≡◌, ◌++◌, ◌∙◌, ap, ℕ, List, length, arith, length-append}
+use Rattle.xw_answers.specs.Show.{bar_pair, cell_in}
+use Rattle.xw_answers.proofs.Sending.{text_pushed, all_texts}
 use Rattle.xw_answers.proofs.show.push_bars.Goals as goal
 
 pub loop-before-preserved : goal.loop-before-preserved
 loop-before-preserved c =
-    let grid = c.args.grid.now in
-    let text : ℕ → List ℕ = λ before. bar_pair grid (cell_in c.args.row before) in
+    let text : ℕ → List ℕ = λ before. bar_pair c.args.grid.now (cell_in c.args.row before) in
+    let is : c.bar_pair.result ≡ text c.loop-before.before = c.bar_pair.ensures ∙ ap (bar_pair c.args.grid.now) c.cell_in.ensures in
     let before = c.loop-before.invariant in
-    let pair : c.bar_glyph.result ∷ c.after_bar.result ∷ [] ≡ text c.loop-before.before =
-    ap (λ x. x ∷ c.after_bar.result ∷ []) (c.bar_glyph.ensures ∙ ap (bar_glyph grid) c.cell_in-cell.ensures) ∙ ap (λ x. bar_glyph grid (cell_in c.args.row c.loop-before.before) ∷ x ∷ []) (c.after_bar.ensures ∙ ap (after_bar grid) c.cell_in-cell.ensures) in
     record {
-      is = pair_more text grid.width c.loop-before.before c.bar_glyph.result c.after_bar.result c.args.line.now c.loop-before.line c.push_byte.new.self c.push_byte-in-loop-before.new.self (omega arith) pair before.is c.push_byte.ensures c.push_byte-in-loop-before.ensures;
-      long = omega (arith, before.long, ap length c.push_byte.ensures, ap length c.push_byte-in-loop-before.ensures, length-append {A = ℕ});
+      is = c.push_bytes.ensures ∙ text_pushed text c.args.grid.now.width c.loop-before.before c.args.line.now c.loop-before.line c.bar_pair.result (omega arith) before.is is;
+      long = omega (arith, before.long, ap length c.push_bytes.ensures, length-append c.loop-before.line c.bar_pair.result);
     }
 
 pub returns : goal.returns
