@@ -195,6 +195,11 @@ impl AnswerLine {
     fn put_number<W: Sink>(&mut self, number: u64, sink: &mut W) -> Result<(), WriteFailed>
         ensures { Gathers W.transcript W.failures sink.old sink.new self.old self.new result (decimal number) }
     {
+        if number < 100 {
+            self.make_room(5, sink)?;
+            self.push_number(number as u16);
+            return Ok(());
+        }
         let mut digits = Buffer::new();
         self.put(digits.format(number).as_bytes(), sink)
     }

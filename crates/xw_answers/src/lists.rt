@@ -74,11 +74,12 @@ pub fn write_circles<W: Sink>(
 pub fn write_changes<W: Sink>(sink: &mut W, changed: Changed<'_>) -> Result<(), WriteFailed>
     ensures { Sends W.transcript W.failures sink.old sink.new result (flat_map change_line (spelled_out (changes_left changed.entry))) }
 {
+    let mut lines = AnswerLine::new();
     for change in changed {
         let (cell, letters) = change;
-        text::write_change(sink, cell, letters)?;
+        text::put_change(&mut lines, cell, letters, sink)?;
     }
-    Ok(())
+    lines.send(sink)
 }
 
 /// Appends a feasible word and an LF.

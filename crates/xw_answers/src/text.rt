@@ -2,11 +2,11 @@
 ghost use Rattle.std.specs.Prelude.{◌≡◌, ◌≤◌, [], ◌∷◌, decimal};
 ghost use Rattle.xw_letters.specs.LetterSet.{letters_in};
 ghost use Rattle.xw_grid.specs.Light.{lights_of};
-ghost use Rattle.xw_lines.specs.Sends.{Sends};
+ghost use Rattle.xw_lines.specs.Sends.{Sends, Gathers};
 ghost use Rattle.xw_commands.specs.Names.{direction_name};
 ghost use Rattle.xw_answers.specs.Text.{line_of, number_line, accepted, refused, letter_or_dot as byte_of_entry, pattern as pattern_in, pattern_of, light_of, cell_line, letters_line, change_line, entry_line, repeat_line, numbered_line, grade_line, spelled_line};
 
-use crate::answer_line::{Token, write_line};
+use crate::answer_line::{AnswerLine, Token, write_line};
 use crate::lookup::light_named;
 use crate::refusal::{self, CommandRefusal};
 use arrayvec::ArrayVec;
@@ -166,6 +166,26 @@ pub fn write_letter_set<W: Sink>(sink: &mut W, letters: LetterSet) -> Result<(),
     write_line(sink, &[Token::Set(letters)])
 }
 
+/// Appends the line of a changed cell with its feasible letters.
+pub fn put_change<W: Sink>(
+    line: &mut AnswerLine,
+    cell: Cell,
+    letters: LetterSet,
+    sink: &mut W,
+) -> Result<(), WriteFailed>
+    ensures { Gathers W.transcript W.failures sink.old sink.new line.old line.new result (change_line (cell, letters_in letters)) }
+{
+    line.put_line(
+        &[
+            Token::Name("cell"),
+            Token::Number(u64::from(cell.row)),
+            Token::Number(u64::from(cell.col)),
+            Token::Set(letters),
+        ],
+        sink,
+    )
+}
+
 /// Writes the line of a changed cell with its feasible letters.
 pub fn write_change<W: Sink>(
     sink: &mut W,
@@ -174,15 +194,9 @@ pub fn write_change<W: Sink>(
 ) -> Result<(), WriteFailed>
     ensures { Sends W.transcript W.failures sink.old sink.new result (change_line (cell, letters_in letters)) }
 {
-    write_line(
-        sink,
-        &[
-            Token::Name("cell"),
-            Token::Number(u64::from(cell.row)),
-            Token::Number(u64::from(cell.col)),
-            Token::Set(letters),
-        ],
-    )
+    let mut line = AnswerLine::new();
+    put_change(&mut line, cell, letters, sink)?;
+    line.send(sink)
 }
 
 /// Writes the line of a cell if it has an entry.
