@@ -1,6 +1,7 @@
 -- Buffered lines that are written when the buffer is full.
-use Rattle.std.proofs.Common.{◌≡◌, ℕ, ◌+◌, ◌<◌, List, [], ◌∷◌, ◌++◌, length, take, drop, get_or, refl, sym, ◌∙◌, ap, append_assoc, append-nil, subst}
-use Rattle.std.proofs.lemmas.List.{take_more, get_or_default}
+use Rattle.std.proofs.Common.{◌≡◌, ℕ, ◌+◌, ◌<◌, ◌≤◌, List, [], ◌∷◌, ◌++◌, length, take, drop, get_or, refl, sym, ◌∙◌, ap, append_assoc, append-nil, subst, add-one, drop-cons, suc}
+use Rattle.std.proofs.lemmas.List.{take-append-drop, take_all, take_more, get_or_default}
+use Rattle.std.proofs.lemmas.Grind.{flat_map-append}
 use Rattle.std.specs.Prelude.{Result, Ok, Err, flat_map}
 use Rattle.xw_lines.specs.Device.{Begins, HasFailed}
 use Rattle.xw_lines.specs.Sends.{Sends, Gathers}
@@ -87,6 +88,18 @@ module _ {S : Type 0} (transcript : S → List ℕ) (failures : S → ℕ) where
   pub gathers-nothing : (E : Type 0) (old : S) (before : List ℕ) → Gathers {T = Unit {0}} {E = E} transcript failures old old before before (Ok (tt {0})) []
   gathers-nothing E old before = ([], record { transcript = sym (append-nil (transcript old)); parts = append-nil before; quiet = refl })
 
+  -- room was made, and a text is buffered
+  pub gathers-pushed : (F : Type 0) (old mid : S) (before between after text : List ℕ) → Gathers {T = Unit {0}} {E = F} transcript failures old mid before between (Ok (tt {0})) [] → after ≡ between ++ text
+      → Gathers {T = Unit {0}} {E = F} transcript failures old mid before after (Ok (tt {0})) text
+  gathers-pushed F old mid before between after text room pushed = (
+    room.0,
+    record {
+      transcript = room.1.transcript;
+      parts = ap (λ xs. xs ++ text) (sym (append-nil before) ∙ room.1.parts) ∙ append_assoc room.0 between text ∙ ap (λ xs. room.0 ++ xs) (sym pushed);
+      quiet = room.1.quiet;
+    },
+  )
+
   -- the writer failed within a text after another
   pub stops-in : (old mid new : S) (before between front text rest whole : List ℕ) → whole ≡ front ++ (text ++ rest)
       → Gathers {T = Unit {0}} {E = Unit {0}} transcript failures old mid before between (Ok (tt {0})) front
@@ -97,6 +110,34 @@ module _ {S : Type 0} (transcript : S → List ℕ) (failures : S → ℕ) where
       let longer = gathers-stops old new before (front ++ text) rest both in
       let same : (front ++ text) ++ rest ≡ whole = append_assoc front text rest ∙ sym is in
       (subst (λ xs. Begins (transcript old) (transcript new) (before ++ xs)) same longer.0, longer.1)
+
+  -- the texts of the first items were buffered, and that of one more
+  module _ {X : Type 0} (text : X → List ℕ) (items : List X) (at : ℕ) (item : X) (h : at < length items) (is : item ≡ get_or items at item) where
+    pub item_gathered : (old mid new : S) (before between after : List ℕ) → Gathers {T = Unit {0}} {E = Unit {0}} transcript failures old mid before between (Ok (tt {0})) (flat_map text (take at items))
+        → Gathers {T = Unit {0}} {E = Unit {0}} transcript failures mid new between after (Ok (tt {0})) (text item) → Gathers {T = Unit {0}} {E = Unit {0}} transcript failures old new before after (Ok (tt {0})) (flat_map text (take (at + 1) items))
+    item_gathered old mid new before between after first second =
+        let more : take (at + 1) items ≡ take at items ++ item ∷ [] = take_more items at item h ∙ ap (λ x. take at items ++ x ∷ []) (sym is) in
+        let whole : flat_map text (take at items) ++ text item ≡ flat_map text (take (at + 1) items) =
+        sym (ap (flat_map text) more ∙ flat_map-append text (take at items) (item ∷ []) ∙ ap (λ ys. flat_map text (take at items) ++ ys) (append-nil (text item))) in
+        subst (λ xs. Gathers {T = Unit {0}} {E = Unit {0}} transcript failures old new before after (Ok (tt {0})) xs) whole
+        (gathers-then {T = Unit {0}} {E = Unit {0}} (Unit {0}) old mid new before between after (flat_map text (take at items)) (text item) (Ok (tt {0})) first second)
+
+    -- the buffer was empty, and the writer failed within the next text
+    pub item_stops : (old mid new : S) (between : List ℕ) → Gathers {T = Unit {0}} {E = Unit {0}} transcript failures old mid [] between (Ok (tt {0})) (flat_map text (take at items))
+        → Begins (transcript mid) (transcript new) (between ++ text item) × HasFailed (failures mid) (failures new)
+        → Begins (transcript old) (transcript new) (flat_map text items) × HasFailed (failures old) (failures new)
+    item_stops old mid new between first s =
+        let next : drop at items ≡ item ∷ drop (at + 1) items = rw add-one (drop-cons items at item h ∙ ap (λ x. x ∷ drop (suc at) items) (sym is)) in
+        let whole : flat_map text items ≡ flat_map text (take at items) ++ (text item ++ flat_map text (drop (at + 1) items)) =
+        ap (flat_map text) (sym (take-append-drop at items) ∙ ap (λ xs. take at items ++ xs) next) ∙ flat_map-append text (take at items) (item ∷ drop (at + 1) items) in
+        stops-in old mid new [] between (flat_map text (take at items)) (text item) (flat_map text (drop (at + 1) items)) _ whole first s
+
+  -- the texts of all items were buffered from an empty buffer on, and it is written
+  pub items_end : {X T E : Type 0} (text : X → List ℕ) (items : List X) (old mid new : S) (after : List ℕ) (at : ℕ) (result : Result T E) → length items ≤ at
+      → Gathers {T = Unit {0}} {E = Unit {0}} transcript failures old mid [] after (Ok (tt {0})) (flat_map text (take at items)) → Sends transcript failures mid new result after
+      → Sends transcript failures old new result (flat_map text items)
+  items_end text items old mid new after at result past first s =
+      subst (λ xs. Sends transcript failures old new result (flat_map text xs)) (take_all at items past) (gathers-end (Unit {0}) old mid new after (flat_map text (take at items)) result first s)
 
   -- one more letter of a word
   module _ (letters : List ℕ) (at byte item : ℕ) (h : at < length letters) (is : item ≡ get_or letters at item) (same : byte ≡ item) where

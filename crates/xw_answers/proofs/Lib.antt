@@ -1,3 +1,4 @@
+pub mod CopyLemmas
 pub mod Gathering
 pub mod Sending
 pub mod Bars

@@ -1,11 +1,11 @@
 -- The lines of lights.
-use Rattle.std.proofs.Common.{◌≡◌, ℕ, ◌+◌, ◌-◌, ◌*◌, ◌<◌, ◌≤◌, true, ◌&&◌, List, [], ◌∷◌, ◌++◌, length, map, take, get_or, refl, sym, subst, ap, ◌∙◌, arith, zero-add, length-take}
-use Rattle.std.specs.Prelude.{Option, Some, None, slice_get}
+use Rattle.std.proofs.Common.{◌≡◌, ℕ, suc, ◌+◌, ◌-◌, ◌*◌, ◌<◌, ◌≤◌, true, ◌&&◌, List, [], ◌∷◌, ◌++◌, length, map, take, get_or, refl, sym, subst, ap, ◌∙◌, arith, zero-add, length-take}
+use Rattle.std.specs.Prelude.{Option, Some, None, slice_get, if◌then◌else◌}
 use Rattle.std.specs.Option.{option_and_then}
 use Rattle.std.proofs.lemmas.Option.{slice_get_within, get_or_from_slice_get}
 use Rattle.std.specs.List.{range_with_len}
 use Rattle.std.proofs.lemmas.Bool.{ne_eqb}
-use Rattle.std.proofs.lemmas.List.{take_more, take_all}
+use Rattle.std.proofs.lemmas.List.{take_more, take_all, length-map}
 use Rattle.std.proofs.lemmas.List.FromFn.{take-map-range_with_len, length-map-range_with_len, get_or-map-range_with_len}
 use Rattle.std.proofs.lemmas.List.Sums.{count_by-le-length}
 use Rattle.xw_text.proofs.Position.{position_is_none}
@@ -14,13 +14,15 @@ use Rattle.xw_grid.specs.declared.cell.LightName.{LightName}
 use Rattle.xw_grid.specs.declared.cell.Direction.{Direction}
 use Rattle.xw_grid.specs.declared.cell.Direction.TheVariants.{Across, Down}
 use Rattle.xw_grid.specs.declared.lights.Light.{Light}
-use Rattle.xw_grid.specs.Grid.{Grid, IsGrid, is_inside, cells, cell_at, index_of, entry}
-use Rattle.xw_grid.specs.Light.{begins_some, lights_of, no_light, index_named, same_name, same_direction, step}
+use Rattle.xw_grid.specs.Grid.{Grid, IsGrid, is_inside, cells, cell_at, index_of, letter_in, entry}
+use Rattle.xw_grid.specs.Light.{begins_some, cells_of, lights_of, no_light, index_named, same_name, same_direction, step}
 use Rattle.xw_grid.proofs.GridLemmas.{IsInside-is_inside, length-cells, get_or-map-cells, size_small}
-use Rattle.xw_grid.proofs.LightLemmas.{size_of_light, step-zero}
+use Rattle.xw_grid.proofs.LightLemmas.{length-line, get_or-line, size_of_light, step-zero}
 use Rattle.xw_grid.proofs.OrderLemmas.{lights_are_made, made_number}
 use Rattle.xw_grid.proofs.LightTableLemmas.{light_inside}
-use Rattle.xw_answers.specs.Text.{letter_or_dot, pattern}
+use Rattle.xw_feas.specs.Board.{board_of, light_at, entry as entry_at}
+use Rattle.xw_feas.proofs.BoardLemmas.{entry-square, light_at-board}
+use Rattle.xw_answers.specs.Text.{letter_or_dot, letters_at, pattern}
 
 -- a run of cells inside a grid has at most 255 cells
 line_short : (grid : Grid) (direction : Direction) (start : Cell) (size : ℕ) → IsGrid grid → 2 ≤ size → is_inside grid start ≡ true → is_inside grid (step direction start (size - 1)) ≡ true
@@ -93,3 +95,28 @@ cell_in_order grid k d below = ap (λ xs. get_or xs k d) (sym (map_itself (cells
   map_itself : (xs : List Cell) → map (λ cell. cell) xs ≡ xs
   map_itself [] = refl
   map_itself (x ∷ xs) = ap (λ ys. x ∷ ys) (map_itself xs)
+
+-- the letters of a light, from the cells of the board
+module _ (grid : Grid) where
+  letter_on_board : (cell : Cell) → is_inside grid cell ≡ true → letter_or_dot (entry_at (board_of grid) (index_of grid cell)) ≡ letter_or_dot (entry grid cell)
+  letter_on_board cell inside =
+      ap letter_or_dot (entry-square grid (index_of grid cell) ∙ sym (ap (λ b. letter_in (if b then slice_get grid.squares (index_of grid cell) else None)) inside))
+
+  letters_on_board : (cells : List Cell) → ((k : ℕ) (d : Cell) → k < length cells → is_inside grid (get_or cells k d) ≡ true) → letters_at (board_of grid) (map (index_of grid) cells) ≡ map (λ cell. letter_or_dot (entry grid cell)) cells
+  letters_on_board [] inside = refl
+  letters_on_board (cell ∷ cells) inside =
+      rw (letter_on_board cell (inside 0 cell (omega arith)), letters_on_board cells (λ k d below. inside (suc k) d (omega arith))) refl
+
+  pub pattern_on_board : (index : ℕ) → index < length (lights_of grid) → letters_at (board_of grid) (light_at (board_of grid) index) ≡ pattern grid (get_or (lights_of grid) index no_light)
+  pattern_on_board index within =
+      let light = get_or (lights_of grid) index no_light in
+      let inside : (k : ℕ) (d : Cell) → k < length (cells_of light) → is_inside grid (get_or (cells_of light) k d) ≡ true = λ k d below.
+      let there : k < light.size = omega (arith, below, length-line light.name.direction light.start light.size) in
+      ap (is_inside grid) (get_or-line light.name.direction light.start light.size k d there) ∙ light_inside grid index no_light within k there in
+      ap (letters_at (board_of grid)) (light_at-board grid index no_light within) ∙ letters_on_board (cells_of light) inside
+
+  -- a light of the board has at most 255 cells
+  pub few_cells : (index : ℕ) → IsGrid grid → index < length (lights_of grid) → length (light_at (board_of grid) index) ≤ 255
+  few_cells index is within =
+      let light = get_or (lights_of grid) index no_light in
+      omega (arith, ap length (light_at-board grid index no_light within), length-map (cells_of light) (index_of grid), length-line light.name.direction light.start light.size, (light_short grid index is within).0)

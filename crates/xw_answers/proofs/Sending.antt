@@ -24,7 +24,7 @@ line_of_one view [] word is h = absurd (omega (arith, h))
 line_of_one view (first ∷ []) word is h = ap (λ w. view w ++ codes "\n") (sym is)
 line_of_one view (first ∷ next ∷ words) word is h = absurd (omega (arith, h))
 
-number_at : (n i d : ℕ) → i < n → i ≡ get_or (range_with_len 0 n) i d
+pub number_at : (n i d : ℕ) → i < n → i ≡ get_or (range_with_len 0 n) i d
 number_at n i d h = sym (get_or-range_with_len 0 n i d h ∙ zero-add i)
 
 -- texts of the numbers below n, one after another
@@ -47,6 +47,13 @@ module _ (text : ℕ → List ℕ) (n : ℕ) where
 
   pub all_texts : (i : ℕ) → n ≤ i → flat_map text (take i (range_with_len 0 n)) ≡ flat_map text (range_with_len 0 n)
   all_texts i past = ap (flat_map text) (take_all i (range_with_len 0 n) (rw length-range_with_len past))
+
+  -- one more text is appended to a line
+  pub text_pushed : (i : ℕ) (begun line pushed : List ℕ) → i < n → line ≡ begun ++ flat_map text (take i (range_with_len 0 n)) → pushed ≡ text i → line ++ pushed ≡ begun ++ flat_map text (take (i + 1) (range_with_len 0 n))
+  text_pushed i begun line pushed h was is =
+      ap (λ xs. xs ++ pushed) was
+      ∙ append_assoc begun (flat_map text (take i (range_with_len 0 n))) pushed
+      ∙ ap (λ xs. begun ++ xs) (ap (λ ys. flat_map text (take i (range_with_len 0 n)) ++ ys) is ∙ sym (one_text_more i h))
 
 -- the same, written to a writer
 module _ {S : Type 0} (transcript : S → List ℕ) (failures : S → ℕ) (text : ℕ → List ℕ) (n : ℕ) where

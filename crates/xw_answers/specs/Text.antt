@@ -14,6 +14,7 @@ use Rattle.xw_words.specs.declared.fault.WordFault.TheVariants as words
 use Rattle.xw_commands.specs.Names.{direction_name}
 use Rattle.xw_commands.specs.declared.command.SyntaxFault.{SyntaxFault}
 use Rattle.xw_commands.specs.declared.command.SyntaxFault.TheVariants as syntax
+use Rattle.xw_feas.specs.Board.{Board, entry as entry_at}
 use Rattle.xw_feas.specs.declared.edit.Refusal.{Refusal}
 use Rattle.xw_feas.specs.declared.edit.Refusal.TheVariants as edits
 use Rattle.xw_answers.specs.declared.refusal.CommandRefusal.{CommandRefusal}
@@ -115,8 +116,16 @@ letter_or_dot (Some letter) = letter
 abbrev pub pattern : Grid → Light → List ℕ
 pattern grid light = map (λ cell. letter_or_dot (entry grid cell)) (cells_of light)
 
+-- the same for cells of a board
+abbrev pub letters_at : Board → List ℕ → List ℕ
+letters_at board cells = map (λ cell. letter_or_dot (entry_at board cell)) cells
+
+-- a light's name, its start cell and letters
+abbrev pub light_words : Light → List ℕ → List ℕ
+light_words light letters = line_of (decimal light.name.number ∷ direction_name light.name.direction ∷ decimal light.start.row ∷ decimal light.start.col ∷ letters ∷ [])
+
 abbrev pub light_line : Grid → Light → List ℕ
-light_line grid light = line_of (decimal light.name.number ∷ direction_name light.name.direction ∷ decimal light.start.row ∷ decimal light.start.col ∷ pattern grid light ∷ [])
+light_line grid light = light_words light (pattern grid light)
 
 -- the light with this name
 abbrev pub light_of : Grid → LightName → Option Light

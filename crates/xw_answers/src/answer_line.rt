@@ -6,8 +6,8 @@ ghost use Rattle.xw_answers.specs.Escape.{spelled_at, escaped_text};
 ghost use Rattle.xw_answers.specs.Text.{line_of, word_line, letters_or_dash, two_decimals};
 ghost use Rattle.xw_answers.specs.Token.{token_bytes};
 
+use crate::copying;
 use crate::escape::{is_end, letter_for};
-use arrayvec::ArrayVec;
 use itoa::Buffer;
 use std::marker::Model;
 use xw_feas::word_iter::Entries;
@@ -38,15 +38,18 @@ pub enum Token<'a> {
 /// A fixed-size buffer for answer lines. It is written when it is full, and by `send`. It allocates nothing.
 #[derive(Drop)]
 pub struct AnswerLine {
-    bytes: ArrayVec<u8, MOST>,
+    bytes: [u8; MOST],
+    len: usize,
 }
 
 impl Model for AnswerLine {
-    ghost use Rattle.std.specs.Prelude.{ℕ, List};
+    ghost use Rattle.std.specs.Prelude.{ℕ, List, ◌≤◌, take};
 
     ghost Value = { List ℕ };
 
-    ghost view = { λ line. line.bytes.items };
+    ghost view = { λ line. take line.len line.bytes };
+
+    ghost invariant = { λ line. line.len ≤ 512 };
 }
 
 impl AnswerLine {
@@ -54,7 +57,8 @@ impl AnswerLine {
         ensures { result ≡ [] }
     {
         AnswerLine {
-            bytes: ArrayVec::new(),
+            bytes: [0; MOST],
+            len: 0,
         }
     }
 
@@ -62,7 +66,14 @@ impl AnswerLine {
     pub fn clear(&mut self)
         ensures { self.new ≡ [] }
     {
-        self.bytes.clear();
+        self.len = 0;
+    }
+
+    /// How many more bytes fit.
+    fn room(&self) -> usize
+        ensures { result + length self.now ≡ 512 }
+    {
+        MOST - self.len
     }
 
     /// Appends bytes if they fit. Returns whether they did.
@@ -71,13 +82,72 @@ impl AnswerLine {
         ensures full { result ≡ false → self.new ≡ self.old }
         ensures room { length self.old + length bytes.now ≤ 512 → result ≡ true }
     {
-        self.bytes.try_extend_from_slice(bytes).is_ok()
+        if bytes.len() > self.room() {
+            return false;
+        }
+        self.push_bytes(bytes);
+        true
+    }
+
+    /// Appends bytes, which must fit.
+    pub fn push_bytes(&mut self, bytes: &[u8])
+        requires { length self.old + length bytes.now ≤ 512 }
+        ensures { self.new ≡ self.old ++ bytes.now }
+    {
+        let end = self.len + bytes.len();
+        self.bytes[self.len..end].copy_from_slice(bytes);
+        self.len = end;
+    }
+
+    /// Appends a byte, which must fit.
+    pub fn push_byte(&mut self, byte: u8)
+        requires { length self.old < 512 }
+        ensures { self.new ≡ self.old ++ byte ∷ [] }
+    {
+        self.bytes[self.len] = byte;
+        self.len += 1;
+    }
+
+    /// Appends a digit, which must fit.
+    fn push_digit(&mut self, digit: u16)
+        requires digit { digit < 10 }
+        requires room { length self.old < 512 }
+        ensures { self.new ≡ self.old ++ decimal digit }
+    {
+        self.push_byte(b'0' + digit as u8);
+    }
+
+    /// Appends a number in decimal, which has at most five digits and must fit.
+    pub fn push_number(&mut self, number: u16)
+        requires { length self.old + 5 ≤ 512 }
+        ensures number { self.new ≡ self.old ++ decimal number }
+        ensures short { length (decimal number) ≤ 5 }
+    {
+        if number < 10 {
+            self.push_digit(number);
+        } else if number < 100 {
+            self.push_digit(number / 10);
+            self.push_byte(b'0' + (number % 10) as u8);
+        } else {
+            let mut digits = Buffer::new();
+            self.push_bytes(digits.format(number).as_bytes());
+        }
+    }
+
+    /// Appends letters, which must fit.
+    fn push_letters(&mut self, letters: &[Letter])
+        requires { length self.old + length letters.now ≤ 512 }
+        ensures { self.new ≡ self.old ++ letters.now }
+    {
+        let end = self.len + letters.len();
+        copying::copy_letters(&mut self.bytes[self.len..end], letters);
+        self.len = end;
     }
 
     pub fn bytes(&self) -> &[u8]
         ensures { result.now ≡ self.now }
     {
-        self.bytes.as_slice()
+        &self.bytes[..self.len]
     }
 
     /// Writes the buffered bytes and empties the buffer.
@@ -88,6 +158,19 @@ impl AnswerLine {
         device::write_all(sink, self.bytes())?;
         self.clear();
         Ok(())
+    }
+
+    /// Writes the buffered bytes if fewer than `count` more fit.
+    pub fn make_room<W: Sink>(&mut self, count: usize, sink: &mut W) -> Result<(), WriteFailed>
+        requires { count ≤ 512 }
+        ensures gathers { Gathers W.transcript W.failures sink.old sink.new self.old self.new result [] }
+        ensures room { IfOk result (λ _. length self.new + count ≤ 512) }
+    {
+        if self.room() < count {
+            self.send(sink)
+        } else {
+            Ok(())
+        }
     }
 
     /// Appends bytes. If they do not fit, writes the buffer and then the bytes.
@@ -101,9 +184,22 @@ impl AnswerLine {
         device::write_all(sink, bytes)
     }
 
+    fn put_byte<W: Sink>(&mut self, byte: u8, sink: &mut W) -> Result<(), WriteFailed>
+        ensures { Gathers W.transcript W.failures sink.old sink.new self.old self.new result (byte ∷ []) }
+    {
+        self.make_room(1, sink)?;
+        self.push_byte(byte);
+        Ok(())
+    }
+
     fn put_number<W: Sink>(&mut self, number: u64, sink: &mut W) -> Result<(), WriteFailed>
         ensures { Gathers W.transcript W.failures sink.old sink.new self.old self.new result (decimal number) }
     {
+        if number < 100 {
+            self.make_room(5, sink)?;
+            self.push_number(number as u16);
+            return Ok(());
+        }
         let mut digits = Buffer::new();
         self.put(digits.format(number).as_bytes(), sink)
     }
@@ -117,22 +213,12 @@ impl AnswerLine {
         self.put(&[b'.', tenth, hundredth], sink)
     }
 
-    /// Appends letters, which must fit.
-    fn push_letters(&mut self, letters: &[Letter])
-        requires { length self.old + length letters.now ≤ 512 }
-        ensures { self.new ≡ self.old ++ letters.now }
-    {
-        for letter in letters {
-            self.bytes.push(letter.byte());
-        }
-    }
-
     /// Appends letters, one after another.
     fn put_each<W: Sink>(&mut self, letters: &[Letter], sink: &mut W) -> Result<(), WriteFailed>
         ensures { Gathers W.transcript W.failures sink.old sink.new self.old self.new result letters.now }
     {
         for letter in letters {
-            self.put(&[letter.byte()], sink)?;
+            self.put_byte(letter.byte(), sink)?;
         }
         Ok(())
     }
@@ -140,7 +226,7 @@ impl AnswerLine {
     fn put_letters<W: Sink>(&mut self, letters: &[Letter], sink: &mut W) -> Result<(), WriteFailed>
         ensures { Gathers W.transcript W.failures sink.old sink.new self.old self.new result letters.now }
     {
-        if letters.len() > self.bytes.remaining_capacity() {
+        if letters.len() > self.room() {
             return self.put_each(letters, sink);
         }
         self.push_letters(letters);
@@ -157,7 +243,7 @@ impl AnswerLine {
         ensures { Gathers W.transcript W.failures sink.old sink.new self.old self.new result (slice_index_or entries.now k 0 ∷ []) }
     {
         match entries.letter(k) {
-            Some(letter) => self.put(&[letter.byte()], sink),
+            Some(letter) => self.put_byte(letter.byte(), sink),
             None => Ok(()),
         }
     }
@@ -179,10 +265,10 @@ impl AnswerLine {
         ensures { Gathers W.transcript W.failures sink.old sink.new self.old self.new result (letters_or_dash (letters_in set)) }
     {
         if set.len() == 0 {
-            return self.put(b"-", sink);
+            return self.put_byte(b'-', sink);
         }
         for letter in set.iter() {
-            self.put(&[letter.byte()], sink)?;
+            self.put_byte(letter.byte(), sink)?;
         }
         Ok(())
     }
@@ -200,7 +286,7 @@ impl AnswerLine {
         let byte = text[index];
         match letter_for(is_end(text, index), byte) {
             Some(letter) => self.put(&[b'\\', letter], sink),
-            None => self.put(&[byte], sink),
+            None => self.put_byte(byte, sink),
         }
     }
 
@@ -237,14 +323,14 @@ impl AnswerLine {
         ensures { Gathers W.transcript W.failures sink.old sink.new self.old self.new result (line_of (map token_bytes words.now)) }
     {
         match words {
-            [] => self.put(b"\n", sink),
+            [] => self.put_byte(b'\n', sink),
             [word] => {
                 self.put_token(word, sink)?;
-                self.put(b"\n", sink)
+                self.put_byte(b'\n', sink)
             }
             [word, others @ ..] => {
                 self.put_token(word, sink)?;
-                self.put(b" ", sink)?;
+                self.put_byte(b' ', sink)?;
                 self.put_line(others, sink)
             }
         }
@@ -254,11 +340,11 @@ impl AnswerLine {
     pub fn put_word<W: Sink>(&mut self, letters: &[Letter], sink: &mut W) -> Result<(), WriteFailed>
         ensures { Gathers W.transcript W.failures sink.old sink.new self.old self.new result (word_line letters.now) }
     {
-        if letters.len() >= self.bytes.remaining_capacity() {
+        if letters.len() >= self.room() {
             return self.put_line(&[Token::Letters(letters)], sink);
         }
         self.push_letters(letters);
-        self.bytes.push(b'\n');
+        self.push_byte(b'\n');
         Ok(())
     }
 }

@@ -2,8 +2,10 @@
 #![tactic(auto)]
 
 pub mod answer_line;
+mod copying;
 pub mod escape;
 pub mod fields;
+mod lights;
 pub mod lists;
 pub mod lookup;
 pub mod record;

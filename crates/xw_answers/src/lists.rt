@@ -1,13 +1,14 @@
 //! Writes answers that are lists, one line per item.
-ghost use Rattle.std.specs.Prelude.{◌≡◌, ◌<◌, ◌≤◌, flat_map, length, slice_index_or, take};
-ghost use Rattle.xw_grid.specs.Light.{lights_of, no_light};
+ghost use Rattle.std.specs.Prelude.{◌≡◌, flat_map, take};
+ghost use Rattle.xw_grid.specs.Light.{lights_of};
 ghost use Rattle.xw_feas.specs.Changed.{changes_left};
 ghost use Rattle.xw_feas.specs.Changes.{spelled_out};
 ghost use Rattle.xw_feas.specs.Spelled.{spelling};
 ghost use Rattle.xw_lines.specs.Sends.{Sends, Gathers};
-ghost use Rattle.xw_answers.specs.Text.{word_line, light_line, light_lines, circle_line, circle_lines, change_line, spelled_line};
+ghost use Rattle.xw_answers.specs.Text.{word_line, light_lines, circle_line, circle_lines, change_line, spelled_line};
 
 use crate::answer_line::{AnswerLine, Token};
+use crate::lights::put_light;
 use crate::text;
 use xw_feas::changed::Changed;
 use xw_feas::feasible::Feasible;
@@ -32,25 +33,11 @@ pub fn write_lights<W: Sink>(sink: &mut W, grid: &Grid, lights: &Lights) -> Resu
     requires { lights.now ≡ lights_of grid.now }
     ensures { Sends W.transcript W.failures sink.old sink.new result (light_lines grid.now) }
 {
+    let mut lines = AnswerLine::new();
     for index in 0..lights.len() {
-        write_light_at(sink, grid, lights, index)?;
+        put_light(&mut lines, grid, lights, index, sink)?;
     }
-    Ok(())
-}
-
-/// Writes the line of the light at an index.
-fn write_light_at<W: Sink>(
-    sink: &mut W,
-    grid: &Grid,
-    lights: &Lights,
-    index: usize,
-) -> Result<(), WriteFailed>
-    requires lights { lights.now ≡ lights_of grid.now }
-    requires index { index < length lights.now }
-    ensures { Sends W.transcript W.failures sink.old sink.new result (light_line grid.now (slice_index_or lights.now index no_light)) }
-{
-    grid.well_formed();
-    text::write_light(sink, grid, &lights.at(index))
+    lines.send(sink)
 }
 
 /// Writes the line of a cell if the cell is open and circled.
@@ -87,11 +74,12 @@ pub fn write_circles<W: Sink>(
 pub fn write_changes<W: Sink>(sink: &mut W, changed: Changed<'_>) -> Result<(), WriteFailed>
     ensures { Sends W.transcript W.failures sink.old sink.new result (flat_map change_line (spelled_out (changes_left changed.entry))) }
 {
+    let mut lines = AnswerLine::new();
     for change in changed {
         let (cell, letters) = change;
-        text::write_change(sink, cell, letters)?;
+        text::put_change(&mut lines, cell, letters, sink)?;
     }
-    Ok(())
+    lines.send(sink)
 }
 
 /// Appends a feasible word and an LF.

@@ -1,14 +1,14 @@
 //! Writes the grid for the command `show`.
-ghost use Rattle.std.specs.Prelude.{◌≡◌, ◌+◌, ◌<◌, ◌≤◌, if◌then◌else◌, []};
+ghost use Rattle.std.specs.Prelude.{◌≡◌, ◌+◌, ◌*◌, ◌<◌, ◌≤◌, ◌++◌, if◌then◌else◌, [], length};
 ghost use Rattle.std.specs.List.{list_any};
-ghost use Rattle.xw_lines.specs.Sends.{Sends};
+ghost use Rattle.xw_lines.specs.Sends.{Sends, Gathers};
 ghost use Rattle.xw_grid.specs.declared.cell.Side.TheVariants.{Below};
 ghost use Rattle.xw_grid.specs.Grid.{is_barred as is_barred_edge};
 ghost use Rattle.xw_answers.specs.Show.{cell_glyph as glyph_of, after_cell as byte_after, cell_pair as pair_of_cell, bar_pair as pair_of_bar, cell_in as nth_cell, columns as columns_of, row_line, bar_line, has_bar_below as is_barred_below_row, row_lines, show_lines};
 
 use crate::answer_line::AnswerLine;
 use xw_grid::{Cell, Grid, Side};
-use xw_lines::device::{self, Sink, WriteFailed};
+use xw_lines::device::{Sink, WriteFailed};
 
 fn cell_glyph(grid: &Grid, cell: Cell) -> u8
     ensures { result ≡ glyph_of grid.now cell }
@@ -79,64 +79,66 @@ fn has_bar_below(grid: &Grid, row: u32) -> bool
     false
 }
 
-/// Builds the line of a row's cells.
-fn put_cells(line: &mut AnswerLine, grid: &Grid, row: u32)
-    ensures { line.new ≡ row_line grid.now row }
+/// Appends the line of a row's cells, which must fit.
+fn push_cells(line: &mut AnswerLine, grid: &Grid, row: u32)
+    requires { length line.old + 2 * grid.now.width ≤ 512 }
+    ensures { line.new ≡ line.old ++ row_line grid.now row }
 {
-    grid.well_formed();
-    line.clear();
     for before in 0..grid.width() {
-        let _ = line.push(&cell_pair(grid, cell_in(row, before)));
+        line.push_bytes(&cell_pair(grid, cell_in(row, before)));
     }
 }
 
-/// Builds the line of the bars below a row.
-fn put_bars(line: &mut AnswerLine, grid: &Grid, row: u32)
-    ensures { line.new ≡ bar_line grid.now row }
+/// Appends the line of the bars below a row, which must fit.
+fn push_bars(line: &mut AnswerLine, grid: &Grid, row: u32)
+    requires { length line.old + 2 * grid.now.width ≤ 512 }
+    ensures { line.new ≡ line.old ++ bar_line grid.now row }
 {
-    grid.well_formed();
-    line.clear();
     for before in 0..grid.width() {
-        let _ = line.push(&bar_pair(grid, cell_in(row, before)));
+        line.push_bytes(&bar_pair(grid, cell_in(row, before)));
     }
 }
 
-fn write_row<W: Sink>(
-    sink: &mut W,
+/// Appends the line of a row's cells.
+fn put_cells<W: Sink>(
     line: &mut AnswerLine,
     grid: &Grid,
     row: u32,
+    sink: &mut W,
 ) -> Result<(), WriteFailed>
-    ensures { Sends W.transcript W.failures sink.old sink.new result (row_line grid.now row) }
+    ensures { Gathers W.transcript W.failures sink.old sink.new line.old line.new result (row_line grid.now row) }
 {
-    put_cells(line, grid, row);
-    device::write_all(sink, line.bytes())
+    line.make_room(2 * grid.width() as usize, sink)?;
+    push_cells(line, grid, row);
+    Ok(())
 }
 
-fn write_bars<W: Sink>(
-    sink: &mut W,
+/// Appends the line of the bars below a row.
+fn put_bars<W: Sink>(
     line: &mut AnswerLine,
     grid: &Grid,
     row: u32,
+    sink: &mut W,
 ) -> Result<(), WriteFailed>
-    ensures { Sends W.transcript W.failures sink.old sink.new result (bar_line grid.now row) }
+    ensures { Gathers W.transcript W.failures sink.old sink.new line.old line.new result (bar_line grid.now row) }
 {
-    put_bars(line, grid, row);
-    device::write_all(sink, line.bytes())
+    line.make_room(2 * grid.width() as usize, sink)?;
+    push_bars(line, grid, row);
+    Ok(())
 }
 
-/// Writes the line of a row, and a line of bars if the row has a bar below it.
-fn write_row_lines<W: Sink>(
-    sink: &mut W,
+/// Appends the line of a row, and a line of bars if the row has a bar below it.
+fn put_row_lines<W: Sink>(
     line: &mut AnswerLine,
     grid: &Grid,
     row: u32,
+    sink: &mut W,
 ) -> Result<(), WriteFailed>
-    ensures { Sends W.transcript W.failures sink.old sink.new result (row_lines grid.now row) }
+    ensures { Gathers W.transcript W.failures sink.old sink.new line.old line.new result (row_lines grid.now row) }
 {
-    write_row(sink, line, grid, row)?;
+    put_cells(line, grid, row, sink)?;
     if has_bar_below(grid, row) {
-        write_bars(sink, line, grid, row)
+        put_bars(line, grid, row, sink)
     } else {
         Ok(())
     }
@@ -146,9 +148,9 @@ fn write_row_lines<W: Sink>(
 pub fn write_grid<W: Sink>(sink: &mut W, grid: &Grid) -> Result<(), WriteFailed>
     ensures { Sends W.transcript W.failures sink.old sink.new result (show_lines grid.now) }
 {
-    let mut line = AnswerLine::new();
+    let mut lines = AnswerLine::new();
     for above in 0..grid.height() {
-        write_row_lines(sink, &mut line, grid, above + 1)?;
+        put_row_lines(&mut lines, grid, above + 1, sink)?;
     }
-    Ok(())
+    lines.send(sink)
 }

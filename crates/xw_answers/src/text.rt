@@ -1,13 +1,12 @@
 //! The lines of answers that have a fixed number of words.
 ghost use Rattle.std.specs.Prelude.{◌≡◌, ◌≤◌, [], ◌∷◌, decimal};
 ghost use Rattle.xw_letters.specs.LetterSet.{letters_in};
-ghost use Rattle.xw_grid.specs.Grid.{entry as entry_of};
 ghost use Rattle.xw_grid.specs.Light.{lights_of};
-ghost use Rattle.xw_lines.specs.Sends.{Sends};
+ghost use Rattle.xw_lines.specs.Sends.{Sends, Gathers};
 ghost use Rattle.xw_commands.specs.Names.{direction_name};
-ghost use Rattle.xw_answers.specs.Text.{line_of, number_line, accepted, refused, letter_or_dot as byte_of_entry, pattern as pattern_in, pattern_of, light_of, light_line, cell_line, letters_line, change_line, entry_line, repeat_line, numbered_line, grade_line, spelled_line};
+ghost use Rattle.xw_answers.specs.Text.{line_of, number_line, accepted, refused, letter_or_dot as byte_of_entry, pattern as pattern_in, pattern_of, light_of, cell_line, letters_line, change_line, entry_line, repeat_line, numbered_line, grade_line, spelled_line};
 
-use crate::answer_line::{Token, write_line};
+use crate::answer_line::{AnswerLine, Token, write_line};
 use crate::lookup::light_named;
 use crate::refusal::{self, CommandRefusal};
 use arrayvec::ArrayVec;
@@ -35,11 +34,11 @@ pub fn write_refused<W: Sink>(sink: &mut W, refusal: CommandRefusal) -> Result<(
     )
 }
 
-/// Returns the letter of a cell, or a dot if it has none.
-pub fn letter_or_dot(grid: &Grid, cell: Cell) -> u8
-    ensures { result ≡ byte_of_entry (entry_of grid.now cell) }
+/// Returns the letter in a cell, or a dot if it has none.
+pub fn letter_or_dot(entry: Option<Letter>) -> u8
+    ensures { result ≡ byte_of_entry entry }
 {
-    match grid.entry(cell) {
+    match entry {
         Some(letter) => letter.byte(),
         None => b'.',
     }
@@ -67,7 +66,7 @@ impl Pattern {
     {
         let mut bytes = ArrayVec::new();
         for k in 0..light.size {
-            bytes.push(letter_or_dot(grid, light.cell(k)));
+            bytes.push(letter_or_dot(grid.entry(light.cell(k))));
         }
         Pattern { bytes }
     }
@@ -167,6 +166,26 @@ pub fn write_letter_set<W: Sink>(sink: &mut W, letters: LetterSet) -> Result<(),
     write_line(sink, &[Token::Set(letters)])
 }
 
+/// Appends the line of a changed cell with its feasible letters.
+pub fn put_change<W: Sink>(
+    line: &mut AnswerLine,
+    cell: Cell,
+    letters: LetterSet,
+    sink: &mut W,
+) -> Result<(), WriteFailed>
+    ensures { Gathers W.transcript W.failures sink.old sink.new line.old line.new result (change_line (cell, letters_in letters)) }
+{
+    line.put_line(
+        &[
+            Token::Name("cell"),
+            Token::Number(u64::from(cell.row)),
+            Token::Number(u64::from(cell.col)),
+            Token::Set(letters),
+        ],
+        sink,
+    )
+}
+
 /// Writes the line of a changed cell with its feasible letters.
 pub fn write_change<W: Sink>(
     sink: &mut W,
@@ -175,15 +194,9 @@ pub fn write_change<W: Sink>(
 ) -> Result<(), WriteFailed>
     ensures { Sends W.transcript W.failures sink.old sink.new result (change_line (cell, letters_in letters)) }
 {
-    write_line(
-        sink,
-        &[
-            Token::Name("cell"),
-            Token::Number(u64::from(cell.row)),
-            Token::Number(u64::from(cell.col)),
-            Token::Set(letters),
-        ],
-    )
+    let mut line = AnswerLine::new();
+    put_change(&mut line, cell, letters, sink)?;
+    line.send(sink)
 }
 
 /// Writes the line of a cell if it has an entry.
@@ -206,32 +219,6 @@ pub fn write_entry<W: Sink>(
             Token::Letters(&[letter]),
         ],
     )
-}
-
-/// Writes a light's name, its start cell and letters, and an LF.
-fn write_light_line<W: Sink>(sink: &mut W, light: &Light, letters: &[u8]) -> Result<(), WriteFailed>
-    ensures { Sends W.transcript W.failures sink.old sink.new result (line_of (decimal light.now.name.number ∷ direction_name light.now.name.direction ∷ decimal light.now.start.row ∷ decimal light.now.start.col ∷ letters.now ∷ [])) }
-{
-    write_line(
-        sink,
-        &[
-            Token::Number(u64::from(light.name.number)),
-            Token::Name(light.name.direction.name()),
-            Token::Number(u64::from(light.start.row)),
-            Token::Number(u64::from(light.start.col)),
-            Token::Bytes(letters),
-        ],
-    )
-}
-
-/// Writes the line of a light: its name, its start cell and its letters.
-pub fn write_light<W: Sink>(sink: &mut W, grid: &Grid, light: &Light) -> Result<(), WriteFailed>
-    requires short { light.now.size ≤ 255 }
-    requires inside { (light.now.start.row ≤ 255) × (light.now.start.col ≤ 255) }
-    ensures { Sends W.transcript W.failures sink.old sink.new result (light_line grid.now light.now) }
-{
-    let pattern = Pattern::new(grid, light);
-    write_light_line(sink, light, pattern.bytes())
 }
 
 /// Writes two lights' names, letters and an LF.

@@ -12,13 +12,13 @@ loop-letter-init g c = gathers-nothing g.W.Sink.transcript g.W.Sink.failures (Un
 pub loop-letter-preserved : goal.loop-letter-preserved
 loop-letter-preserved g c =
     letter_gathered g.W.Sink.transcript g.W.Sink.failures c.args.letters.now c.loop-letter.letter-index c.byte.result _ c.loop-letter-test.true c.letter-item.is c.byte.ensures.code
-    c.args.sink.now c.loop-letter.sink c.put.new.sink c.args.self.now c.loop-letter.self c.put.new.self c.loop-letter.invariant c.in_ok-put.ensures
+    c.args.sink.now c.loop-letter.sink c.put_byte.new.sink c.args.self.now c.loop-letter.self c.put_byte.new.self c.loop-letter.invariant c.in_ok-put_byte.ensures
 
-pub returns-in_err-put : goal.returns-in_err-put
-returns-in_err-put g c =
+pub returns-in_err-put_byte : goal.returns-in_err-put_byte
+returns-in_err-put_byte g c =
     let e = err_from_is_err_and c.from_residual.result c.from_residual.ensures.1 in
     rw e.1 (letter_stops g.W.Sink.transcript g.W.Sink.failures c.args.letters.now c.loop-letter.letter-index c.byte.result _ c.loop-letter-test.true c.letter-item.is c.byte.ensures.code
-    c.args.sink.now c.loop-letter.sink c.put.new.sink c.args.self.now c.loop-letter.self c.loop-letter.invariant c.in_err-put.ensures)
+    c.args.sink.now c.loop-letter.sink c.put_byte.new.sink c.args.self.now c.loop-letter.self c.loop-letter.invariant c.in_err-put_byte.ensures)
 
 pub returns : goal.returns
 returns g c =

@@ -9,7 +9,7 @@ use Rattle.xw_answers.proofs.Gathering.{gathers-nothing, gathers-then, stops-in}
 use Rattle.xw_answers.proofs.answer_line.AnswerLine.put_set.Goals as goal
 
 pub returns-then-len-eq0 : goal.returns-then-len-eq0
-returns-then-len-eq0 g c = rw (no_letters (letters_in c.args.set) (sym c.len.ensures ∙ c.if-len-eq0.true)) c.put.ensures
+returns-then-len-eq0 g c = rw (no_letters (letters_in c.args.set) (sym c.len.ensures ∙ c.if-len-eq0.true)) c.put_byte.ensures
 
 pub loop-letter-init : goal.loop-letter-init
 loop-letter-init g c =
@@ -23,12 +23,12 @@ loop-letter-preserved g c =
       put ++ byte ∷ [],
       record {
         parts = kept.parts ∙ ap (λ xs. put ++ xs) (c.in-Some.ensures.steps ∙ ap (λ x. x ∷ c.next.new.self) (sym c.byte.ensures.code)) ∙ sym (append_assoc put (byte ∷ []) c.next.new.self);
-        put = gathers-then g.W.Sink.transcript g.W.Sink.failures {T = Unit {0}} {E = Unit {0}} (Unit {0}) c.args.sink.now c.loop-letter.sink c.put-in-loop-letter.new.sink c.args.self.now c.loop-letter.self c.put-in-loop-letter.new.self put (byte ∷ []) (Ok (tt {0})) kept.put c.in_ok-put.ensures;
+        put = gathers-then g.W.Sink.transcript g.W.Sink.failures {T = Unit {0}} {E = Unit {0}} (Unit {0}) c.args.sink.now c.loop-letter.sink c.put_byte-in-loop-letter.new.sink c.args.self.now c.loop-letter.self c.put_byte-in-loop-letter.new.self put (byte ∷ []) (Ok (tt {0})) kept.put c.in_ok-put_byte.ensures;
       },
     )
 
-pub returns-in_err-put : goal.returns-in_err-put
-returns-in_err-put g c =
+pub returns-in_err-put_byte : goal.returns-in_err-put_byte
+returns-in_err-put_byte g c =
     let e = err_from_is_err_and c.from_residual.result c.from_residual.ensures.1 in
     let put = c.loop-letter.invariant.0 in
     let kept = c.loop-letter.invariant.1 in
@@ -36,7 +36,7 @@ returns-in_err-put g c =
     let whole : letters_or_dash (letters_in c.args.set) ≡ put ++ (byte ∷ [] ++ c.next.new.self) =
     some_letters (letters_in c.args.set) (λ none. c.if-len-eq0.false (c.len.ensures ∙ none))
     ∙ kept.parts ∙ ap (λ xs. put ++ xs) (c.in-Some.ensures.steps ∙ ap (λ x. x ∷ c.next.new.self) (sym c.byte.ensures.code)) in
-    rw e.1 (stops-in g.W.Sink.transcript g.W.Sink.failures c.args.sink.now c.loop-letter.sink c.put-in-loop-letter.new.sink c.args.self.now c.loop-letter.self put (byte ∷ []) c.next.new.self _ whole kept.put c.in_err-put.ensures)
+    rw e.1 (stops-in g.W.Sink.transcript g.W.Sink.failures c.args.sink.now c.loop-letter.sink c.put_byte-in-loop-letter.new.sink c.args.self.now c.loop-letter.self put (byte ∷ []) c.next.new.self _ whole kept.put c.in_err-put_byte.ensures)
 
 pub returns : goal.returns
 returns g c =

@@ -12,7 +12,7 @@ pub loop-k-preserved : goal.loop-k-preserved
 loop-k-preserved c =
     let light = c.args.light.now in
     let byte : ℕ → ℕ = λ k. letter_or_dot (entry c.args.grid.now (step light.name.direction light.start k)) in
-    let here : c.letter_or_dot.result ≡ byte c.loop-k.k = c.letter_or_dot.ensures ∙ ap (λ cell. letter_or_dot (entry c.args.grid.now cell)) c.cell.ensures in
+    let here : c.letter_or_dot.result ≡ byte c.loop-k.k = c.letter_or_dot.ensures ∙ ap letter_or_dot (c.entry.ensures.entry ∙ ap (entry c.args.grid.now) c.cell.ensures) in
     record {
       long = c.push.ensures.len ∙ ap (λ n. n + 1) c.loop-k.invariant.long;
       is = c.push.ensures.items ∙ ap (λ front. front ++ c.letter_or_dot.result ∷ []) c.loop-k.invariant.is ∙ rw here (sym (one_more_made byte c.loop-k.k));
