@@ -142,7 +142,7 @@ export class DetailsView {
     }
     const dead = board.lights.filter((light) => light.count === 0 && !board.isEntered(light));
     if (dead.length) items.unshift(check(dead.length === 1 ? `${titleOf(dead[0])} has no word left` : `${dead.length} lights have no word left`, dead[0].name));
-    for (const warning of warningsOf(board, (light) => this.#editor.answerOf(light), (light) => this.#editor.cluedBy(light).answer, (cell) => this.#editor.entryOf(cell))) {
+    for (const warning of warningsOf(this.#editor)) {
       const item = element('li', '', 'warning');
       const place = warning.cell === undefined ? { light: warning.light ?? '' } : { cell: warning.cell };
       item.append(button(`⚠ ${warning.text}`, { ...place, ...(warning.isClue && { tab: 'clue' }) }));

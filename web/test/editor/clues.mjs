@@ -652,6 +652,14 @@ export const CASES = {
     await openRecord(`size 4 7\n${[2, 4, 6].flatMap((row) => [1, 2, 3, 4].map((column) => `block ${row} ${column}`)).join('\n')}\nblock 1 4\nblock 3 4\nblock 7 4\n${spell(1, 'ERE')}\n${spell(3, 'ERR')}\n${spell(5, 'ODDS')}\n${spell(7, 'ODD')}\n`);
     await warned(/ODDS and ODD have one root/);
     expect(!(await browser.value("/ERE and ERR/.test(document.getElementById('checks').textContent)")), 'ERE and ERR have one root');
+    // a clue that has a word of an answer, which a click shows
+    await openRecord(`size 5 3\n${[1, 2, 3, 4, 5].map((column) => `block 2 ${column}`).join('\n')}\n${spell(1, 'STONE')}\n${spell(3, 'SLATE')}\ntext clue 1 1 across Slate or marble\ntext clue 3 1 across Tiles (5)\n`);
+    await warned(/^⚠ the clue of 1 Across has SLATE, which is in 2 Across$/);
+    await browser.click('#checks .warning button[data-tab="clue"]');
+    await browser.until("document.activeElement.dataset.light === '1 across'");
+    await browser.insert('Pebble');
+    await browser.press('F4');
+    await browser.until("!/which is in/.test(document.getElementById('checks').textContent)");
     await openRecord(`size 15 15\n`);
     await browser.until("!document.querySelector('#checks .warning')");
     // the patterns keep the rules
