@@ -2,6 +2,7 @@
 import { AllWords } from './all-words.js';
 import { Claim } from './claim.js';
 import { ClueBank } from './clue-bank.js';
+import { askClues } from './clue-preview.js';
 import { CluesView } from './clues.js';
 import { CrossingsView } from './crossings-view.js';
 import { DetailsView } from './details.js';
@@ -163,7 +164,8 @@ const nextLight = new NextLight(editor, faults, toGrid);
 
 const files = new Files(editor, {
   mayEdit, toGrid, toClue, opened: toGrid, changeLists: (changed, name, bytes) => lists.change(changed, name, bytes), addPuzzles: (text) => shelf.addAll(text),
-  saved: () => shelf.saved(), askRows, askFile,
+  saved: () => shelf.saved(), askRows, askFile, takeClues: (changes) => edits.takeClues(changes),
+  askClues: (name, found) => askClues(editor, { dialog: $('table-dialog'), told: $('table-told'), changes: $('table-changes'), others: $('table-others') }, name, found),
 });
 files.takeDrops(document.body);
 // Asks for the letters of a cell, which may be several.
@@ -200,18 +202,18 @@ const lists = new ListsInUse(editor, {
 const puzzles = new NewPuzzle(editor, { mayEdit, soon, toGrid, addVersion: () => shelf.addVersion() });
 const printing = new PrintDialog(editor);
 
-// whether the file that is being picked is to be a word list
-let isPickingList = false;
+// what the file that is being picked is to be, if that is said
+let picked = '';
 
 $('picker').addEventListener('change', async () => {
-  const isList = isPickingList;
-  isPickingList = false;
-  for (const file of [...$('picker').files]) await files.open(file, isList);
+  const as = picked;
+  picked = '';
+  for (const file of [...$('picker').files]) await files.open(file, as);
   $('picker').value = '';
 });
 
-function pick(accept, isList = false) {
-  isPickingList = isList;
+function pick(accept, as = '') {
+  picked = as;
   $('picker').accept = accept;
   $('picker').click();
 }
@@ -235,17 +237,18 @@ const ACTIONS = {
   new: () => openDialog($('new-dialog')),
   library: () => library.show(),
   themes: () => grids.open(),
-  open: () => pick('.puz,.ipuz,.jpz,.xml,.exolve,.qxw,.qxd,.txt,.xw,.json,.dict,.zip'),
+  open: () => pick('.puz,.ipuz,.jpz,.xml,.exolve,.qxw,.qxd,.txt,.xw,.json,.dict,.csv,.zip'),
   save: wholly(() => files.saveAny()),
   'save-puz': wholly(() => files.save('puz')),
   'save-ipuz': wholly(() => files.saveAs('ipuz')),
   'save-jpz': wholly(() => files.saveAs('jpz')),
   'save-exolve': wholly(() => files.saveAs('exolve')),
   'save-text': wholly(() => files.save('text')),
-  'clues-csv': wholly(() => files.saveClues('csv')),
-  'clues-html': wholly(() => files.saveClues('html')),
+  'clues-csv': wholly(() => files.saveClues()),
+  'clues-html': wholly(() => files.saveSheet()),
+  'clues-from': () => pick('.csv,.tsv,.txt', 'clues'),
   'save-session': wholly(() => files.saveSession()),
-  list: () => pick('.txt,.dict,.csv,.tsv', true),
+  list: () => pick('.txt,.dict,.csv,.tsv', 'list'),
   'built-in': () => lists.change((now) => now.onlyBuiltIn()),
   print: wholly(() => printing.open()),
   undo: () => step(true),

@@ -1,5 +1,5 @@
-// Clues as a sheet: a table in CSV or in HTML, with the answers and the lengths of their words.
-import { markedUp, withoutItalics } from './marks.js';
+// Clues as a sheet in HTML, with the answers and the lengths of their words.
+import { markedUp } from './marks.js';
 
 // The rows of the sheet: number, direction, clue, enumeration, answer. `cluedBy` tells what a clue is for, and `isLinked` whether it leads to another one.
 function sheetRows(board, textOf, enumerationOf, { answerOf, cluedBy, isLinked }) {
@@ -13,12 +13,6 @@ function sheetRows(board, textOf, enumerationOf, { answerOf, cluedBy, isLinked }
 }
 
 const HEADS = ['Number', 'Direction', 'Clue', 'Length', 'Answer'];
-
-// Spreadsheets take a text for UTF-8 by its byte order mark. A field that begins like a formula gets an apostrophe, so that none is run.
-export function csvOf(...of) {
-  const quoted = (field) => `"${String(field).replace(/^[=+@-]/, "'$&").replaceAll('"', '""')}"`;
-  return `\ufeff${[HEADS, ...sheetRows(...of)].map((row) => row.map((field) => quoted(withoutItalics(String(field)))).join(',')).join('\r\n')}\r\n`;
-}
 
 export function htmlOf(board, textOf, ...more) {
   const safe = (text) => String(text).replaceAll('&', '&amp;').replaceAll('<', '&lt;').replaceAll('>', '&gt;').replaceAll('"', '&quot;');

@@ -138,6 +138,16 @@ export class Edits {
     return this.#texts([[this.#editor.board.clueField(light), clue]]);
   }
 
+  // Takes over clues and private notes of lights, such as those of a table, in one step; null stands for one that stays. Returns what that is refused for, or
+  // null.
+  /** @param {import('./clue-table.js').Change[]} changes */
+  takeClues(changes) {
+    const { board } = this.#editor;
+    const texts = changes.filter(({ clue }) => clue !== null).map(({ light, clue }) => [board.clueField(light), clue]);
+    const notes = changes.filter(({ note }) => note !== null).map(({ light, note }) => [noteField(board, light), note]);
+    return this.#texts(texts, notes);
+  }
+
   // Keeps a private note on the clue of a light; or none. Edits of one `stroke` are one step.
   note(light, text, stroke = null) {
     const { board } = this.#editor;

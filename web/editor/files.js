@@ -1,8 +1,9 @@
 // Files: what is opened, dropped and saved.
 import { toBytes, toText } from '../xw.js';
 import { lawfulBeside } from './beside.js';
-import { csvOf, htmlOf } from './clue-sheet.js';
-import { Dropped, droppedOfPuz, joinedText } from './dropped.js';
+import { htmlOf } from './clue-sheet.js';
+import { clueChanges, clueTable, countClues, readClueTable } from './clue-table.js';
+import { Dropped, countText, droppedOfPuz, joinedText } from './dropped.js';
 import { enumerated } from './enumeration.js';
 import { exolveOf, readExolve } from './exolve.js';
 import { FileFault } from './given.js';
@@ -50,13 +51,13 @@ export class Files {
     this.actions = actions;
   }
 
-  // Opens a file of any kind, or one that is said to be a word list. Returns whether it could.
-  async open(file, isList = false) {
+  // Opens a file of any kind, or one that is said to be a `list` of words or a table of `clues`. Returns whether it could.
+  async open(file, as = '') {
     if (!this.actions.mayEdit()) return false;
     const content = await this.#contentOf(file);
     if (!content) return false;
     const { name, bytes } = content;
-    const kind = kindOf(name, bytes);
+    const kind = as === 'clues' ? as : kindOf(name, bytes);
     try {
       switch (kind) {
         case 'list':
@@ -66,7 +67,9 @@ export class Files {
         case 'text2':
           return await this.#openText2(name, bytes);
         case 'rows':
-          return await (isList ? this.openList(name, bytes) : this.#openRows(name, bytes));
+          return await (as === 'list' ? this.openList(name, bytes) : this.#openRows(name, bytes));
+        case 'clues':
+          return await this.#openClues(name, readClueTable(listText(bytes)));
         case 'ipuz':
         case 'jpz':
         case 'exolve':
@@ -136,6 +139,16 @@ export class Files {
     const { record, originals, lost } = given.recordWith(await engine.call('lights', { record: given.grid }));
     await this.#editor.replace({ record: await engine.call('read', { record }), originals });
     return this.#opened(name, given.dropped, lost ? `; ${lost} ${lost === 1 ? 'clue has' : 'clues have'} no place in its grid` : '');
+  }
+
+  // Shows what a table of clues changes in the puzzle, and changes it in one step if the user agrees.
+  async #openClues(name, rows) {
+    const editor = this.#editor;
+    const found = await editor.inOrder(() => clueChanges(editor, rows));
+    if (!(await this.actions.askClues(name, found))) return this.#refuse(`${name}: the clues stay as they are`);
+    if (await this.actions.takeClues(found.changes)) return false;
+    say(`${name}: ${joinedText(countClues(found.changes))} taken over; undo takes this back`, 'good');
+    return true;
   }
 
   // Adds the puzzles of a file to those that the browser keeps.
@@ -311,12 +324,18 @@ export class Files {
     this.#givePuzzle(new TextEncoder().encode(WRITERS[form](editor.board, this.#textOf, this.#entryOf, more)), this.#name(form), this.#lossNote(form));
   }
 
-  // Saves the clues as a table: `csv` or `html`.
-  saveClues(form) {
+  // Saves the clues as a table in CSV, with the private notes.
+  saveClues() {
+    const editor = this.#editor;
+    const notes = countText(editor.board.lights.filter((light) => editor.noteOf(light)).length, 'a private note', 'private notes');
+    this.#give(new TextEncoder().encode(clueTable(editor)), this.#name('csv'), `${notes.length ? `, with ${notes[0]}` : ''}${this.#lossNote('csv')}`);
+  }
+
+  // Saves the clues as a sheet in HTML.
+  saveSheet() {
     const editor = this.#editor;
     const told = { answerOf: (light) => editor.answerOf(light), cluedBy: (light) => editor.cluedBy(light), isLinked: (light) => editor.links.headOf.has(light) };
-    const of = [editor.board, this.#textOf, enumerated, told];
-    this.#give(new TextEncoder().encode(form === 'csv' ? csvOf(...of) : htmlOf(...of)), this.#name(form), this.#lossNote(form));
+    this.#give(new TextEncoder().encode(htmlOf(editor.board, this.#textOf, enumerated, told)), this.#name('html'), this.#lossNote('html'));
   }
 
   #givePuzzle(bytes, name, why = '') {

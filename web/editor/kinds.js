@@ -1,5 +1,6 @@
 // What a file is, by its bytes and its name.
 import { toText } from '../xw.js';
+import { isClueTable } from './clue-table.js';
 import { isExolve } from './exolve.js';
 import { isIpuz } from './ipuz.js';
 import { isJpz } from './jpz.js';
@@ -81,13 +82,14 @@ function kindIn(head, bytes) {
 // What the ends of names say.
 const NAMED = { puz: 'puzzle', ipuz: 'ipuz', jpz: 'jpz', qxd: 'deck' };
 
-// What a file is: `puzzle` (.puz or text), `text2` (text of version 2), `ipuz`, `jpz`, `exolve`, `qxw`, `deck`, `session`, `puzzles`, `list`, `rows` (a grid of letters, or a
+// What a file is: `puzzle` (.puz or text), `text2` (text of version 2), `ipuz`, `jpz`, `exolve`, `qxw`, `deck`, `session`, `clues` (a table), `puzzles`, `list`, `rows` (a grid of letters, or a
 // list of words of one length), `empty`, `mail`, `foreign` (of a kind that foreignKind tells), or `other`.
 export function kindOf(name, bytes) {
   if (!bytes.length) return 'empty';
   const head = toText(bytes.subarray(0, 4096)).replace(/^\u00ef\u00bb\u00bf/, '');
   const kind = kindIn(head, bytes) ?? NAMED[/\.(\w+)$/.exec(name)?.[1].toLowerCase()];
   if (kind) return kind;
+  if (isClueTable(head)) return 'clues';
   if (isSession(name, head)) return 'session';
   if (!isText(bytes)) return 'other';
   if (bytes.length < SAMPLE && letterRows(listText(bytes))) return 'rows';

@@ -9,7 +9,7 @@ import { strangeCharacters } from './record.js';
 // What the formats keep of what not all of them do.
 const KEPT = {
   puz: ['rebus'], text: [], ipuz: ['rebus', 'italics', 'colours', 'links', 'characters'], jpz: ['rebus', 'italics', 'colours', 'characters'],
-  exolve: ['rebus', 'italics', 'links', 'characters'], csv: ['rebus', 'links', 'characters', 'colours'],
+  exolve: ['rebus', 'italics', 'links', 'characters'], csv: ['rebus', 'italics', 'links', 'notes', 'characters', 'colours'],
   html: ['rebus', 'italics', 'links', 'characters', 'colours'],
 };
 

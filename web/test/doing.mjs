@@ -198,7 +198,8 @@ export async function wholePuzzle(name, title, form) {
   await browser.until("document.querySelector('#checks li') && !/no clue|are empty/.test(document.getElementById('checks').textContent)");
   await picture(`${name}-checks`);
   const warnings = await browser.value("[...document.querySelectorAll('#checks li:not(.good)')].map(({ textContent }) => textContent)");
-  expect(warnings.every((text) => /one root|share/.test(text)), `warned of: ${warnings}`);
+  // the clues have the word CLUE, which the grid may have
+  expect(warnings.every((text) => /one root|share|has CLUE/.test(text)), `warned of: ${warnings}`);
   await browser.press('Control+p');
   await browser.until(`document.querySelectorAll('#preview .page:first-child .clues p').length === ${count}`);
   await picture(`${name}-print`);

@@ -603,6 +603,48 @@ export const CASES = {
     expect((await value('title')) === '', 'the title stays after undo');
   },
 
+  async 'clues from a table'() {
+    await openRecord(`${rowOf('BAAS')}text title Farm\ntext clue 1 1 across Sheep\n`);
+    await browser.press('F3');
+    const csv = (await saved('farm.csv', () => menu('clues-csv'))).toString();
+    expect(csv === '\ufeff"Number","Direction","Answer","Clue"\r\n"1","Across","BAAS","Sheep"\r\n', csv);
+    await page.statusIs(/^saved: farm.csv$/, 'good');
+    // what a table changes is shown first, and cancelled
+    const table = join(room, 'table.csv');
+    writeFileSync(table, '\ufeffNumber,Direction,Answer,Clue,Note\r\n1,Across,BAAS,"\'=Sheep, ""loud""\nsounds",to check\r\n7,Down,OATS,Feed,\r\n');
+    await browser.drop(table);
+    await browser.until("document.getElementById('table-dialog').open && document.getElementById('table-told').textContent === 'table.csv: 1 clue and 1 note will change; 1 row is left out.'");
+    const shown = await browser.value("[...document.querySelectorAll('#table-changes tr')].map((row) => [...row.children].map(({ textContent }) => textContent).join('|')).join('; ')");
+    expect(shown === '|Now|In the file; 1 Across|Sheep|=Sheep, "loud" sounds; 1 Across, note||to check', shown);
+    expect((await browser.value("document.getElementById('table-others').textContent")) === 'Line 4: there is no 7 Down, and no light has OATS', 'another row is left out');
+    await picture('clues-from-table');
+    await browser.click('#table-dialog [value=cancel]');
+    await page.statusIs(/^table.csv: the clues stay as they are$/, 'bad');
+    await clueIs('Sheep');
+    // and taken over in one step
+    await menu('clues-from');
+    await openFile(table);
+    await browser.click('#table-dialog [value=take]');
+    await page.statusIs(/^table.csv: 1 clue and 1 note taken over; undo takes this back$/, 'good');
+    await clueIs('=Sheep, "loud" sounds');
+    await browser.until("document.querySelector('.clue-more .note').value === 'to check'");
+    await browser.click('#cell-1-1');
+    await browser.press('Control+z');
+    await clueIs('Sheep');
+    await browser.until("document.querySelector('.clue-more .note').value === ''");
+    await browser.press('Control+y');
+    await clueIs('=Sheep, "loud" sounds');
+    const again = (await saved('farm.csv', () => menu('clues-csv'))).toString();
+    expect(again === '\ufeff"Number","Direction","Answer","Clue","Note"\r\n"1","Across","BAAS","\'=Sheep, ""loud"" sounds","to check"\r\n', again);
+    await page.statusIs(/^saved: farm.csv, with a private note$/);
+    // what is no table of clues is refused by name
+    writeFileSync(table, 'Number,Clue\n1,"Sheep');
+    await menu('clues-from');
+    await openFile(table);
+    await page.statusIs(/^table.csv: line 2 has a quote that opens or closes no field$/, 'bad');
+    await clueIs('=Sheep, "loud" sounds');
+  },
+
   async 'warnings while the grid changes'() {
     await begin(1);
     await browser.click('#tab-words');

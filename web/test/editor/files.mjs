@@ -432,8 +432,8 @@ export const CASES = {
     const across = Object.fromEntries(saves.clues.Across);
     expect(across[1] === 'Firm =\u2192' && Object.values(across).includes('=1+1 (1,1)'), JSON.stringify(saves.clues));
     const csv = (await saved('bars-circles.csv', () => menu('clues-csv'))).toString();
-    expect(csv.startsWith('\ufeff"Number","Direction","Clue","Length","Answer"\r\n') && csv.includes('"Firm =\u2192","(2)","CO"') && csv.includes(`"'=1+1","(1,1)"`), csv);
-    expect(csv.includes('"A \u201cquoted\u201d, listed clue","(1-1)","AT"'), csv);
+    expect(csv.startsWith('\ufeff"Number","Direction","Answer","Clue"\r\n"1","Across","CO","Firm =\u2192"\r\n') && csv.includes(`,"'=1+1 (1,1)"\r\n`), csv);
+    expect(csv.includes('"AT","A \u201cquoted\u201d, listed clue (1-1)"'), csv);
     const html = (await saved('bars-circles.html', () => menu('clues-html'))).toString();
     expect(html.includes('<h1>Bars &amp; circles</h1>') && html.includes('<td>Firm =\u2192</td><td>(2)</td><td>CO</td>'), html);
   },
@@ -499,7 +499,7 @@ export const CASES = {
       }
     }
     await saved('crossword.csv', () => menu('clues-csv'));
-    await page.statusIs(/^saved: crossword.csv, without the italics of a clue and a private note$/);
+    await page.statusIs(/^saved: crossword.csv, with a private note$/);
     await openFile(join(room, 'crossword.jpz'));
     await page.statusIs(/^crossword.jpz is open; undo/);
     await browser.until("document.querySelectorAll('.cell.tinted').length === 5 && document.querySelector('#clue-list textarea').value === '<i>Firm</i> (3)'");
@@ -609,7 +609,7 @@ export const CASES = {
     const ipuz = JSON.parse((await saved('sweet.ipuz', () => menu('save-ipuz'))).toString());
     expect(ipuz.solution[0].join() === 'S,W,E,E,T,HEART', JSON.stringify(ipuz.solution));
     const csv = (await saved('sweet.csv', () => menu('clues-csv'))).toString();
-    expect(csv.includes('"(10)","SWEETHEART"') && csv.includes('"(6)","HEARTS"'), csv);
+    expect(csv.includes('"Across","SWEETHEART",') && csv.includes('"Down","HEARTS",'), csv);
     await menu('print');
     await browser.until("[...document.querySelectorAll('#preview .solution text')].some(({ textContent }) => textContent === 'HEART')");
     await browser.press('Escape');
