@@ -1,6 +1,7 @@
 // The page: it joins the views with the session.
 import { AllWords } from './all-words.js';
 import { Claim } from './claim.js';
+import { BankView } from './bank-view.js';
 import { ClueBank } from './clue-bank.js';
 import { askClues } from './clue-preview.js';
 import { CluesView } from './clues.js';
@@ -117,13 +118,21 @@ const crossingWords = new WordsView(
 );
 isWide.addEventListener('change', () => crossingWords.soon());
 const bank = new ClueBank(editor, () => clues.unfinished(typed.unfinished));
+const bankView = new BankView(
+  bank,
+  {
+    summary: $('bank-summary'), export: $('bank-export'), import: $('bank-import'), clear: $('bank-clear'), file: $('bank-file'), dialog: $('bank-dialog'), title: $('bank-title'),
+    told: $('bank-told'), take: $('bank-take'),
+  },
+  (text, name) => files.saveText(text, name),
+);
 const allWords = new AllWords(editor);
 const clues = new CluesView(
   editor,
   { list: $('clue-list'), summary: $('clue-summary'), lengths: $('clue-lengths') },
   {
     text: editText, lengths: (texts, left) => edits.addLengths(texts, left), enumerations: (words) => lists.enumerations(words), toGrid, use: (light, clue) => edits.useClue(light, clue), keep: (light) => edits.keepClue(light),
-    former: (word) => bank.of(word), leave, note: (element, light, text) => typed.edit(element, (run) => edits.note(light, text, run)),
+    former: (word, clue) => bank.of(word, clue), leave, note: (element, light, text) => typed.edit(element, (run) => edits.note(light, text, run)),
     link: (element, light, text) => typed.edit(element, (run) => edits.link(light, text, run)),
     words: () => allWords.get(),
   },
@@ -134,7 +143,7 @@ const details = new DetailsView(
     panel: $('puzzle'), title: $('title'), author: $('author'), copyright: $('copyright'), notes: $('notes'), checks: $('checks'), counts: $('counts'),
     lengths: $('lengths'), frequency: $('frequency'), wordForm: $('word-form'), word: $('word'), changed: $('changed'),
   },
-  { edit, text: editText, toGrid, toClue, leave, keepWord: (word, isHidden) => lists.keepWord(word, isHidden) },
+  { edit, text: editText, toGrid, toClue, leave, keepWord: (word, isHidden) => lists.keepWord(word, isHidden), refreshed: () => bankView.show() },
 );
 const tabs = new Tabs(details, clues, toGrid);
 const grids = new GridsView(

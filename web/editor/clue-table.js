@@ -12,7 +12,7 @@ import { titleOf } from './words.js';
 /** @typedef {{ light: Light, clue: string | null, note: string | null }} Change */
 
 // The columns, by what they may be called.
-const COLUMNS = {
+export const COLUMNS = {
   number: ['number', 'no', 'no.', 'num', '#'], direction: ['direction', 'dir'], answer: ['answer', 'word', 'entry', 'light', 'solution'], clue: ['clue'], note: ['note', 'notes'],
 };
 
@@ -32,12 +32,11 @@ export function clueTable(editor) {
 }
 
 // A text in one line, as a clue is.
-const inLine = (text) => text.replace(/\s*[\r\n]\s*/g, ' ').trim();
+export const inLine = (text) => text.replace(/\s*[\r\n]\s*/g, ' ').trim();
 
 // The rows of a table of clues.
 /** @returns {Row[]} */
 export function readClueTable(text) {
-  if (text.includes('\0')) throw new FileFault('it has a NUL, which no text has');
   const rows = tableOf(text, COLUMNS, ['number', 'clue']) ?? tableOf(text, COLUMNS, ['answer', 'clue']);
   if (!rows) throw new FileFault('its first line names no columns Number (or Answer) and Clue');
   return rows.map(({ line, texts: { number, direction, answer, clue, note } }) => ({ line, number, direction, answer, clue: inLine(clue), note: inLine(note) }));
@@ -51,8 +50,8 @@ function placeOf({ number, direction }) {
   return `${Number(digits)} ${/^a/i.test(way) ? 'across' : 'down'}`;
 }
 
-// The answer of a row, with a dot for a letter that is not known.
-const lettersOf = ({ answer }) => unaccented(answer).toUpperCase().replace(/[^A-Z?_·]/g, '').replace(/[?_·]/g, '.');
+// The letters of an answer as it is written, with a dot for a letter that is not known.
+export const lettersOf = (answer) => unaccented(answer).toUpperCase().replace(/[^A-Z?_·]/g, '').replace(/[?_·]/g, '.');
 
 const agree = (one, other) => one.length === other.length && [...one].every((letter, at) => [letter, '.'].includes(other[at]) || letter === '.');
 
@@ -60,14 +59,14 @@ const agree = (one, other) => one.length === other.length && [...one].every((let
 /** @param {Told} editor */
 function lightAt(editor, row) {
   const light = editor.board.byName.get(placeOf(row)) ?? null;
-  const letters = lettersOf(row);
+  const letters = lettersOf(row.answer);
   return light && (!letters || [editor.answerOf(light), editor.cluedBy(light).answer].some((answer) => agree(letters, answer))) ? light : null;
 }
 
 // The one light that has the answer of a row; or null.
 /** @param {Told} editor */
 function lightWith(editor, row) {
-  const letters = lettersOf(row);
+  const letters = lettersOf(row.answer);
   const found = letters.includes('.') ? [] : editor.board.lights.filter((light) => letters && editor.answerOf(light) === letters);
   return found.length === 1 ? found[0] : null;
 }
@@ -75,7 +74,7 @@ function lightWith(editor, row) {
 // Why a row is for no light.
 /** @param {Told} editor */
 function whyNone(editor, row) {
-  const [place, letters] = [placeOf(row), lettersOf(row)];
+  const [place, letters] = [placeOf(row), lettersOf(row.answer)];
   const [spelled, title] = [letters.replaceAll('.', '?'), place.replace(/ ./, (way) => way.toUpperCase())];
   const light = editor.board.byName.get(place);
   if (light) return `${title} is ${editor.answerOf(light).replaceAll('.', '?')} here, and not ${spelled}`;

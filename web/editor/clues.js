@@ -2,13 +2,11 @@
 import { ClueMore } from './clue-more.js';
 import { hasEnumeration, withEnumeration } from './enumeration.js';
 import { hasItalics, toggledItalics } from './marks.js';
+import { OldClues } from './old-clues.js';
 import { nodesOfText, put } from './page.js';
 import { termed } from './terms.js';
 import { titleOf } from './words.js';
 import { staleClues, staleWord } from './written.js';
-
-// the most old clues that are offered for a word
-const MOST_OFFERED = 4;
 
 export class CluesView {
   /** @type {import('./editor.js').Editor} */
@@ -19,9 +17,7 @@ export class CluesView {
   #fields = new Map();
   #due = 0;
   #here = null;
-  // old clues for the word of the cursor's light, and what they are shown for
-  #offers = Object.assign(document.createElement('div'), { className: 'offers', hidden: true });
-  #offered = '';
+  #old;
   #more;
   // whether the tab is in sight
   isShown = false;
@@ -30,7 +26,7 @@ export class CluesView {
 
   // `lengths` is the button that adds enumerations. `actions`: `text` sets what is typed in a field, `lengths` those of several in one step and is told how many
   // lights have no enumeration that is sure, `enumerations` promises those of words, `use` sets the clue of a light, `keep` keeps a clue for the word that is
-  // there, `former` promises the clues that a word had before, `leave` leaves a field by Esc; `note` and `link` keep a private note and a link, and `words`
+  // there, `former` promises what the bank of clues has of a word, `leave` leaves a field by Esc; `note` and `link` keep a private note and a link, and `words`
   // promises all words of the lists.
   constructor(editor, { list: root, summary, lengths }, actions) {
     this.#editor = editor;
@@ -38,6 +34,7 @@ export class CluesView {
     this.#summary = summary;
     this.#lengths = lengths;
     this.actions = actions;
+    this.#old = new OldClues(editor, actions.former);
     this.#more = new ClueMore(editor, { ...actions, italics: (light) => this.#toggleItalics(this.#fields.get(light.name).field) });
     lengths.addEventListener('click', () => {
       const added = this.lengthsAdded.then(() => this.#addLengths());
@@ -135,8 +132,7 @@ export class CluesView {
   #make(names, headOf) {
     this.names = names;
     this.#fields.clear();
-    this.#offered = '';
-    this.#offers.hidden = true;
+    this.#old.end();
     const part = (direction, title) => {
       const heading = document.createElement('h3');
       heading.textContent = title;
@@ -243,7 +239,7 @@ export class CluesView {
     const stale = staleClues(this.#editor).length;
     const told = lacking ? `${board.lights.length - lacking} of ${board.lights.length} lights have a clue` : 'every light has a clue';
     put(this.#summary, 'textContent', termed(stale ? `${told}; ${stale} ${stale === 1 ? 'is' : 'are'} for another word` : told));
-    this.#offer();
+    this.#showOld();
   }
 
   // Marks a clue that was written for another word, with what can be done.
@@ -257,20 +253,10 @@ export class CluesView {
     entry.note.replaceChildren(...(word ? [`Written for ${word}: `, dataButton('Keep', { keep: light.name }), ' ', dataButton('Drop', { drop: light.name })] : []));
   }
 
-  // Offers the clues that the word of the cursor's light had before, if it has none, or one for another word.
-  async #offer() {
-    const { board, light, written } = this.#editor;
-    const isDue = this.isShown && light && board.isEntered(light) && (!board.hasClue(light) || staleWord(board, light, written));
-    const offered = isDue ? [light.name, board.spell(light), board.hasClue(light)].join() : '';
-    if (offered === this.#offered) return;
-    this.#offered = offered;
-    this.#offers.hidden = true;
-    const clues = isDue ? await this.actions.former(board.spell(light)) : [];
-    if (offered !== this.#offered || !clues.length) return;
-    const buttons = clues.slice(0, MOST_OFFERED).map((clue) => dataButton(clue, { use: light.name }));
-    this.#offers.replaceChildren(`Clues for ${this.#editor.answerOf(light)} before: `, ...buttons);
-    this.#fields.get(light.name)?.row.after(this.#offers);
-    this.#offers.hidden = false;
+  // Shows how the word of the cursor's light was clued before.
+  #showOld() {
+    const { light } = this.#editor;
+    this.#old.show(this.isShown ? light : null, this.#fields.get(light?.name)?.row);
   }
 
   #mark() {
@@ -278,7 +264,7 @@ export class CluesView {
     const here = (light && this.#fields.get(light.name)) ?? null;
     if (here !== this.#here) this.#here?.row.classList.remove('here');
     this.#here = here;
-    this.#offer();
+    this.#showOld();
     this.#more.show(here && this.isShown ? light : null, here?.row);
     if (!here) return;
     here.row.classList.add('here');

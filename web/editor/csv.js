@@ -46,6 +46,7 @@ export const hasColumns = (text, names, columns) => separatorOf(text, names, col
 
 // The rows of a table, each with the texts of its columns by their names, and '' for a column that it does not have; or null if it lacks one of `columns`.
 export function tableOf(text, names, columns) {
+  if (text.includes('\0')) throw new FileFault('it has a NUL, which no text has');
   const separator = separatorOf(text, names, columns);
   if (separator === undefined) return null;
   const heads = headsOf(text, separator);

@@ -85,6 +85,7 @@ export class DetailsView {
   // Asks for counts and faults, if the tab is in sight.
   async refresh() {
     if (this.#elements.panel.hidden) return;
+    this.actions.refreshed();
     const editor = this.#editor;
     const [counted, repeated, found] = await Promise.all([editor.ask(stats()), editor.ask(dups()), faultsOf(editor)]);
     this.#showCounts(counted);

@@ -1,4 +1,4 @@
-// Tests the tables of the page: CSV, and the clues of a puzzle as a table.
+// Tests the tables of the page: CSV, the clues of a puzzle as a table, and the bank of old clues.
 //
 //   node web/test/tables.mjs
 //
@@ -8,7 +8,9 @@ import { Count } from './count.mjs';
 import { pageModules } from './page-modules.mjs';
 import { textsFrom } from './texts.mjs';
 
-const { clueChanges, clueTable, csvOf, foundText, kindOf, readClueTable, rowsOf } = await pageModules('clue-preview', 'clue-table', 'csv', 'kinds');
+const { bankTable, clueChanges, clueTable, cluesIn, countOf, csvOf, foundText, historyOf, kindOf, oldest, readBankTable, readClueTable, rowsOf, usesText } = await pageModules(
+  'bank-table', 'clue-bank', 'clue-preview', 'clue-table', 'csv', 'keep', 'kinds', 'old-clues',
+);
 
 const MARK = '\ufeff';
 const fieldsOf = (text) => rowsOf(text).map(({ fields }) => fields);
@@ -133,6 +135,59 @@ const CASES = {
     const told = (text) => foundText('clues.csv', clueChanges(PUZZLE, readClueTable(text)));
     same(told('Number,Direction,Clue,Note\n1,Across,Rock,\n5,Across,Sounds,hidden\n6,Across,,\n8,Down,Lost,\n'), 'clues.csv: 1 clue and 1 note will change; 1 row says what is there already; 1 row has no clue; 1 row is left out.');
     same(told('Number,Clue\n'), 'clues.csv: no clue will change.');
+  },
+
+  'how a word was clued'() {
+    const entry = (clue, puzzle, at, title = '') => ({ word: 'ODDS', clue, puzzle, title, at });
+    const [may, june, july] = [5, 6, 7].map((month) => new Date(2026, month - 1, 2, 12).getTime());
+    const entries = [entry('Chances', 'a', may, 'Farm'), entry('Ends partner', 'b', june), entry('Chances', 'c', july, 'Races'), entry('Ratio', 'a', 0, 'Farm')];
+    // the latest first, each clue once
+    same(historyOf(entries).map(({ clue, uses }) => [clue, uses.map(({ puzzle }) => puzzle)]), [['Chances', ['c', 'a']], ['Ends partner', ['b']], ['Ratio', ['a']]]);
+    same([countOf(entries), countOf(entries.slice(1, 2))], ['4, in 3 puzzles', '1, in 1 puzzle']);
+    const date = (at) => new Date(at).toLocaleDateString(undefined, { day: 'numeric', month: 'short', year: 'numeric' });
+    const [chances, ends, ratio] = historyOf(entries).map(({ uses }) => usesText(uses, 'b'));
+    same([chances, ends, ratio], [`2 times: Races, ${date(july)}; Farm, ${date(may)}`, `this puzzle, ${date(june)}`, 'Farm, no date']);
+    same(usesText([1, 2, 3, 4].map((at) => entry('Chances', String(at), 0, `P${at}`)), ''), '4 times: P1, no date; P2, no date; P3, no date; …');
+  },
+
+  'the clues of a session for the bank'() {
+    const record = 'size 4 3\ntext title Farm ->\nblock 2 1\nset 1 1 O\nset 1 2 D\nset 1 3 D\nset 1 4 S\nset 3 1 A\ntext clue 1 1 across Chances\ntext clue 3 1 across Half done\ntext clue 1 2 down See 1\n';
+    const session = { puzzle: 'p', record, at: 9, written: [['clue 1 2 down', 'DAD']], originals: [['title', 'Farm \u2192'], ['clue 1 1 across', '<i>Chances</i>']] };
+    // one for a word that is not whole yet is none, nor is one that leads to another
+    same(cluesIn(session), [{ word: 'ODDS', clue: '<i>Chances</i>', puzzle: 'p', at: 9, title: 'Farm \u2192' }]);
+    same(cluesIn(session, 'clue 1 1 across'), []);
+    same(cluesIn({ ...session, at: 1e300 })[0].at, 0);
+    same(cluesIn({ ...session, originals: [], record: record.replace('Chances', 'x'.repeat(1001)) }), []);
+  },
+
+  'the bank as a table'() {
+    const at = Date.UTC(2026, 4, 2, 8, 30, 15, 123);
+    const entries = [
+      { word: 'ODDS', clue: '=Chances, "even"', puzzle: 'p-1', title: '-Farm', at }, { word: 'BAAS', clue: 'Sounds', puzzle: 'p-1', title: '-Farm', at: 0 },
+      { word: 'ODDS', clue: 'Ratio', puzzle: 'p-2', title: '', at: at - 1 },
+    ];
+    const table = bankTable(entries);
+    same(table, [
+      `${MARK}"Answer","Clue","Title","Date","Puzzle"`, '"BAAS","Sounds","\'-Farm","","p-1"', '"ODDS","Ratio","","2026-05-02T08:30:15.122Z","p-2"',
+      '"ODDS","\'=Chances, ""even""","\'-Farm","2026-05-02T08:30:15.123Z","p-1"', '',
+    ].join('\r\n'));
+    same(readBankTable(table.slice(1)), { entries: [entries[1], entries[2], entries[0]], dropped: [] });
+    // a table of another program, with what is none for the bank
+    const other = ['word,clue,date', 'Ice cream,Cone filler,2026-05-02', 'Oats, Feed ,2 May', ',Lost,', 'CAT,,', 'C?T,Mouser,', 'DOG,See 1 Across,', 'A,Article,', `COW,${'x'.repeat(1001)},`, 'HEN,Layer,'].join('\n');
+    same(readBankTable(other), {
+      entries: [
+        { word: 'ICECREAM', clue: 'Cone filler', title: '', at: Date.UTC(2026, 4, 2), puzzle: 'table ' }, { word: 'OATS', clue: 'Feed', title: '', at: 0, puzzle: 'table ' },
+        { word: 'HEN', clue: 'Layer', title: '', at: 0, puzzle: 'table ' },
+      ],
+      dropped: ['a date that is not as 2026-11-30', '3 rows without an answer or a clue', '2 rows that are no clues of words', 'a row that is too long'],
+    });
+    throws(() => readBankTable('cat;60'), { status: 'File', message: 'its first line names no columns Answer and Clue' });
+  },
+
+  'clues that go when there are too many'() {
+    const entries = Array.from({ length: 21 }, (_, at) => ({ word: 'ODDS', clue: String(at), puzzle: 'p', title: '', at: (at * 8) % 21 }));
+    // of 21 where 20 may be, 19 stay: 0 and 1 are the oldest, as 8 * 8 = 64 = 3 * 21 + 1
+    same(oldest(entries, 20).map(({ clue }) => clue), ['8', '0']);
   },
 };
 

@@ -4,6 +4,7 @@ import { join } from 'node:path';
 import { Xw } from '../../dist/xw.js';
 import { begin, menu, openFile, openRecord, print, saved } from '../doing.mjs';
 import { hold, holdFill, isDrafted, isHeld } from '../holding.mjs';
+import { pageScript } from '../page-modules.mjs';
 import { LIST, PAGE, browser, expect, module, page, picture, ready, reload, room, runAlone } from '../page.mjs';
 
 // A row of four cells with a word.
@@ -416,18 +417,75 @@ export const CASES = {
     await openRecord(rowOf('OATS'));
     await browser.press('F3');
     await enterWord('odds');
-    await browser.until("document.querySelector('.offers')?.textContent === 'Clues for ODDS before: Chances' && !document.querySelector('.offers').hidden");
+    const isOffered = (isOpen) => browser.until(`(() => {
+      const offers = document.querySelector('.offers:not([hidden]) details');
+      return offers?.open === ${isOpen} && offers.firstChild.textContent === 'Clues for ODDS before: 1, in 1 puzzle' && /^Chancesuntitled, .*20\\d\\d/.test(offers.lastChild.textContent);
+    })()`);
+    await isOffered(true);
     await picture('old-clues');
     await browser.until("!/Chances/.test(window.drafts())");
     await browser.click('.offers button');
     await clueIs('Chances');
-    await browser.until("document.querySelector('.offers').hidden");
+    // folded, where a clue is there; what this puzzle has is none of them
+    await isOffered(false);
     // it has its word once it is kept
     await isDrafted(/"ODDS"/);
     await staleIs('');
     await enterWord('oats');
     await staleIs('Written for ODDS: Keep Drop');
     await browser.until("document.querySelector('.offers').hidden");
+  },
+
+  async 'the bank of old clues saved, cleared and read again'() {
+    const bank = (count) => browser.until(`document.getElementById('bank-summary').textContent.startsWith('${count} with their words, in this browser alone')`);
+    const saving = () => saved('old-clues.csv', () => browser.click('#bank-export')).then((bytes) => bytes.toString().slice(1));
+    await openRecord(`${rowOf('EELS')}text title Sea\ntext clue 1 1 across Slippery fish\n`);
+    await browser.press('F4');
+    await browser.until("/^[0-9]+ clues? with/.test(document.getElementById('bank-summary').textContent)");
+    // what is cleared is gone for good, after a question
+    await browser.click('#bank-clear');
+    await browser.click('#bank-dialog [value=cancel]');
+    const before = await saving();
+    expect(before.includes('"EELS","Slippery fish","Sea","20'), before);
+    await browser.click('#bank-clear');
+    await picture('clear-old-clues');
+    await browser.click('#bank-take');
+    await page.statusIs(/^the old clues are cleared$/, 'good');
+    await bank('0 clues');
+    expect(await browser.value("document.getElementById('bank-export').disabled && document.getElementById('bank-clear').disabled"), 'nothing can be saved');
+    // a table is read after a question too, and what is left out is named
+    writeFileSync(join(room, 'bank.csv'), `${before}BANS,Forbids,Law,2025-03-04\r\nBANS,,Law,\r\n`);
+    await browser.choose('#bank-file', join(room, 'bank.csv'));
+    await browser.until("document.getElementById('bank-dialog').open && / Left out: a row without an answer or a clue.$/.test(document.getElementById('bank-told').textContent)");
+    await browser.click('#bank-take');
+    await page.statusIs(/^bank.csv: [0-9]+ clues added to the old clues; left out: a row without an answer or a clue$/);
+    const after = await saving();
+    expect(before.split('\r\n').every((line) => after.includes(line)) && after.includes('"BANS","Forbids","Law","2025-03-04T00:00:00.000Z","table Law"'), after);
+    // a file that is none is refused by name
+    writeFileSync(join(room, 'bank.csv'), 'cat;60\n');
+    await browser.choose('#bank-file', join(room, 'bank.csv'));
+    await page.statusIs(/^bank.csv: its first line names no columns Answer and Clue$/, 'bad');
+    // and what was read is shown below the clue of its word
+    await openRecord(rowOf('BANS'));
+    await browser.press('F3');
+    await browser.until("/^Clues for BANS before: 1, in 1 puzzleForbidsLaw, .*2025/.test(document.querySelector('.offers:not([hidden])')?.textContent)");
+  },
+
+  async 'the bank of clues keeps the first date of a clue, and no more than it may'() {
+    await browser.value(`(() => { ${await pageScript('store', 'keep')}; window.store = store; })()`);
+    const left = await browser.value(`(async () => {
+      const { clearClues, everyClue, keepClues } = window.store;
+      const clue = (clue, at, title = '') => ({ word: 'ODDS', clue, puzzle: 'p', title, at });
+      await clearClues();
+      await keepClues([clue('Chances', 5)]);
+      await keepClues([clue('Chances', 9, 'Farm'), clue('Ratio', 0), clue('Ends', 7)]);
+      await keepClues([clue('Ratio', 3)]);
+      const all = await everyClue();
+      await keepClues(Array.from({ length: 20 }, (_, at) => clue(String(at), 100 + at)), 20);
+      return [all.map(({ clue, at, title }) => [clue, at, title].join(' ')).join(), (await everyClue()).map(({ clue }) => clue).sort().join()];
+    })()`);
+    expect(left[0] === 'Chances 5 Farm,Ends 7 ,Ratio 3 ', left[0]);
+    expect(left[1] === Array.from({ length: 19 }, (_, at) => String(at + 1)).sort().join(), left[1]);
   },
 
   async 'lengths at the end of clues'() {
