@@ -17,6 +17,7 @@ export class CluesView {
   #fields = new Map();
   #due = 0;
   #here = null;
+  #crossing = null;
   #old;
   #more;
   // whether the tab is in sight
@@ -134,12 +135,10 @@ export class CluesView {
     this.#fields.clear();
     this.#old.end();
     const part = (direction, title) => {
-      const heading = document.createElement('h3');
-      heading.textContent = title;
       const rows = this.#editor.board.lights.filter((light) => light.direction === direction).map((light) => this.#row(light, headOf.get(light)));
-      return [heading, ...rows];
+      return box('clue-part', Object.assign(document.createElement('h3'), { textContent: title }), ...rows);
     };
-    this.#root.replaceChildren(...part('across', 'Across'), ...part('down', 'Down'));
+    this.#root.replaceChildren(box('clue-parts', part('across', 'Across'), part('down', 'Down')));
   }
 
   // `head` is the light whose clue goes on in this one, if there is one: the clue leads to it.
@@ -260,16 +259,15 @@ export class CluesView {
   }
 
   #mark() {
-    const { light } = this.#editor;
-    const here = (light && this.#fields.get(light.name)) ?? null;
-    if (here !== this.#here) this.#here?.row.classList.remove('here');
-    this.#here = here;
+    const { light, crossing } = this.#editor;
+    const [here, other] = [light, crossing].map((one) => (one && this.#fields.get(one.name)) ?? null);
+    this.#here = marked(this.#here, here, 'here');
+    this.#crossing = marked(this.#crossing, other, 'crossing');
     this.#showOld();
     this.#more.show(here && this.isShown ? light : null, here?.row);
-    if (!here) return;
-    here.row.classList.add('here');
     if (!this.isShown) return;
-    if (!this.#root.contains(document.activeElement)) scrollWithin(this.#root, here.row);
+    if (here && !this.#root.contains(document.activeElement)) [this.#root, here.row.parentElement].forEach((column) => scrollWithin(column, here.row));
+    if (other) scrollWithin(other.row.parentElement, other.row);
   }
 
   #focused(field) {
@@ -396,6 +394,19 @@ function dataButton(text, data) {
   const button = Object.assign(document.createElement('button'), { type: 'button', textContent: text });
   Object.assign(button.dataset, data);
   return button;
+}
+
+// Gives the row of an entry a class, which that of another one had before; returns the entry.
+function marked(before, now, name) {
+  if (before !== now) before?.row.classList.remove(name);
+  now?.row.classList.add(name);
+  return now;
+}
+
+function box(className, ...inner) {
+  const made = Object.assign(document.createElement('div'), { className });
+  made.append(...inner);
+  return made;
 }
 
 // Scrolls a box so that an element of it is in sight, and nothing around the box.

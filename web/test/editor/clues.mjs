@@ -399,7 +399,39 @@ export const CASES = {
     expect(!(await browser.value("document.querySelector('#clue-list textarea').value.includes('\\n')")), 'the clue has several lines');
     for (const [width, height] of [[1400, 900], [1000, 800], [390, 844]]) {
       await browser.view(width, height);
-      await heightIs("offsetWidth > 0.55 * document.getElementById('clue-list').clientWidth");
+      await heightIs("offsetWidth > 0.55 * document.querySelector('.clue-part').clientWidth");
+    }
+    await browser.view(1400, 900);
+  },
+
+  async 'the clues across and down side by side, and on a phone below each other'() {
+    await begin(1);
+    await browser.press('F3');
+    const columns = () => browser.value(`[...document.querySelectorAll('.clue-part')].map((part) => {
+      const { left, right, top, bottom } = part.getBoundingClientRect();
+      return { left, right, top, bottom, title: part.firstChild.textContent, isCut: part.scrollWidth > part.clientWidth };
+    })`);
+    for (const [width, height] of [[1280, 720], [1280, 800], [1280, 1024], [1920, 1080], [768, 1024]]) {
+      await browser.view(width, height);
+      const [across, down] = await columns();
+      expect(across.title === 'Across' && down.title === 'Down' && across.top === down.top && across.right <= down.left && down.right <= width, `${width} × ${height}: ${JSON.stringify([across, down])}`);
+      expect(!across.isCut && !down.isCut && down.bottom < height, `${width} × ${height}: a column is cut`);
+      await picture(`clues-${width}-${height}`);
+    }
+    // the clue of the other light of the cell is in sight too
+    await browser.view(1280, 800);
+    await browser.click('#cell-15-15');
+    const isInSight = (name) => browser.until(`(() => {
+      const row = document.querySelector('.clue.${name}');
+      const [inner, outer] = [row.getBoundingClientRect(), row.parentElement.getBoundingClientRect()];
+      return inner.top >= outer.top && inner.bottom <= outer.bottom + 1;
+    })()`);
+    await isInSight('here');
+    await isInSight('crossing');
+    for (const [width, height] of [[390, 844], [844, 390]]) {
+      await browser.view(width, height);
+      const [across, down] = await columns();
+      expect(across.left === down.left && across.bottom <= down.top, `${width} × ${height}: ${JSON.stringify([across, down])}`);
     }
     await browser.view(1400, 900);
   },
