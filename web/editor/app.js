@@ -140,10 +140,10 @@ const clues = new CluesView(
 const details = new DetailsView(
   editor,
   {
-    panel: $('puzzle'), title: $('title'), author: $('author'), copyright: $('copyright'), notes: $('notes'), checks: $('checks'), counts: $('counts'),
+    panel: $('puzzle'), title: $('title'), author: $('author'), copyright: $('copyright'), notes: $('notes'), language: $('language'), checks: $('checks'), counts: $('counts'),
     lengths: $('lengths'), frequency: $('frequency'), wordForm: $('word-form'), word: $('word'), changed: $('changed'),
   },
-  { edit, text: editText, toGrid, toClue, leave, keepWord: (word, isHidden) => lists.keepWord(word, isHidden), refreshed: () => bankView.show() },
+  { edit, text: editText, toGrid, toClue, leave, language: (code) => edits.language(code), keepWord: (word, isHidden) => lists.keepWord(word, isHidden), refreshed: () => bankView.show() },
 );
 const tabs = new Tabs(details, clues, toGrid);
 const grids = new GridsView(

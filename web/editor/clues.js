@@ -3,7 +3,7 @@ import { ClueMore } from './clue-more.js';
 import { hasEnumeration, withEnumeration } from './enumeration.js';
 import { hasItalics, toggledItalics } from './marks.js';
 import { OldClues } from './old-clues.js';
-import { nodesOfText, put } from './page.js';
+import { nodesOfText, put, speakIn } from './page.js';
 import { termed } from './terms.js';
 import { titleOf } from './words.js';
 import { staleClues, staleWord } from './written.js';
@@ -65,6 +65,7 @@ export class CluesView {
       if (!this.#underWay.has(light.name)) this.#showText(light);
     }
     if (left) this.#goOn(left);
+    speakIn(this.#root, this.#editor.language);
     this.#lengths.disabled = !this.#withoutLengths.length;
     this.#words();
     this.#mark();

@@ -2,6 +2,7 @@
 import { Engine } from './engine.js';
 import { gradeOf, usualWeak } from './grades.js';
 import { colourField } from './colours.js';
+import { LANGUAGE } from './language.js';
 import { linksOf, noteField, numbersOf } from './links.js';
 import { entryOf, standing, withoutEntered } from './rebus.js';
 import { bodyOf, engineText, letterIn, parseRecord, placeOf, transition, unescapeText } from './record.js';
@@ -158,6 +159,11 @@ export class Editor extends EditorState {
   // The private note on the clue of a light.
   noteOf(light) {
     return this.originals.get(noteField(this.board, light)) ?? '';
+  }
+
+  // The language of the puzzle; '' if it has none.
+  get language() {
+    return this.originals.get(LANGUAGE) ?? '';
   }
 
   // The colour of a cell; '' if it has none.

@@ -4,6 +4,7 @@ import { colourField } from './colours.js';
 import { enumerated } from './enumeration.js';
 import { endingMessage, refusalText, refuse, say, sayAsIs } from './messages.js';
 import { $ } from './page.js';
+import { LANGUAGE } from './language.js';
 import { isReference, linkField, linkedTo, namedLights, noteField, referenceTo, spelledLink } from './links.js';
 import { hasItalics } from './marks.js';
 import { cellField } from './rebus.js';
@@ -177,6 +178,11 @@ export class Edits {
   colour(index, colour, stroke = null) {
     const { coordinates } = this.#editor.board.cells[index];
     return this.edit([], { originals: this.#beside([[colourField(coordinates), colour]]), stroke });
+  }
+
+  // Gives the puzzle a language, or none.
+  language(code) {
+    return this.edit([], { originals: this.#beside([[LANGUAGE, code]]) });
   }
 
   // What is kept beside the record, with other texts by field; '' takes one away.

@@ -24,7 +24,7 @@ const OTHERWISE = new RegExp(`^\\s*(?:[,/]|&(?=\\s*\\d))|~(?=\\{)|(?<=\\})~|\\((
 const inClue = (text) => inLine(markedUp(text, htmlText)).replace(OTHERWISE, (found) => [...found].map(reference).join(''));
 
 // The file of a board. `textOf` gives the text of a field, `entryOf` the letters of a cell, and `links` those of clues.
-export function exolveOf(board, textOf, entryOf = ({ letter }) => letter, { links } = PLAIN) {
+export function exolveOf(board, textOf, entryOf = ({ letter }) => letter, { links, language = '' } = PLAIN) {
   const rows = Array.from({ length: board.height }, (_, row) => board.cells.slice(row * board.width, (row + 1) * board.width).map((cell) => spelled(cell, entryOf(cell))).join(' '));
   const isRebus = board.cells.some((cell) => entryOf(cell).length > 1);
   const line = (name, text) => (text ? [`  exolve-${name}: ${inLine(htmlText(text))}`] : []);
@@ -32,7 +32,7 @@ export function exolveOf(board, textOf, entryOf = ({ letter }) => letter, { link
   const clue = (light) => `    ${numbers(light)} ${inClue(textOf(`clue ${light.name}`))}`.trimEnd();
   const clues = (direction) => board.lights.filter((light) => light.direction === direction).map(clue);
   const whole = [
-    'exolve-begin', ...line('title', textOf('title')), ...line('setter', textOf('author')), ...line('copyright', textOf('copyright')), `  exolve-width: ${board.width}`,
+    'exolve-begin', ...line('language', language && `${language} Latin`), ...line('title', textOf('title')), ...line('setter', textOf('author')), ...line('copyright', textOf('copyright')), `  exolve-width: ${board.width}`,
     `  exolve-height: ${board.height}`, ...(isRebus ? ['  exolve-option: rebus-cells'] : []), ...(textOf('notes') ? ['  exolve-preamble:', ...inLines(htmlText(textOf('notes')))] : []), '  exolve-grid:', ...rows.map((row) => `    ${row}`),
     '  exolve-across:', ...clues('across'), '  exolve-down:', ...clues('down'), 'exolve-end',
   ];
@@ -72,6 +72,7 @@ export function readExolve(text) {
   if (grid.length !== given.height) throw new FileFault('the rows are not of the size that the file gives');
   grid.forEach((line, at) => takeRow(given, at + 1, line));
   for (const [name, field] of Object.entries(FIELDS)) given.text(field, plainOf(of(name)?.value ?? ''));
+  given.language(of('language')?.value.split(/\s/)[0] ?? '');
   given.text('notes', plainOf((of('preamble') ?? of('prelude'))?.lines.join('\n') ?? ''));
   for (const direction of /** @type {const} */ (['across', 'down'])) for (const clue of cluesIn(of(direction)?.lines ?? [])) takeClue(given, clue, direction);
   for (const { name } of sections) if (!READ.has(name)) given.drops(`the section exolve-${name}`);

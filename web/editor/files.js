@@ -320,7 +320,7 @@ export class Files {
   // Saves a file that can be unfinished and have bars: `ipuz`, `jpz` or `exolve`.
   saveAs(form) {
     const editor = this.#editor;
-    const more = { colourOf: (cell) => editor.colourOf(cell), links: editor.links };
+    const more = { colourOf: (cell) => editor.colourOf(cell), links: editor.links, language: editor.language };
     this.#givePuzzle(new TextEncoder().encode(WRITERS[form](editor.board, this.#textOf, this.#entryOf, more)), this.#name(form), this.#lossNote(form));
   }
 
@@ -334,7 +334,7 @@ export class Files {
   // Saves the clues as a sheet in HTML.
   saveSheet() {
     const editor = this.#editor;
-    const told = { answerOf: (light) => editor.answerOf(light), cluedBy: (light) => editor.cluedBy(light), isLinked: (light) => editor.links.headOf.has(light) };
+    const told = { answerOf: (light) => editor.answerOf(light), cluedBy: (light) => editor.cluedBy(light), isLinked: (light) => editor.links.headOf.has(light), language: editor.language };
     this.#give(new TextEncoder().encode(htmlOf(editor.board, this.#textOf, enumerated, told)), this.#name('html'), this.#lossNote('html'));
   }
 

@@ -1,6 +1,7 @@
 // A puzzle as a file tells it: its cells, texts and clues, and what of it the page does not keep. Each reader of a format makes one.
 import { colourField } from './colours.js';
 import { Dropped } from './dropped.js';
+import { LANGUAGE, isLanguage } from './language.js';
 import { hasItalics, withoutItalics } from './marks.js';
 import { cellField } from './rebus.js';
 import { engineText, escapeText, textLines } from './record.js';
@@ -27,6 +28,7 @@ export class Given {
   texts = new Map();
   /** @type {GivenClue[]} */
   clues = [];
+  #language = '';
   #blocks = new Set();
   #bars = new Set();
   #circles = new Set();
@@ -88,6 +90,12 @@ export class Given {
     if (text) this.texts.set(field, text);
   }
 
+  // The language of its texts, such as en-GB; or ''.
+  language(code) {
+    if (isLanguage(code)) this.#language = code;
+    else if (code) this.drops('the language');
+  }
+
   /** @param {{ at?: string | null, number?: string | number, direction: Direction, text: string, links?: string[] }} clue */
   clue({ at = null, number = '', direction, text, links = [] }) {
     if (text) this.clues.push({ at, number: String(number), direction, text, links });
@@ -120,7 +128,7 @@ export class Given {
     const all = new Set(byName.values());
     const placed = this.clues.map(({ at, number, direction, text, links }) => ({ field: at ? `${at} ${direction}` : byName.get(`${number} ${direction}`), text, links }));
     const known = placed.filter(({ field }) => all.has(field));
-    const originals = [...this.#rebus, ...this.#colours];
+    const originals = [...this.#rebus, ...this.#colours, ...(this.#language ? [[LANGUAGE, this.#language]] : [])];
     const lines = [...this.texts, ...known.map(({ field, text }) => [`clue ${field}`, text])].flatMap(([field, text]) => {
       const { near, count } = engineText(text);
       if (count || hasItalics(text)) originals.push([field, text]);

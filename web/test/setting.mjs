@@ -8,9 +8,10 @@ import { Count } from './count.mjs';
 import { pageModules } from './page-modules.mjs';
 
 const {
-  anagramsOf, brightened, changeBeside, closeWords, clueWords, colourIn, engineText, enumerationsOf, hasItalics, hiddenIn, isReference, joinPersonal, lengthsOfSpelling, linksOf, namedLights, nearDeadEnd,
-  numbersOf, partedBy, partsOfText, referenceTo, spelledLights, spelledLink, spokenOf, toggledItalics, withScores, withoutItalics,
-} = await pageModules('changed', 'clue-words', 'colours', 'cryptic', 'enumeration', 'kin', 'links', 'marks', 'near', 'record', 'spoken', 'word-list');
+  anagramsOf, brightened, PLAIN, changeBeside, closeWords, clueWords, colourIn, engineText, enumerationsOf, exolveOf, hasItalics, hiddenIn, isLanguage, isReference, joinPersonal, languagesFor, lengthsOfSpelling, linksOf,
+  namedLights, nearDeadEnd,
+  numbersOf, partedBy, partsOfText, readExolve, referenceTo, spelledLights, spelledLink, spokenOf, toggledItalics, withScores, withoutItalics,
+} = await pageModules('changed', 'clue-words', 'colours', 'cryptic', 'enumeration', 'exolve', 'kin', 'language', 'links', 'marks', 'near', 'record', 'spoken', 'word-list');
 
 const light = (number, direction, cells) => ({ name: `${number} ${direction}`, number: String(number), direction, cells, count: 1 });
 
@@ -145,6 +146,24 @@ const CASES = {
     same(hiddenIn('TENOR', words, 9).includes('plaTE NORth'), true);
   },
 
+  'the language of a puzzle'() {
+    same(['en', 'en-GB', 'sr-Latn-RS', 'EN'].map(isLanguage), [true, true, true, true]);
+    same(['', 'e', 'english', 'en_GB', 'en-', 'en GB', '"><b', 'en-GB\n'].map(isLanguage), Array(8).fill(false));
+    const named = (language) => languagesFor(language).find(({ code }) => code === language)?.name;
+    same([named('en-GB'), named('ca'), named('')], ['British English (en-GB)', 'Catalan (ca)', undefined]);
+    same(languagesFor('ca').length, languagesFor('en-GB').length + 1);
+    // Exolve has one with its script
+    const text = (language) => `exolve-begin\n  exolve-language: ${language}\n  exolve-width: 2\n  exolve-height: 1\n  exolve-grid:\n    AB\nexolve-end\n`;
+    const read = (language) => {
+      const given = readExolve(text(language));
+      return [given.recordWith([]).originals, given.dropped];
+    };
+    same([read('fr Latin'), read(''), read('<b> Latin')], [[[['language', 'fr']], []], [[], []], [[], ['the language']]]);
+    const board = { width: 1, height: 1, cells: [{ letter: 'A', block: false }], lights: [] };
+    const written = (language) => exolveOf(board, () => '', undefined, { ...PLAIN, language }).split('\n').filter((line) => line.includes('language'));
+    same([written('fr'), written('')], [['  exolve-language: fr Latin'], []]);
+  },
+
   'what is spoken of a light'() {
     same(spokenOf(light(1, 'down', [0, 1, 2, 3, 4, 5, 6]), ['T', 'O', 'N', '', '', '', '']), '1 Down, 7 letters, T O N blank blank blank blank');
     same(spokenOf(light(9, 'across', [0, 1]), ['', '']), '9 Across, 2 letters, all blank');
@@ -171,6 +190,9 @@ const CASES = {
     same(changed([['clue 1 1 across', '<i>A</i>']]), { tab: 'clues', text: 'the clue of 1 1 across' });
     // it is in the grid
     same(changed([['colour 1 1', 'ffe680']]), null);
+    same(changed([['language', 'en-GB']]), { tab: 'puzzle', text: 'the language' });
+    same(changed([['note 1 1 across', 'wordplay'], ['clue 1 1 across', '<i>A</i>']]), { tab: 'clues', text: '1 1 across' });
+    same(changed([['note 1 1 across', 'wordplay'], ['clue 2 1 across', '<i>A</i>']]), { tab: 'clues', text: '2 clues and notes' });
   },
 };
 

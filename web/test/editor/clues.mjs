@@ -693,6 +693,36 @@ export const CASES = {
     expect((await value('title')) === '', 'the title stays after undo');
   },
 
+  async 'the language of a puzzle, for the spelling'() {
+    await openRecord(rowOf('BAAS'));
+    const isIn = (language) => browser.until(`document.getElementById('clue-list').lang === '${language}' && document.getElementById('title').lang === '${language}' && document.getElementById('language').value === '${language}'`);
+    await isIn('');
+    expect(await browser.value("document.querySelector('#clue-list textarea').spellcheck && document.getElementById('notes').spellcheck"), 'the spelling is not checked');
+    await browser.press('F4');
+    await browser.value("document.getElementById('language').value = 'en-GB', document.getElementById('language').dispatchEvent(new Event('change', { bubbles: true }))");
+    await isIn('en-GB');
+    await isDrafted(/"language","en-GB"/);
+    await browser.click('#cell-1-1');
+    await browser.press('Control+z');
+    await page.statusIs(/^undone: the language$/i);
+    await isIn('');
+    await browser.press('Control+y');
+    await isIn('en-GB');
+    // files that have it, and one that has not
+    await saved('crossword.exolve', () => menu('save-exolve'));
+    await page.statusIs(/^saved: crossword.exolve$/);
+    await saved('crossword.ipuz', () => menu('save-ipuz'));
+    await page.statusIs(/^saved: crossword.ipuz, without the language$/);
+    await saved('crossword.xw', () => menu('save-session'));
+    for (const name of ['crossword.exolve', 'crossword.xw']) {
+      await begin(6);
+      await isIn('');
+      await openFile(join(room, name));
+      await page.statusIs(/is open; undo/);
+      await isIn('en-GB');
+    }
+  },
+
   async 'clues from a table'() {
     await openRecord(`${rowOf('BAAS')}text title Farm\ntext clue 1 1 across Sheep\n`);
     await browser.press('F3');
