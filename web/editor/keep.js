@@ -1,4 +1,4 @@
-// What the browser keeps between visits. In IndexedDB: the puzzles with their versions, the word list, and the bank of clues. In the local store: a
+// What the browser keeps between visits. In IndexedDB: the puzzles with their versions, the word list, the steps of the open puzzles, and the bank of clues. In the local store: a
 // draft of each puzzle that is open, since a page that goes can write there before it goes.
 
 /** @typedef {{ name: string, version: number, stores: Record<string, string>, make: (opened: IDBDatabase, oldVersion: number) => void }} Database */
@@ -22,6 +22,16 @@ const BANK = {
   stores: { clues: 'clues' },
   make(opened) {
     opened.createObjectStore(this.stores.clues, { keyPath: ['word', 'clue', 'puzzle'] }).createIndex('puzzle', 'puzzle');
+  },
+};
+// the steps of the open puzzles, apart too
+/** @type {Database} */
+const HISTORY = {
+  name: 'xw-editor-history',
+  version: 1,
+  stores: { history: 'history' },
+  make(opened) {
+    opened.createObjectStore(this.stores.history, { keyPath: 'puzzle' });
   },
 };
 const DRAFT = 'xw-editor/';
@@ -196,6 +206,18 @@ export function destroyPuzzles(names) {
     }
   });
 }
+
+// The histories of the puzzles that are open.
+
+/** @param {import('./history.js').KeptHistory} entry */
+export const keepHistory = (entry) => within('readwrite', ({ history }) => history.put(entry), HISTORY);
+
+/** @returns {Promise<import('./history.js').KeptHistory | undefined>} */
+export const keptHistory = (puzzle) => within('readonly', ({ history }) => history.get(puzzle), HISTORY);
+
+export const dropHistories = (puzzles) => within('readwrite', ({ history }) => {
+  for (const puzzle of puzzles) history.delete(puzzle);
+}, HISTORY);
 
 // The bank of clues. An entry has the word and the clue, the puzzle with its title, and when the clue was first there; 0 if that is not known.
 /** @typedef {{ word: string, clue: string, puzzle: string, title: string, at: number }} KeptClue */
