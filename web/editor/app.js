@@ -163,7 +163,7 @@ const nextLight = new NextLight(editor, faults, toGrid);
 
 const files = new Files(editor, {
   mayEdit, toGrid, toClue, opened: toGrid, changeLists: (changed, name, bytes) => lists.change(changed, name, bytes), addPuzzles: (text) => shelf.addAll(text),
-  saved: () => shelf.saved(), askRows, askFile,
+  saved: () => shelf.saved(), askRows, askFile, askAnyway,
 });
 files.takeDrops(document.body);
 // Asks for the letters of a cell, which may be several.
@@ -192,6 +192,18 @@ async function askFile(zip, names) {
   $('zip-files').replaceChildren(...names.slice(0, MOST_FILES).map((name, at) => Object.assign(document.createElement('button'), { value: at, textContent: name })));
   const answer = await askDialog($('zip-dialog'));
   return /^\d+$/.test(answer) ? Number(answer) : null;
+}
+
+// the most repairs that are shown
+const MOST_REPAIRS = 200;
+
+// Shows what is wrong in a file and what is made of it, and promises `open` if it is opened so.
+function askAnyway(name, repairs) {
+  const more = repairs.length - MOST_REPAIRS;
+  $('repairs-told').textContent = `${name} has faults. If you open it anyway, this is what is made of them:`;
+  const shown = [...repairs.slice(0, MOST_REPAIRS), ...(more > 0 ? [`and ${more} more`] : [])];
+  $('repairs').replaceChildren(...shown.map((textContent) => Object.assign(document.createElement('li'), { textContent })));
+  return askDialog($('repairs-dialog'));
 }
 
 const lists = new ListsInUse(editor, {

@@ -1,5 +1,5 @@
 // Crosswords as text of Exolve: a section `exolve-…` a line or more, from `exolve-begin` to `exolve-end`.
-import { FileFault, Given, markedOf, plainOf } from './given.js';
+import { Given, markedOf, plainOf } from './given.js';
 import { PLAIN, spelledLights } from './links.js';
 import { htmlText, markedUp } from './marks.js';
 
@@ -69,8 +69,8 @@ export function readExolve(text) {
   const of = (name) => sections.find((section) => section.name === name);
   const grid = of('grid')?.lines ?? [];
   const given = new Given(Number(of('width')?.value), Number(of('height')?.value));
-  if (grid.length !== given.height) throw new FileFault('the rows are not of the size that the file gives');
-  grid.forEach((line, at) => takeRow(given, at + 1, line));
+  const rows = given.repairs.fitted(grid.map((line) => cellsIn(line, given.width)), given, EMPTY);
+  rows.forEach((cells, above) => cells.forEach((cell, before) => takeCell(given, above + 1, before + 1, cell)));
   for (const [name, field] of Object.entries(FIELDS)) given.text(field, plainOf(of(name)?.value ?? ''));
   given.text('notes', plainOf((of('preamble') ?? of('prelude'))?.lines.join('\n') ?? ''));
   for (const direction of /** @type {const} */ (['across', 'down'])) for (const clue of cluesIn(of(direction)?.lines ?? [])) takeClue(given, clue, direction);
@@ -81,16 +81,16 @@ export function readExolve(text) {
 // What marks of a cell say.
 const MARKS = { '|': ['right'], _: ['below'], '+': ['right', 'below'] };
 
-// Takes a row of cells, each with its marks. With a space between all cells, they may have several letters.
-function takeRow(given, row, line) {
+const EMPTY = '0';
+
+// The cells of a row, each with its marks. With a space between all cells, they may have several letters.
+function cellsIn(line, width) {
   const spaced = line.split(/\s+/);
-  const spelled = spaced.length === given.width ? spaced : line.replace(/\s/g, '').match(/[^|_+@*!~][|_+@*!~]*/g) ?? [];
-  const cells = spelled.map((cell) => /^([^|_+@*!~]+)([|_+@*!~]*)$/.exec(cell));
-  if (cells.length !== given.width || cells.includes(null)) throw new FileFault(`row ${row} of the grid does not have ${given.width} cells`);
-  cells.forEach(([, entry, marks], before) => takeCell(given, row, before + 1, entry, marks));
+  return spaced.length === width ? spaced : line.replace(/\s/g, '').match(/[^|_+@*!~][|_+@*!~]*/g) ?? [];
 }
 
-function takeCell(given, row, column, entry, marks) {
+function takeCell(given, row, column, spelled) {
+  const [, entry, marks] = /^([^|_+@*!~]+)([|_+@*!~]*)$/.exec(spelled) ?? [null, spelled, ''];
   if (entry === '.') {
     given.block(row, column);
     return;
@@ -100,7 +100,7 @@ function takeCell(given, row, column, entry, marks) {
   if (marks.includes('!')) given.drops('that a letter is shown to solvers', 'that letters are shown to solvers');
   if (marks.includes('*')) given.drops('a diagramless cell', 'diagramless cells');
   if (entry === '?') given.drops('a diagramless cell', 'diagramless cells');
-  else if (entry !== '0') given.entry(row, column, entry);
+  else if (entry !== EMPTY) given.entry(row, column, entry);
 }
 
 // Clues begin with their number; other lines go on with the one before.

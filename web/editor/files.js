@@ -11,11 +11,13 @@ import { jpzOf, readJpz } from './jpz.js';
 import { lossesOf } from './losses.js';
 import { SESSION_HEAD, foreignKind, hasCommands, isListText, isPuz, kindOf } from './kinds.js';
 import { refusalText, refuseAsIs as refuse, sayAsIs as say } from './messages.js';
+import { isScrambled, readPuz } from './puz.js';
 import { rebusOf, withRebus } from './puz-sections.js';
 import { asVersion13, originalsOf } from './puz-versions.js';
 import { readDeck, readQxw } from './qxw.js';
 import { isRebus, keptRebus } from './rebus.js';
 import { bodyOf } from './record.js';
+import { counted } from './repairs.js';
 import { termed } from './terms.js';
 import { asVersion1, letterRows, recordOfRows } from './text-grids.js';
 import { listText } from './word-list.js';
@@ -120,22 +122,40 @@ export class Files {
     return this.#opened(name);
   }
 
-  // Opens a .puz or a text file. The characters of a later .puz that earlier ones cannot have are kept beside its texts.
+  // Opens a .puz or a text file.
   async #openPuzzle(name, bytes) {
+    let read;
+    try {
+      read = await this.#soundPuzzle(bytes);
+    } catch (fault) {
+      if (!fault.status || !isPuz(bytes) || isScrambled(bytes)) throw fault;
+      return await this.#openGiven(name, puzDespite(fault, bytes), fault);
+    }
+    const { dropped, ...puzzle } = read;
+    await this.#editor.replace(puzzle);
+    return this.#opened(name, dropped);
+  }
+
+  // What a .puz or a text file has. The characters of a later .puz that earlier ones cannot have are kept beside its texts.
+  async #soundPuzzle(bytes) {
     const { bytes: puzzle, texts } = isPuz(bytes) ? asVersion13(bytes) : { bytes, texts: [] };
     const record = await this.#editor.engine.call('read', { puzzle });
     const strange = texts.length ? originalsOf(texts, await this.#editor.engine.call('lights', { record })) : [];
     const { originals, lines } = keptRebus(isPuz(puzzle) ? rebusOf(puzzle) : []);
-    await this.#editor.replace({ record: [record.trimEnd(), ...lines, ''].join('\n'), originals: [...strange, ...originals] });
-    return this.#opened(name, isPuz(puzzle) ? droppedOfPuz(puzzle) : []);
+    return { record: [record.trimEnd(), ...lines, ''].join('\n'), originals: [...strange, ...originals], dropped: isPuz(puzzle) ? droppedOfPuz(puzzle) : [] };
   }
 
-  // Opens what a reader made of a file: its clues are at the lights that the engine finds in its grid.
-  async #openGiven(name, given) {
+  // Opens what a reader made of a file: its clues are at the lights that the engine finds in its grid. What was wrong in it is shown before. `fault` is why
+  // the engine refused the file itself.
+  async #openGiven(name, given, fault = null) {
     const { engine } = this.#editor;
     const { record, originals, lost } = given.recordWith(await engine.call('lights', { record: given.grid }));
-    await this.#editor.replace({ record: await engine.call('read', { record }), originals });
-    return this.#opened(name, given.dropped, lost ? `; ${lost} ${lost === 1 ? 'clue has' : 'clues have'} no place in its grid` : '');
+    const read = await engine.call('read', { record });
+    const repairs = given.repairs.lines.length || !fault ? given.repairs.lines : [refusalText(fault.status)];
+    if (repairs.length && (await this.actions.askAnyway(name, repairs)) !== 'open') return this.#refuse(`${name} is not opened`);
+    await this.#editor.replace({ record: read, originals });
+    const repaired = repairs.length ? `, with ${counted(repairs.length, 'repair')}` : '';
+    return this.#opened(name, given.dropped, `${repaired}${lost ? `; ${lost} ${lost === 1 ? 'clue has' : 'clues have'} no place in its grid` : ''}`);
   }
 
   // Adds the puzzles of a file to those that the browser keeps.
@@ -370,6 +390,15 @@ function givenBy(reader, bytes) {
   } catch (fault) {
     if (fault.status) throw fault;
     throw new FileFault('it is not as its format has it');
+  }
+}
+
+// What can be read of a .puz that is refused for a fault. If it has not even a grid, it stays refused.
+function puzDespite(fault, bytes) {
+  try {
+    return readPuz(bytes);
+  } catch {
+    throw fault;
   }
 }
 

@@ -24,7 +24,7 @@ export function puzOf({ version, width, height, solution, texts, sections = [] }
     return version.startsWith('1.2') ? now : checksum(ended(notes), now);
   };
   const cib = checksum(header.subarray(0x2c, 0x34));
-  const board = Buffer.from(solution);
+  const board = Buffer.from(solution, 'latin1');
   header.set(little(cib), 0x0e);
   header.set(little(sum(checksum(state, checksum(board, cib)))), 0);
   const four = [cib, checksum(board), checksum(state), sum(0)];

@@ -2,7 +2,7 @@
 import { mkdirSync, readdirSync, rmSync, writeFileSync } from 'node:fs';
 import { join } from 'node:path';
 import { Xw, toBytes } from '../../dist/xw.js';
-import { begin, hush, menu, openFile, openRecord, print, saved } from '../doing.mjs';
+import { begin, faultsShown, hush, menu, openAnyway, openFile, openRecord, print, saved } from '../doing.mjs';
 import { isDrafted } from '../holding.mjs';
 import { browser, expect, module, page, picture, pictures, reload, room, runAlone } from '../page.mjs';
 import { pageModules, pageScript } from '../page-modules.mjs';
@@ -39,7 +39,7 @@ async function isHarmless(name) {
   await browser.click('#library-dialog [value=close]');
 }
 
-// Files with such texts in each place that a format has, and what is said of them.
+// Files with such texts in each place that a format has, and what is said of them, or what is asked.
 function hostileFiles() {
   const text = HOSTILE;
   const xml = text.replace(/[&<>"]/g, (one) => `&#${one.charCodeAt(0)};`);
@@ -64,15 +64,15 @@ function hostileFiles() {
   const texts = [text, text, text, text, text].map((one) => Buffer.from(one));
   const rebus = [['GRBS', Buffer.from([1, 0])], ['RTBL', Buffer.from(` 0:${text.replace(/[;:]/g, '')};`)]];
   const lines = ['<ACROSS PUZZLE V2>', '<TITLE>', text, '<AUTHOR>', text, '<COPYRIGHT>', text, '<SIZE>', '2x1', '<GRID>', '1B', '<REBUS>', `1:${text.replace(/[;:]/g, '')}:A`, '<ACROSS>', text, '<DOWN>', '<NOTEPAD>', text];
-  const strange = (name) => new RegExp(`^${name}: row 1, column \\d has “`);
+  const strange = (name) => [new RegExp(`^${name} is open, with 1 repair[;,]`), /^row 1, column \d has “"><img src="?x.*…” for a letter: left empty$/];
   return [
     ['session.xw', session, new RegExp(`^session.xw is open, but without ${left}; undo`)],
     ['styles.ipuz', JSON.stringify({ ...styled, clues }), /^styles.ipuz is open, but without/],
-    ['letters.ipuz', JSON.stringify({ ...styled, solution: [['C', text, 'T']] }), strange('letters.ipuz')],
+    ['letters.ipuz', JSON.stringify({ ...styled, solution: [['C', text, 'T']] }), ...strange('letters.ipuz')],
     ['clues.ipuz', JSON.stringify({ ...styled, clues: { Across: 5 } }), /^clues.ipuz: it is not as its format has it$/],
-    ['texts.jpz', jpz('B'), /^texts.jpz is open, but without/], ['colours.jpz', jpz('B', ` background-color="${xml}"`), /^colours.jpz is open, but without/], ['letters.jpz', jpz(xml), strange('letters.jpz')],
-    ['texts.exolve', exolve('AB'), /^texts.exolve is open, but without/], ['letters.exolve', exolve(`A ${text.replace(/\s/g, '')}`), /^letters.exolve: row 1/],
-    ['texts.qxw', qxw('A'), /^texts.qxw is open/], ['letters.qxw', qxw(text), strange('letters.qxw')],
+    ['texts.jpz', jpz('B'), /^texts.jpz is open, but without/], ['colours.jpz', jpz('B', ` background-color="${xml}"`), /^colours.jpz is open, but without/], ['letters.jpz', jpz(xml), ...strange('letters.jpz')],
+    ['texts.exolve', exolve('AB'), /^texts.exolve is open, but without/], ['letters.exolve', exolve(`A ${text.replace(/\s/g, '')}`), /^letters.exolve is open, with 1 repair/, /^row 1, column 2 has “"><img/],
+    ['texts.qxw', qxw('A'), /^texts.qxw is open/], ['letters.qxw', qxw(text), ...strange('letters.qxw')],
     ['texts.puz', puzOf({ version: '2.0\0', width: 2, height: 1, solution: 'AB', texts }), /^texts.puz is open/],
     ['rebus.puz', puzOf({ version: '1.3\0', width: 2, height: 1, solution: 'AB', texts, sections: rebus }), /^rebus.puz is open, but without the rebus in row 1/],
     ['texts.txt', lines.join('\n'), /^texts.txt is open, but without the rebus in row 1/],
@@ -86,9 +86,14 @@ function hostileFiles() {
 export const CASES = {
   async 'files of a stranger run nothing, and become no elements'() {
     await begin(6);
-    for (const [name, bytes, said] of hostileFiles()) {
+    for (const [name, bytes, said, asked] of hostileFiles()) {
       writeFileSync(join(room, name), bytes);
       await openFile(join(room, name));
+      if (asked) {
+        const faults = await faultsShown();
+        expect(faults.length === 1 && asked.test(faults[0]), `${name}: the page asks: ${faults}`);
+        await openAnyway();
+      }
       if (said) await page.statusIs(said);
       else {
         await browser.until("document.getElementById('zip-dialog').open");
@@ -240,10 +245,50 @@ export const CASES = {
     expect(await page.has('2-2', 'circled'), 'the circle is lost');
     const again = await saved('round-trip.puz', () => browser.press('Control+s'));
     expect(again.equals(bytes), 'the bytes differ');
+    await begin(6);
     writeFileSync(path, bytes.fill(0, 0, 2));
     await openFile(path);
-    await page.statusIs(/checksum/);
-    expect((await page.row(1)) === 'ABCD', 'a file that is refused has changed the grid');
+    expect((await faultsShown()).join() === 'the checksum of the whole file is wrong', 'something else is wrong');
+    await openAnyway();
+    await page.statusIs(/^given.puz is open, with 1 repair; undo/, 'good');
+    expect((await page.row(1)) === 'ABCD' && (await page.has('2-2', 'circled')), 'the file is opened in part');
+  },
+
+  async 'files with faults, opened anyway or not'() {
+    const xml = `<crossword-compiler xmlns="http://crossword.info/xml/crossword-compiler"><rectangular-puzzle xmlns="http://crossword.info/xml/rectangular-puzzle"><crossword>
+      <grid width="3" height="1"><cell x="1" y="1" solution="C" number="1"/><cell x="2" y="1" solution="7"/><cell x="3" y="1" solution="T"/><cell x="4" y="1" solution="S"/></grid>
+      <word id="1" x="1-3" y="1"/><clues><title>Across</title><clue word="1" number="1">Pet</clue><clue word="1" number="1">Pets</clue></clues></crossword></rectangular-puzzle></crossword-compiler>`;
+    const ipuz = { version: 'http://ipuz.org/v2', kind: ['http://ipuz.org/crossword#1'], dimensions: { width: 3, height: 1 }, puzzle: [[1, 0]], solution: [['C', '\u2665', 'T']], clues: { Across: [[1, 'Pets']] } };
+    const symbol = (mark) => `row 1, column 2 has “${mark}” for a letter: left empty`;
+    const files = {
+      'faults.puz': [puzOf({ version: '1.3\0', width: 3, height: 1, solution: 'C7T', texts: ['', '', '', 'Pets', 'More', ''].map((one) => Buffer.from(one)) }).fill(0, 0, 2), [
+        symbol('7'), 'the checksum of the whole file is wrong', 'a clue too many: “More” is left out',
+      ]],
+      'faults.ipuz': [JSON.stringify(ipuz), ['row 1 has 1 cell too few: they are left empty', symbol('\u2665')]],
+      'faults.jpz': [xml, [symbol('7'), 'a cell lies outside the grid, in row 1, column 4: it is left out', 'a clue has the place of another one: “Pet” is left out']],
+    };
+    for (const [name, [bytes, wanted]] of Object.entries(files)) {
+      await begin(6);
+      const before = await page.rows();
+      writeFileSync(join(room, name), bytes);
+      await openFile(join(room, name));
+      const faults = await faultsShown();
+      expect(faults.join('; ') === wanted.join('; '), `${name}: the page says: ${faults.join('; ')}`);
+      await picture(`faults-${name.replace('.', '-')}`);
+      await browser.press('Escape');
+      await page.statusIs(new RegExp(`^${name} is not opened$`), 'bad');
+      expect((await page.rows()).join() === before.join(), `${name} changes the grid`);
+      await openFile(join(room, name));
+      await faultsShown();
+      await openAnyway();
+      await page.statusIs(new RegExp(`^${name} is open, with ${wanted.length} repairs; undo`), 'good');
+      expect((await page.rows()).join() === 'C.T', `the grid is ${await page.rows()}`);
+      await browser.press('F3');
+      await browser.until("document.querySelector('#clue-list textarea').value === 'Pets'");
+      await browser.click('#tab-words');
+      await browser.press('Control+z');
+      await browser.until(`document.querySelectorAll('#grid .row').length === ${before.length}`);
+    }
   },
 
   async 'the finished puzzles of examples/puzzles'() {
@@ -341,14 +386,14 @@ export const CASES = {
       'none.puz': '', 'none.txt': '', 'none.xw': '', 'blank.txt': '\n\n \n', 'notes.xw': '# xw session 1\n\n# no more\n', 'prose.txt': prose,
       'some.puz': 'cat\ncot\n', 'numbers.csv': '1,2\n3,4\n', 'folder.txt': null,
       'sudoku.ipuz': JSON.stringify({ version: 'http://ipuz.org/v2', kind: ['http://ipuz.org/sudoku#1'], dimensions: { width: 2, height: 1 }, puzzle: [[1, 2]] }),
-      'rebus.ipuz': JSON.stringify({ version: 'http://ipuz.org/v2', kind: ['http://ipuz.org/crossword#1'], dimensions: { width: 2, height: 1 }, puzzle: [[1, 2]], solution: [['\u2665', 'C']] }),
+      'short.puz': puzOf({ version: '1.3\0', width: 2, height: 1, solution: 'AB', texts: ['', '', '', 'Clue', ''].map((one) => Buffer.from(one)) }).subarray(0, 40),
       'paper.pdf': '%PDF-1.4\n1 0 obj\n<< /Type /Catalog /Pages 2 0 R >>\nendobj\n2 0 obj\n<< /Type /Pages /Kids [] /Count 0 >>\nendobj\ntrailer\n<< /Root 1 0 R >>\nstartxref\n9\n%%EOF\n',
       'picture.png': PICTURE, 'picture.puz': PICTURE, 'noise.puz': Buffer.from('ACROSS\0\0\0'), 'mail.puz': `From: a@example.org\nSubject: A crossword\nMIME-Version: 1.0\n\n${'\0'.repeat(40)}`,
     };
     const said = {
       'some.puz': 'some.puz: this is no .puz file; it looks like a word list, so give it a name that ends with .txt', 'noise.puz': 'noise.puz: this is no .puz file',
       'paper.pdf': 'paper.pdf is a document (PDF), not a puzzle: nothing is opened', 'picture.puz': 'picture.puz is a picture (PNG), not a puzzle: nothing is opened',
-      'mail.puz': 'mail.puz looks like a mail, not a puzzle: save its attachment, and open that',
+      'short.puz': 'short.puz: the file ends too early', 'mail.puz': 'mail.puz looks like a mail, not a puzzle: save its attachment, and open that',
     };
     for (const [name, bytes] of Object.entries(files)) {
       if (bytes === null) mkdirSync(join(room, name));
