@@ -163,7 +163,8 @@ const nextLight = new NextLight(editor, faults, toGrid);
 
 const files = new Files(editor, {
   mayEdit, toGrid, toClue, opened: toGrid, changeLists: (changed, name, bytes) => lists.change(changed, name, bytes), addPuzzles: (text) => shelf.addAll(text),
-  saved: () => shelf.saved(), askRows, askFile, askAnyway,
+  saved: () => shelf.saved(), askRows, askFile, askAnyway, askKey,
+  words: () => allWords.get(),
 });
 files.takeDrops(document.body);
 // Asks for the letters of a cell, which may be several.
@@ -204,6 +205,15 @@ function askAnyway(name, repairs) {
   const shown = [...repairs.slice(0, MOST_REPAIRS), ...(more > 0 ? [`and ${more} more`] : [])];
   $('repairs').replaceChildren(...shown.map((textContent) => Object.assign(document.createElement('li'), { textContent })));
   return askDialog($('repairs-dialog'));
+}
+
+// Asks for the key of a scrambled file, and promises the answer and what was typed.
+async function askKey(told, maySearch) {
+  $('key-told').textContent = told;
+  const field = /** @type {HTMLInputElement} */ ($('key'));
+  field.value = '';
+  /** @type {HTMLButtonElement} */ ($('key-search')).disabled = !maySearch;
+  return { answer: await askDialog($('key-dialog')), key: field.value.trim() };
 }
 
 const lists = new ListsInUse(editor, {

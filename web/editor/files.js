@@ -8,10 +8,11 @@ import { exolveOf, readExolve } from './exolve.js';
 import { FileFault } from './given.js';
 import { ipuzOf, readIpuz } from './ipuz.js';
 import { jpzOf, readJpz } from './jpz.js';
+import { solutionOf } from './locked.js';
 import { lossesOf } from './losses.js';
 import { SESSION_HEAD, foreignKind, hasCommands, isListText, isPuz, kindOf } from './kinds.js';
 import { refusalText, refuseAsIs as refuse, sayAsIs as say } from './messages.js';
-import { isScrambled, readPuz } from './puz.js';
+import { readPuz } from './puz.js';
 import { rebusOf, withRebus } from './puz-sections.js';
 import { asVersion13, originalsOf } from './puz-versions.js';
 import { readDeck, readQxw } from './qxw.js';
@@ -20,6 +21,7 @@ import { bodyOf } from './record.js';
 import { counted } from './repairs.js';
 import { termed } from './terms.js';
 import { asVersion1, letterRows, recordOfRows } from './text-grids.js';
+import { isScrambled } from './unscramble.js';
 import { listText } from './word-list.js';
 import { titleOf } from './words.js';
 import { staleClues } from './written.js';
@@ -124,16 +126,29 @@ export class Files {
 
   // Opens a .puz or a text file.
   async #openPuzzle(name, bytes) {
+    if (isPuz(bytes) && isScrambled(bytes)) return this.#openScrambled(name, bytes);
     let read;
     try {
       read = await this.#soundPuzzle(bytes);
     } catch (fault) {
-      if (!fault.status || !isPuz(bytes) || isScrambled(bytes)) throw fault;
-      return await this.#openGiven(name, puzDespite(fault, bytes), fault);
+      if (!fault.status || !isPuz(bytes)) throw fault;
+      return await this.#openGiven(name, puzDespite(fault, bytes), { fault });
     }
     const { dropped, ...puzzle } = read;
     await this.#editor.replace(puzzle);
     return this.#opened(name, dropped);
+  }
+
+  // Opens a .puz with a scrambled solution, with its letters or without them.
+  async #openScrambled(name, bytes) {
+    // which is refused if it has no grid
+    readPuz(bytes);
+    const { askKey, words } = this.actions;
+    const found = await solutionOf(name, bytes, { ask: askKey, searching: () => say(`trying the keys of ${name} …`, 'busy', true), words });
+    if (!found) return this.#refuse(`${name} is not opened`);
+    const given = readPuz(bytes, found.solution);
+    if (!found.found) given.drops('its solution, which is scrambled');
+    return this.#openGiven(name, given, { found: found.found });
   }
 
   // What a .puz or a text file has. The characters of a later .puz that earlier ones cannot have are kept beside its texts.
@@ -146,8 +161,8 @@ export class Files {
   }
 
   // Opens what a reader made of a file: its clues are at the lights that the engine finds in its grid. What was wrong in it is shown before. `fault` is why
-  // the engine refused the file itself.
-  async #openGiven(name, given, fault = null) {
+  // the engine refused the file itself, and `found` says how its solution was found.
+  async #openGiven(name, given, { fault = null, found = '' } = {}) {
     const { engine } = this.#editor;
     const { record, originals, lost } = given.recordWith(await engine.call('lights', { record: given.grid }));
     const read = await engine.call('read', { record });
@@ -155,7 +170,7 @@ export class Files {
     if (repairs.length && (await this.actions.askAnyway(name, repairs)) !== 'open') return this.#refuse(`${name} is not opened`);
     await this.#editor.replace({ record: read, originals });
     const repaired = repairs.length ? `, with ${counted(repairs.length, 'repair')}` : '';
-    return this.#opened(name, given.dropped, `${repaired}${lost ? `; ${lost} ${lost === 1 ? 'clue has' : 'clues have'} no place in its grid` : ''}`);
+    return this.#opened(name, given.dropped, `${found}${repaired}${lost ? `; ${lost} ${lost === 1 ? 'clue has' : 'clues have'} no place in its grid` : ''}`);
   }
 
   // Adds the puzzles of a file to those that the browser keeps.

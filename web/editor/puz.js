@@ -7,6 +7,7 @@ import { rebusOf, sectionAt, sectionsFrom, sectionsOf } from './puz-sections.js'
 import { sumsOf } from './puz-versions.js';
 import { isRebus } from './rebus.js';
 import { counted, shownText } from './repairs.js';
+import { isScrambled } from './unscramble.js';
 
 /** @typedef {import('./given.js').FirstCell} FirstCell */
 
@@ -18,17 +19,15 @@ const [BEFORE, TEXTS] = [3, 4];
 const CIRCLE = 0x80;
 // the marks of cells without letters; a hidden block is one of a puzzle without a diagram
 const [BLOCK, HIDDEN, EMPTY] = ['.', ':', '-'];
-// the tag of a scrambled solution
-const SCRAMBLED = 4;
-
-export const isScrambled = (bytes) => (bytes[TAG] & SCRAMBLED) !== 0;
 
 // The puzzle of a file, with other bytes for its solution if it was scrambled. Throws a FileFault if it has no grid.
 /** @param {Uint8Array | null} solution */
 export const readPuz = (bytes, solution = null) => new PuzGiven(bytes, solution);
 
 class PuzGiven extends Given {
+  // the file, and the same with its solution
   #bytes;
+  #plain;
   #sections;
   // the texts up to the sections, and whether the last one has no end
   #texts;
@@ -37,19 +36,20 @@ class PuzGiven extends Given {
   constructor(bytes, solution) {
     if (bytes.length < HEADER) throw new FileFault(refusalText('Short'));
     super(bytes[WIDTH], bytes[HEIGHT]);
-    this.#bytes = bytes;
+    [this.#bytes, this.#plain] = [bytes, solution ? Uint8Array.from(bytes) : bytes];
+    if (solution) this.#plain.set(solution, HEADER);
     const { texts, isCut, end } = textsIn(bytes, HEADER + 2 * this.width * this.height, this.#declared + TEXTS);
     const sections = sectionsFrom(bytes, end);
     [this.#texts, this.#isCut, this.#sections] = [texts, isCut, sectionsOf(bytes, sections)];
     this.#tellHeader();
-    this.#takeCells(solution ?? bytes.subarray(HEADER, HEADER + this.width * this.height));
+    this.#takeCells([...toText(this.#plain.subarray(HEADER, HEADER + this.width * this.height))]);
     this.#takeCircles();
     for (const { name } of sections.filter(({ isSound }) => !isSound)) this.repairs.add(`the checksum of the section ${name} is wrong`);
   }
 
   // What is not kept of the sections, too.
   get dropped() {
-    return [...super.dropped, ...droppedOfPuz(this.#bytes, this.#sections)];
+    return [...super.dropped, ...droppedOfPuz(this.#plain, this.#sections)];
   }
 
   /** @param {FirstCell[]} lights */
@@ -79,11 +79,12 @@ class PuzGiven extends Given {
   }
 
   // Takes the cells that the file has of its grid.
-  #takeCells(solution) {
-    const size = this.width * this.height;
-    if (solution.length < size) this.repairs.add(`the file ends within its grid: what is missing is left empty`);
-    const rebus = new Map(rebusOf(this.#bytes, this.#sections).filter(({ entry }) => isRebus(entry)).map(({ row, column, entry }) => [`${row} ${column}`, entry]));
-    const marks = [...toText(solution)];
+  #takeCells(marks) {
+    if (marks.length < this.width * this.height) this.repairs.add(`the file ends within its grid: what is missing is left empty`);
+    // a solution that is left out has none of its letters
+    const isLeftOut = this.#plain !== this.#bytes && marks.every((mark) => [BLOCK, HIDDEN, EMPTY].includes(mark));
+    const kept = isLeftOut ? [] : rebusOf(this.#plain, this.#sections).filter(({ entry }) => isRebus(entry));
+    const rebus = new Map(kept.map(({ row, column, entry }) => [`${row} ${column}`, entry]));
     marks.forEach((mark, at) => {
       const [row, column] = [Math.floor(at / this.width) + 1, (at % this.width) + 1];
       this.#takeCell(row, column, mark, rebus.get(`${row} ${column}`));

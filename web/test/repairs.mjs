@@ -4,10 +4,10 @@
 //   node web/test/repairs.mjs
 import { Count } from './count.mjs';
 import { pageModules } from './page-modules.mjs';
-import { puzOf } from './puz.mjs';
+import { lockedPuzOf, puzOf } from './puz.mjs';
 import { expect, openedOf, refused, same } from './reading.mjs';
 
-const { readExolve, readIpuz, readPuz, readQxw } = await pageModules('exolve', 'ipuz', 'puz', 'qxw');
+const { readExolve, readIpuz, readPuz, readQxw, solutionBy, withoutLetters } = await pageModules('exolve', 'ipuz', 'puz', 'qxw', 'unscramble');
 
 const bytesOf = (...texts) => texts.map((text) => Buffer.from(text, 'latin1'));
 // the lights are 1 across, 1 down, 2 down and 3 across, in this order
@@ -91,6 +91,16 @@ const CASES = {
     same(puzRepaired(changed(puzWith(), [TAG, 2])).repairs, ['the solution is called incomplete (tag 2): it is taken as it is', 'the checksum of the header is wrong', 'the checksum of the whole file is wrong']);
     // the last byte of the version says nothing
     same(puzRepaired(changed(puzWith(), [VERSION + 3, 'c'.charCodeAt(0)])).repairs, []);
+  },
+
+  '.puz: a scrambled solution, by its key and without letters'() {
+    const sections = [['GRBS', Buffer.from([0, 1, 2, 0, 0, 0, 0, 0, 0])], ['RTBL', Buffer.from(' 0:OR; 1:1/2;')]];
+    const bytes = lockedPuzOf({ ...SOUND, texts: bytesOf('Title', '', '', ...CLUES, 'A note'), sections, key: '2718' });
+    const of = (file, solution) => repaired(readPuz(file, solution));
+    same(of(bytes, solutionBy(bytes, '2718')), { ...WHOLE, rows: 'C[OR]T,A#O,TIE', dropped: ['the rebus in row 1, column 3 (1/2 is T now)'], repairs: [] });
+    const empty = { ...WHOLE, rows: '...,.#.,...', dropped: ['the rebus in row 1, column 3 (1/2 is empty now)'] };
+    same(of(bytes, withoutLetters(bytes)), { ...empty, repairs: [] });
+    same(of(turned(bytes, 0), withoutLetters(bytes)), { ...empty, repairs: ['the checksum of the whole file is wrong'] });
   },
 
   '.puz: whatever the bytes are, what is opened is lawful'() {

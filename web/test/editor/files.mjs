@@ -6,7 +6,7 @@ import { begin, faultsShown, hush, menu, openAnyway, openFile, openRecord, print
 import { isDrafted } from '../holding.mjs';
 import { browser, expect, module, page, picture, pictures, reload, room, runAlone } from '../page.mjs';
 import { pageModules, pageScript } from '../page-modules.mjs';
-import { puzOf } from '../puz.mjs';
+import { lockedPuzOf, puzOf } from '../puz.mjs';
 import { textsFrom } from '../texts.mjs';
 import { zipOf } from '../zip.mjs';
 
@@ -289,6 +289,57 @@ export const CASES = {
       await browser.press('Control+z');
       await browser.until(`document.querySelectorAll('#grid .row').length === ${before.length}`);
     }
+  },
+
+  async 'a scrambled .puz, by its key, by a search and without letters'() {
+    const texts = ['', '', '', 'Firm', 'Also', 'Two', 'Ends', ''].map((one) => Buffer.from(one));
+    const bytes = lockedPuzOf({ version: '1.3\0', width: 3, height: 3, solution: 'COTA.OTIE', texts, key: '2718' });
+    writeFileSync(join(room, 'locked.puz'), bytes);
+    const asked = async (pattern) => {
+      await browser.until(`document.getElementById('key-dialog').open && ${pattern}.test(document.getElementById('key-told').textContent)`);
+      expect(await browser.value("document.activeElement.id === 'key'"), 'the field of the key has not the focus');
+    };
+    const opening = async (rows, pattern, tone = 'good') => {
+      await page.statusIs(pattern, tone);
+      expect((await page.rows()).join() === rows, `the grid is ${await page.rows()}`);
+      await browser.press('F3');
+      await browser.until("[...document.querySelectorAll('#clue-list textarea')].map(({ value }) => value).join() === 'Firm,Ends,Also,Two'");
+      await begin(6);
+      await openFile(join(room, 'locked.puz'));
+      await asked(/The solution of locked.puz is scrambled/);
+    };
+    await begin(6);
+    const before = (await page.rows()).join();
+    await openFile(join(room, 'locked.puz'));
+    await asked(/The solution of locked.puz is scrambled/);
+    await picture('key');
+    await browser.press('Escape');
+    await page.statusIs(/^locked.puz is not opened$/, 'bad');
+    expect((await page.rows()).join() === before, 'the grid has changed');
+    await openFile(join(room, 'locked.puz'));
+    await asked(/is scrambled/);
+    await browser.type('2719');
+    await browser.press('Enter');
+    await asked(/^2719 is not the key of locked.puz/);
+    await browser.type('2718');
+    await browser.press('Enter');
+    await opening('COT,A#O,TIE', /^locked.puz is open, unscrambled by the key 2718; undo/);
+    await browser.click('#key-search');
+    await opening('COT,A#O,TIE', /^locked.puz is open, unscrambled by the key 2718(, the likeliest of \d+ that fit)?; undo/);
+    await browser.click('#key-dialog [value=empty]');
+    await opening('...,.#.,...', /^locked.puz is open, but without its solution, which is scrambled; undo/, 'bad');
+    await browser.click('#key-dialog [value=cancel]');
+    // another checksum of the solution, which no key fits, and a wrong one of the file
+    writeFileSync(join(room, 'spoilt.puz'), bytes.fill(0, 0, 2).fill(bytes[0x1e] ^ 8, 0x1e, 0x1f));
+    await openFile(join(room, 'spoilt.puz'));
+    await asked(/is scrambled/);
+    await browser.click('#key-search');
+    await asked(/^None of the 9,999 keys fits spoilt.puz/);
+    expect(await browser.value("document.getElementById('key-search').disabled"), 'the search can be had again');
+    await browser.click('#key-dialog [value=empty]');
+    expect((await faultsShown()).join() === 'the checksum of the whole file is wrong', 'something else is wrong');
+    await openAnyway();
+    await page.statusIs(/^spoilt.puz is open, but without its solution, which is scrambled, with 1 repair; undo/, 'bad');
   },
 
   async 'the finished puzzles of examples/puzzles'() {
