@@ -10,7 +10,8 @@ import { ipuzOf, readIpuz } from './ipuz.js';
 import { jpzOf, readJpz } from './jpz.js';
 import { solutionOf } from './locked.js';
 import { lossesOf } from './losses.js';
-import { SESSION_HEAD, foreignKind, hasCommands, isListText, isPuz, kindOf } from './kinds.js';
+import { SESSION_HEAD, foreignKind, hasCommands, isListText, isMailed, isMeant, isPuz, kindOf } from './kinds.js';
+import { attachedTo } from './mail.js';
 import { refusalText, refuseAsIs as refuse, sayAsIs as say } from './messages.js';
 import { readPuz } from './puz.js';
 import { rebusOf, withRebus } from './puz-sections.js';
@@ -32,6 +33,8 @@ const PENCIL = '# pencil ';
 const ORIGINALS = '# originals ';
 const WRITTEN = '# written ';
 
+// how deep zips and mails are opened in one another
+const MOST_PACKED = 3;
 // the most bytes of a file that is opened; larger ones are none of those that the page knows
 const MOST_BYTES = 1 << 27;
 
@@ -191,35 +194,51 @@ export class Files {
     return false;
   }
 
-  // The name and the bytes of a file, or of one in a zip; null if there are too many, or the file cannot be read, as a folder cannot.
+  // The name and the bytes of a file, or of one in a zip or a mail; null if there are too many, or the file cannot be read, as a folder cannot.
   async #contentOf(file) {
     if (file.size > MOST_BYTES) {
       refuse(`${file.name} is too large to be a puzzle, a session or a word list: nothing is opened`);
       return null;
     }
     try {
-      const bytes = new Uint8Array(await file.arrayBuffer());
-      return isZip(bytes) ? await this.#inZip(file.name, filesIn(bytes)) : { name: file.name, bytes };
+      return await this.#unpacked({ name: file.name, bytes: new Uint8Array(await file.arrayBuffer()) });
     } catch {
       refuse(`${file.name} cannot be read`);
       return null;
     }
   }
 
-  // The one file of a zip, or of several the one that the user chooses. A zip that only packs a puzzle, as .jpz files are, keeps its name.
-  async #inZip(zip, files) {
-    const [only, ...others] = files;
-    if (!only) return this.#refuseZip(`${zip} is a zip without a file that can be read: nothing is opened`);
-    const chosen = others.length ? await this.actions.askFile(zip, files.map(({ name }) => name)) : 0;
-    const file = files[chosen ?? -1];
-    if (!file) return this.#refuseZip(`${zip} is not opened`);
-    const bytes = await unzipped(file, MOST_BYTES);
-    const name = file.name.replace(/^.*\//, '');
-    if (!bytes) return this.#refuseZip(`${zip}: ${name} is damaged, or too large to be a puzzle, a session or a word list: nothing is opened`);
-    return { name: others.length || /\.zip$/i.test(zip) ? name : zip, bytes };
+  // What a file has that only packs others, which may do so too.
+  async #unpacked(content, depth = 0) {
+    const { name, bytes } = content;
+    const isPacked = depth < MOST_PACKED && (isZip(bytes) || isMailed(bytes));
+    if (!isPacked) return content;
+    const within = await (isZip(bytes) ? this.#inZip(name, filesIn(bytes)) : this.#inMail(name, attachedTo(bytes).filter(isMeant)));
+    return within && this.#unpacked(within, depth + 1);
   }
 
-  #refuseZip(text) {
+  // The one file of a zip, or of several the one that the user chooses. A zip that only packs a puzzle, as .jpz files are, keeps its name.
+  async #inZip(zip, files) {
+    if (!files.length) return this.#refuseWhole(`${zip} is a zip without a file that can be read: nothing is opened`);
+    const file = await this.#oneOf(zip, files);
+    if (!file) return null;
+    const bytes = await unzipped(file, MOST_BYTES);
+    const name = file.name.replace(/^.*\//, '');
+    if (!bytes) return this.#refuseWhole(`${zip}: ${name} is damaged, or too large to be a puzzle, a session or a word list: nothing is opened`);
+    return { name: files.length > 1 || /\.zip$/i.test(zip) ? name : zip, bytes };
+  }
+
+  // The one file of a mail, or of several the one that the user chooses.
+  async #inMail(mail, files) {
+    return files.length ? this.#oneOf(mail, files) : this.#refuseWhole(`${mail} is a mail without a file that can be opened: nothing is opened`);
+  }
+
+  async #oneOf(holder, files) {
+    const chosen = files.length > 1 ? await this.actions.askFile(holder, files.map(({ name }) => name)) : 0;
+    return files[chosen ?? -1] ?? this.#refuseWhole(`${holder} is not opened`);
+  }
+
+  #refuseWhole(text) {
     refuse(text);
     return null;
   }

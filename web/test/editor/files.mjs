@@ -230,6 +230,32 @@ export const CASES = {
     await page.statusIs(/^none.zip is a zip without a file that can be read/, 'bad');
   },
 
+  async 'puzzles in mails'() {
+    const made = (solution) => puzOf({ version: '1.3\0', width: 3, height: 1, solution, texts: ['', '', '', 'Pet', ''].map((one) => Buffer.from(one)) });
+    const attached = (name, bytes) => ['--b', `Content-Type: application/octet-stream; name="${name}"`, 'Content-Transfer-Encoding: base64', '', Buffer.from(bytes).toString('base64').replace(/(.{76})/g, '$1\r\n')];
+    const mail = (...files) => [
+      'From: a@example.org', 'Subject: Puzzles', 'MIME-Version: 1.0', 'Content-Type: multipart/mixed; boundary="b"', '', '--b', 'Content-Type: text/plain', '', 'Here they are.', ...files.flat(), '--b--', '',
+    ].join('\r\n');
+    writeFileSync(join(room, 'one.eml'), mail(attached('cat.puz', made('CAT'))));
+    writeFileSync(join(room, 'two.eml'), mail(attached('cat.puz', made('CAT')), attached('dog.puz', made('DOG'))));
+    writeFileSync(join(room, 'zip.eml'), mail(attached('both.zip', zipOf([['cow.puz', made('COW')], ['more/dog.puz', made('DOG')]]))));
+    const opening = async (file, names, answer, said, row) => {
+      await begin(6);
+      await openFile(join(room, file));
+      if (names) {
+        await browser.until("document.getElementById('zip-dialog').open && /has 2 files. Open which/.test(document.getElementById('zip-told').textContent)");
+        expect((await browser.value("[...document.querySelectorAll('#zip-files button')].map(({ textContent }) => textContent).join()")) === names, 'other files are named');
+        await browser.click(`#zip-dialog [value="${answer}"]`);
+      }
+      await page.statusIs(said);
+      expect(!row || (await page.rows()).join() === row, `the grid is ${await page.rows()}`);
+    };
+    await opening('one.eml', '', '', /^cat.puz is open; undo/, 'CAT');
+    await opening('two.eml', 'cat.puz,dog.puz', '1', /^dog.puz is open; undo/, 'DOG');
+    await opening('two.eml', 'cat.puz,dog.puz', 'cancel', /^two.eml is not opened$/);
+    await opening('zip.eml', 'cow.puz,more/dog.puz', '0', /^cow.puz is open; undo/, 'COW');
+  },
+
   async 'a .puz opened and saved again'() {
     const xw = Xw.open(module, { record: 'size 4 4\ntext title Round trip\n' });
     for (let row = 1; row <= 4; row++) for (let column = 1; column <= 4; column++) xw.line(`set ${row} ${column} ${'ABCDEFGHIJKLMNOP'[4 * (row - 1) + column - 1]}`);
@@ -444,7 +470,7 @@ export const CASES = {
     const said = {
       'some.puz': 'some.puz: this is no .puz file; it looks like a word list, so give it a name that ends with .txt', 'noise.puz': 'noise.puz: this is no .puz file',
       'paper.pdf': 'paper.pdf is a document (PDF), not a puzzle: nothing is opened', 'picture.puz': 'picture.puz is a picture (PNG), not a puzzle: nothing is opened',
-      'short.puz': 'short.puz: the file ends too early', 'mail.puz': 'mail.puz looks like a mail, not a puzzle: save its attachment, and open that',
+      'short.puz': 'short.puz: the file ends too early', 'mail.puz': 'mail.puz is a mail without a file that can be opened: nothing is opened',
     };
     for (const [name, bytes] of Object.entries(files)) {
       if (bytes === null) mkdirSync(join(room, name));
