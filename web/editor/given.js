@@ -9,6 +9,8 @@ import { Repairs, shownText } from './repairs.js';
 /** @typedef {import('./answers.js').Direction} Direction */
 // A clue is at a cell, or at the light that has its number. `links` names the lights that it goes on in, as `N DIR`.
 /** @typedef {{ at: string | null, number: string, direction: Direction, text: string, links: string[] }} GivenClue */
+// A note of the setter on a clue, at the light that has its number.
+/** @typedef {{ number: string, direction: Direction, text: string }} GivenNote */
 // How the engine tells the lights of a grid: their names, directions and first cells.
 /** @typedef {{ name: string, direction: Direction, row: number, column: number }} FirstCell */
 
@@ -28,6 +30,8 @@ export class Given {
   texts = new Map();
   /** @type {GivenClue[]} */
   clues = [];
+  /** @type {GivenNote[]} */
+  #notes = [];
   #blocks = new Set();
   #bars = new Set();
   #circles = new Set();
@@ -99,6 +103,11 @@ export class Given {
     if (text) this.clues.push({ at, number: String(number), direction, text, links });
   }
 
+  /** @param {GivenNote} note */
+  note(note) {
+    if (note.text) this.#notes.push(note);
+  }
+
   // Counts what is not kept, under the words for one and those for several.
   drops(one, several = one) {
     this.#dropped.add(one, several);
@@ -137,7 +146,20 @@ export class Given {
       if (others.includes(undefined)) this.drops('the link of a clue to other lights', 'links of clues to other lights');
       else if (others.length) originals.push([`link ${field}`, others.join(', ')]);
     }
+    originals.push(...this.#placedNotes(byName));
     return { record: [this.grid, ...lines.map((line) => `${line}\n`)].join(''), originals, lost: placed.filter(({ field }) => !all.has(field)).length };
+  }
+
+  // The notes as originals are kept, those of one clue as one.
+  #placedNotes(byName) {
+    /** @type {Map<string, string>} */
+    const notes = new Map();
+    for (const { number, direction, text } of this.#notes) {
+      const [place, before] = [byName.get(`${number} ${direction}`), notes.get(byName.get(`${number} ${direction}`))];
+      if (place) notes.set(place, before ? `${before} ${text}` : text);
+      else this.drops('the note on a clue', 'notes on clues');
+    }
+    return [...notes].map(([place, text]) => /** @type {[string, string]} */ ([`note ${place}`, text]));
   }
 
   // The last clue of each light.
@@ -174,6 +196,9 @@ const bodyOf = (text, gap) => new DOMParser().parseFromString(String(text).repla
 
 // A text without its marks, which are those of HTML.
 export const plainOf = (text) => (/[<&]/.test(text) ? bodyOf(text, '\n').textContent : String(text)).trim();
+
+// The same in one line.
+export const lineOf = (text) => plainOf(text).replace(/\s*\n\s*/g, ' ');
 
 // The text of a node without its marks but for italics.
 /** @param {Node} node */

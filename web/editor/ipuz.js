@@ -50,6 +50,7 @@ export function readIpuz(text) {
   for (const field of FIELDS) if (file[field]) given.text(field, plainOf(file[field]));
   if (file.intro && !file.notes) given.text('notes', plainOf(file.intro));
   else if (file.intro) given.drops('the introduction');
+  if (file.explanation) given.drops('the explanation');
   if (file.saved) given.drops('the letters of a solver');
   if (file.zones?.length) given.drops('zones of the grid');
   for (const [name, clues] of Object.entries(file.clues ?? {})) {

@@ -66,7 +66,7 @@ const CASES = {
 
   '.ipuz: what is not kept, and what is no crossword'() {
     const file = {
-      ...IPUZ, intro: 'Hello', dimensions: { width: 3, height: 1 }, block: 'X', empty: '_', saved: [['A', 0, 0]], zones: [{}],
+      ...IPUZ, intro: 'Hello', explanation: 'Why', dimensions: { width: 3, height: 1 }, block: 'X', empty: '_', saved: [['A', 0, 0]], zones: [{}],
       puzzle: [[{ cell: '_', style: { colortext: 'ff0000' } }, { cell: '_', style: { shapebg: 'star' } }, null]], solution: [['HEART', 'C', null]], clues: { Zones: [[1, 'All']], Across: ['No number'] },
     };
     const { rows, texts, lost, dropped, board, textOf, entries } = openedOf(readIpuz(JSON.stringify(file)));
@@ -74,7 +74,7 @@ const CASES = {
     same(JSON.parse(ipuzOf(board, textOf, entries)).solution, [['HEART', 'C', '#']]);
     same(dropped, [
       'the colour of a cell', 'a shape that is no circle', 'a cell that is left out, which is a block now',
-      'the letters of a solver', 'zones of the grid', 'the clues of Zones',
+      'the explanation', 'the letters of a solver', 'zones of the grid', 'the clues of Zones',
     ]);
     expect(/no JSON/.test(refused(() => readIpuz('{'))), 'half a file');
     expect(/no crossword/.test(refused(() => readIpuz(JSON.stringify({ ...IPUZ, kind: 'http://ipuz.org/sudoku#1' })))), 'a sudoku');
@@ -115,9 +115,9 @@ const CASES = {
     same(told, {
       rows: 'COT,A#O,T..', right: '1 2,3 2', below: '2 1', circles: '1 3', texts: ['Bars and circles', 'A. Setter', '\u00a9 2026', 'First line\nand \u2192 second'],
       clues: { '1 across': 'Firm (2)', '3 across': 'A definition that goes on (3,1)', '1 down': 'Feline (3)', '2 down': 'As well' }, lost: 1,
-      dropped: ['that a letter is shown to solvers', 'the note on a clue', 'a clue without a number', 'the section exolve-nina'],
+      dropped: ['that a letter is shown to solvers', 'a clue without a number', 'the section exolve-nina'],
     });
-    same(originals, [['notes', 'First line\nand \u2192 second'], ['link 3 1 across', '1 3 down']]);
+    same(originals, [['notes', 'First line\nand \u2192 second'], ['link 3 1 across', '1 3 down'], ['note 1 1 across', '[Letters of no word]']]);
     same(exolveOf(board, textOf).split('\n').map((line) => line.trim()), [
       'exolve-begin', 'exolve-title: Bars and circles', 'exolve-setter: A. Setter', 'exolve-copyright: \u00a9 2026', 'exolve-width: 3', 'exolve-height: 3', 'exolve-preamble:', 'First line',
       'and \u2192 second', 'exolve-grid:', 'C O| T@', 'A_ . O', 'T 0| 0', 'exolve-across:', '1 Firm (2)', '3 A definition that goes on (3,1)', 'exolve-down:', '1 Feline (3)', '2 As well', 'exolve-end', '',
@@ -127,6 +127,23 @@ const CASES = {
     const again = exolveOf(spaced.board, spaced.textOf, spaced.entries);
     expect(again.includes('\n  exolve-option: rebus-cells\n') && again.includes('\n    HEART A| E\n'), again);
     expect(/size from 1/.test(refused(() => readExolve('exolve-begin\nexolve-end'))), 'no grid');
+  },
+
+  'Exolve: explanations are notes on the clues that they name'() {
+    const file = (...explanations) => readExolve(['exolve-begin', 'exolve-width: 3', 'exolve-height: 3', 'exolve-grid:', 'COT', 'A.O', 'TIE', 'exolve-across:', '1 Firm (3) c + ot', '3 Ends (3)', 'exolve-down:', '1 Also (3)', '2 Two (3)', 'exolve-explanations:', ...explanations, 'exolve-end'].join('\n'));
+    const notes = (...explanations) => {
+      const { originals, dropped, clues } = openedOf(file(...explanations));
+      same(clues, { '1 across': 'Firm (3)', '3 across': 'Ends (3)', '1 down': 'Also (3)', '2 down': 'Two (3)' });
+      return [originals.map((pair) => pair.join(': ')), dropped];
+    };
+    const own = 'note 1 1 across: c + ot';
+    same(notes('1d: hidden', '3 Across. one', 'and more', '2-down two', '1a) definition'), [
+      [`${own} definition`, 'note 1 1 down: hidden', 'note 3 1 across: one and more', 'note 1 3 down: two'], [],
+    ]);
+    same(notes('Across', '3 a tree', 'Down:', '1. hidden', '2 two'), [[own, 'note 3 1 across: a tree', 'note 1 1 down: hidden', 'note 1 3 down: two'], []]);
+    // lines that name no clue, and clues that are not there
+    same(notes('The theme is trees.', '5 of them', '9d: oak'), [[own], ['2 lines of exolve-explanations', 'the note on a clue']]);
+    same(notes('1945 was a good year'), [[own], ['a line of exolve-explanations']]);
   },
 
   'Qxw: puzzles and decks'() {

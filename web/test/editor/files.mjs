@@ -681,10 +681,12 @@ export const CASES = {
       await browser.until(`[...document.querySelectorAll('#clue-list textarea')].map(({ value }) => value).join('|') === '${first}|Ends|Also|Two'`);
     };
     const text = `exolve-begin\n exolve-title: Three\n exolve-width: 3\n exolve-height: 3\n exolve-grid:\n  COT\n  A.O@\n  TIE
- exolve-across:\n  1 Firm <i>\u2665</i> &amp; (3)\n  3 Ends\n exolve-down:\n  1 Also\n  2 Two\n exolve-colour: red a1\nexolve-end\n`;
+ exolve-across:\n  1 Firm <i>\u2665</i> &amp; (3) <b>c</b> +<br>ot\n  3 Ends\n exolve-down:\n  1 Also\n  2 Two\n exolve-colour: red a1\nexolve-end\n`;
     writeFileSync(join(room, 'given.exolve'), text);
     await isOpen('given.exolve', /^given.exolve is open, but without the section exolve-colour; undo/);
     expect(await page.has('2-3', 'circled'), 'the circle is lost');
+    await browser.value("document.querySelector('#clue-list textarea').focus()");
+    await browser.until("document.querySelector('.clue-more .note')?.value === 'c + ot'");
     await saved('three.exolve', () => menu('save-exolve'));
     await isOpen('three.exolve', /^three.exolve is open; undo/);
     const texts = ['Three \u2192 four', '', '', 'Firm \u2665 & (3)', 'Also', 'Two', 'Ends', ''].map((one) => Buffer.from(one));
