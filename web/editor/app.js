@@ -173,7 +173,7 @@ const nextLight = new NextLight(editor, faults, toGrid);
 
 const files = new Files(editor, {
   mayEdit, toGrid, toClue, opened: toGrid, changeLists: (changed, name, bytes) => lists.change(changed, name, bytes), addPuzzles: (text) => shelf.addAll(text),
-  saved: () => shelf.saved(), askRows, askFile, takeClues: (changes) => edits.takeClues(changes),
+  saved: () => shelf.saved(), askRows, askFile, askAnyway, askKey, words: () => allWords.get(), takeClues: (changes) => edits.takeClues(changes),
   askClues: (name, found) => askClues(editor, { dialog: $('table-dialog'), told: $('table-told'), changes: $('table-changes'), others: $('table-others') }, name, found),
 });
 files.takeDrops(document.body);
@@ -203,6 +203,27 @@ async function askFile(zip, names) {
   $('zip-files').replaceChildren(...names.slice(0, MOST_FILES).map((name, at) => Object.assign(document.createElement('button'), { value: at, textContent: name })));
   const answer = await askDialog($('zip-dialog'));
   return /^\d+$/.test(answer) ? Number(answer) : null;
+}
+
+// the most repairs that are shown
+const MOST_REPAIRS = 200;
+
+// Shows what is wrong in a file and what is made of it, and promises `open` if it is opened so.
+function askAnyway(name, repairs) {
+  const more = repairs.length - MOST_REPAIRS;
+  $('repairs-told').textContent = `${name} has faults. If you open it anyway, this is what is made of them:`;
+  const shown = [...repairs.slice(0, MOST_REPAIRS), ...(more > 0 ? [`and ${more} more`] : [])];
+  $('repairs').replaceChildren(...shown.map((textContent) => Object.assign(document.createElement('li'), { textContent })));
+  return askDialog($('repairs-dialog'));
+}
+
+// Asks for the key of a scrambled file, and promises the answer and what was typed.
+async function askKey(told, maySearch) {
+  $('key-told').textContent = told;
+  const field = /** @type {HTMLInputElement} */ ($('key'));
+  field.value = '';
+  /** @type {HTMLButtonElement} */ ($('key-search')).disabled = !maySearch;
+  return { answer: await askDialog($('key-dialog')), key: field.value.trim() };
 }
 
 const lists = new ListsInUse(editor, {
@@ -246,7 +267,7 @@ const ACTIONS = {
   new: () => openDialog($('new-dialog')),
   library: () => library.show(),
   themes: () => grids.open(),
-  open: () => pick('.puz,.ipuz,.jpz,.xml,.exolve,.qxw,.qxd,.txt,.xw,.json,.dict,.csv,.zip'),
+  open: () => pick('.puz,.ipuz,.jpz,.xml,.exolve,.qxw,.qxd,.txt,.xw,.json,.dict,.csv,.zip,.eml'),
   save: wholly(() => files.saveAny()),
   'save-puz': wholly(() => files.save('puz')),
   'save-ipuz': wholly(() => files.saveAs('ipuz')),

@@ -46,6 +46,15 @@ export async function openFile(path) {
   await browser.choose('#picker', path);
 }
 
+// What the page says of a file with faults, once it asks whether to open it.
+export async function faultsShown() {
+  await browser.until("document.getElementById('repairs-dialog').open");
+  return browser.value("[...document.querySelectorAll('#repairs li')].map(({ textContent }) => textContent)");
+}
+
+// Answers that: `open` or `cancel`.
+export const openAnyway = (answer = 'open') => browser.click(`#repairs-dialog [value=${answer}]`);
+
 // Opens a file whose words have one length, as a list.
 export async function openWords(path) {
   await openFile(path);
