@@ -18,6 +18,7 @@ import { GridView } from './grid.js';
 import { GridsView } from './grids/view.js';
 import { Helpers } from './helpers.js';
 import { whenIdle } from './idle.js';
+import { ImprovingView } from './improving.js';
 import { Leaving } from './leaving.js';
 import { LibraryView } from './library.js';
 import { ListsInUse } from './lists-in-use.js';
@@ -68,7 +69,7 @@ const kept = (takeBack) => leaving.kept(takeBack);
 const edits = new Edits(editor, { isFilling: () => filler.isRunning, soon, toGrid, kept, showTab: (name) => tabs.show(name) });
 const edit = (lines, options) => edits.edit(lines, options);
 // what is typed into texts
-const typed = new Typed(editor, { isFilling: () => filler.isRunning, isRaising: () => filler.isRaising, undo: () => editor.undo(), finished: () => bank.addSoon() });
+const typed = new Typed(editor, { isFilling: () => filler.isRunning, undo: () => editor.undo(), finished: () => bank.addSoon() });
 const editText = (element, field, text) => typed.edit(element, (run) => edits.text(field, text, run));
 const leave = (event) => edits.leave(event, typed.takeBack);
 const toClue = (light) => tabs.toClue(light);
@@ -149,10 +150,12 @@ const grids = new GridsView(
   (record, entries) => puzzles.begin(record, entries).catch(unforeseen),
 );
 const figures = new Figures(editor, { box: $('figures'), text: $('figures-text'), worst: $('figures-worst') }, (light) => goTo(light));
+const improving = new ImprovingView(editor, { row: $('improve-row'), button: $('improve'), told: $('improve-told') });
 const fills = new Fills(editor, { box: $('fills'), list: $('fills-list') }, mayEdit);
 const filler = new Filler(editor, helpers, fills, {
   show: (progress) => {
     showFill(progress, filler.isRunning, toGrid);
+    improving.show(filler.isImproving, progress?.text);
     if (!filler.isRunning) typed.goOn();
   },
   explain: () => whenIdle(() => reasons.ask().catch(() => {})), figures,
@@ -252,6 +255,7 @@ const ACTIONS = {
   redo: () => step(false),
   fill: () => filler.run(false),
   another: () => filler.run(true),
+  improve: () => filler.improve(),
   stop: () => filler.stop(),
   hardest: () => nextLight.go(),
   help: () => openDialog($('help-dialog')),

@@ -1,7 +1,8 @@
 // Fills: `autofill` in slices, so that one can be stopped. Each slice goes on with what the last one learned. A search that is not done soon goes on in
 // other workers too, each with a seed of its own; the first `filled` or `nofill` ends all. If the words have scores, the fill is raised then.
 import { grades, outcomeOf } from './answers.js';
-import { MOST, scoreOf, totalOf } from './grades.js';
+import { MOST, totalOf } from './grades.js';
+import { progressText } from './improving.js';
 import { closeNew } from './kin.js';
 import { refuse, say } from './messages.js';
 import { Raiser } from './raising.js';
@@ -40,6 +41,8 @@ export class Filler {
   #raiser;
   #seed = 0;
   #isStopped = false;
+  // whether the raising goes on until no fill is better
+  #isEndless = false;
   // the lists whose words other workers have loaded, for raisings
   /** @type {Uint8Array[]} */
   #warmed = [];
@@ -71,6 +74,11 @@ export class Filler {
     return this.#raiser.isRunning;
   }
 
+  // Whether a fill is raised, or will be, until no fill is better.
+  get isImproving() {
+    return this.#isEndless && (this.isRunning || this.isRaising);
+  }
+
   stop() {
     if (this.isRunning) say('stopping …', 'busy');
     this.#isStopped = true;
@@ -85,11 +93,22 @@ export class Filler {
     return [...indices].map((index) => board.cells[index]);
   }
 
+  // Raises the fill until no fill is better, or stops that. A grid that is not full is filled first; a search that is under way goes on so.
+  improve() {
+    if (this.isImproving) return this.stop();
+    if (!this.isRunning && !this.isRaising) return this.run(false, true);
+    this.#isEndless = true;
+    this.#raiser.goOn(MOST);
+    if (this.isRaising) this.#tellRaising();
+    return undefined;
+  }
+
   // Fills what is empty, and raises the fill; `isAnother` first empties what is in pencil, and takes the next seed. If nothing is empty, the letters
-  // in pencil are raised again.
-  async run(isAnother) {
+  // in pencil are raised again. With `isEndless` they are raised until no fill is better.
+  async run(isAnother, isEndless = false) {
     if (this.isRunning) return;
     this.#raiser.stop();
+    this.#isEndless = isEndless;
     this.#isStopped = false;
     // what is under way comes first, such as another puzzle
     await this.#editor.inOrder(() => {});
@@ -195,12 +214,9 @@ export class Filler {
     const fixed = new Map(board.cells.filter(({ letter, coordinates }) => letter && !cells.includes(coordinates)).map(({ coordinates, letter }) => [coordinates, letter]));
     const raising = this.#raiser.run({
       base: without(editor.record, filled), names: this.#names, cells, seed: this.#seed, grade: Math.min(...known), sum: totalOf(known),
-      bound: this.figures.boundOf(names),
+      bound: this.figures.boundOf(names), isEndless: this.#isEndless,
     });
-    if (this.#raiser.isRunning) {
-      say('filled; its worst word is raised … Esc ends this', 'busy');
-      this.show({ isRaising: true });
-    }
+    if (this.isRaising) this.#tellRaising();
     const { proved: bound, held, isStopped, isChanged } = await raising;
     if (this.isRunning || this.isRaising) return;
     this.show(null);
@@ -210,12 +226,18 @@ export class Filler {
     say(`${isStopped ? 'stopped' : 'filled'}: ${text}${isBack ? '; it is the fill from before, since no better one was found' : ''}`, 'good');
   }
 
-  // The running line of a raising, as in “worst 62, mean 81; no fill is better than 84; looking for 63 or more; 6 s”.
-  #showTried({ least, bound, isPart, seconds }) {
-    const { list: { best } } = this.#editor;
-    const proved = bound <= MOST ? `no fill is better than ${scoreOf(bound, best) - 1}; ` : '';
-    const { worst } = this.figures;
-    say(`filled; its worst word is raised: ${worst ? `${worst}; ` : ''}${proved}looking for ${scoreOf(least, best)} or more${isPart ? ' for the others' : ''}; ${seconds} s … Esc ends this`, 'busy');
+  // Says that a raising begins. One that goes on leaves the line of messages to others.
+  #tellRaising() {
+    if (this.#isEndless) say('filled; its worst word is raised until no fill is better, or Esc stops it');
+    else say('filled; its worst word is raised … Esc ends this', 'busy');
+    this.show({ isRaising: true, text: this.figures.worst });
+  }
+
+  // The running line of a raising.
+  #showTried(tried) {
+    const text = progressText(tried, { worst: this.figures.worst, best: this.#editor.list.best });
+    if (tried.isEndless) this.show({ isRaising: true, text });
+    else say(`filled; its worst word is raised: ${text} … Esc ends this`, 'busy');
   }
 
   // Puts the best fill that is known into the grid again, if it is better than the one that is there. Returns whether it is.

@@ -337,6 +337,59 @@ export const CASES = {
     await page.factsAre(/graded.txt/);
   },
 
+  async 'a fill that is improved until no fill is better, or it is stopped'() {
+    writeFileSync(join(room, 'squares.txt'), 'ab;90\ncd;80\nac;70\nbd;60\nef;75\ngh;85\neg;65\nfh;95\n');
+    await openFile(join(room, 'squares.txt'));
+    await page.factsAre(/squares.txt, 8 words/);
+    await beginBlank(2, 2);
+    // an empty grid is filled first
+    await browser.click('#improve');
+    await page.statusIs(/^filled: worst 65, mean 80; no fill is better; all but [13] (Across|Down) have 75 or more$/);
+    expect(['EF,GH', 'EG,FH'].includes((await page.rows()).join()), `the grid is ${await page.rows()}`);
+    const isOn = (pressed) => browser.until(`document.querySelector('#improve[aria-pressed=${pressed}]') && document.getElementById('stop').hidden === ${!pressed}`);
+    await isOn(false);
+    await browser.press('Control+z');
+    await page.factsAre(/· 0 of/);
+    // a raising that is to end by time goes on
+    await openGraded();
+    await begin(1);
+    await hold('best');
+    await browser.press('Control+f');
+    await isHeld();
+    await browser.click('#improve');
+    await page.statusIs(/^filled; its worst word is raised until no fill is better, or Esc stops it$/);
+    await isOn(true);
+    // a line in the tab says how far it is, and messages stay free
+    await browser.value('window.release()');
+    await browser.until("/^worst \\d+, mean \\d+; .*looking for \\d+ or more.*; \\d+ s$/.test(document.getElementById('improve-told').textContent)");
+    await picture('improving');
+    // a clue is kept meanwhile
+    await browser.press('F3');
+    await browser.type('Kept');
+    await isDrafted(/text clue 1 1 across Kept/);
+    await isOn(true);
+    await browser.press('Escape');
+    await browser.click('#tab-words');
+    // an edit ends it
+    await browser.click('#cell-1-1');
+    await browser.press('Space');
+    await isOn(false);
+    await browser.press('Control+z');
+    await page.factsAre(/filled/);
+    await hold('best');
+    await browser.click('#improve');
+    await isHeld();
+    await isOn(true);
+    await browser.click('#improve');
+    await page.statusIs(/^stopped: worst \d+/);
+    await isOn(false);
+    await browser.value('window.release()');
+    await reload();
+    await menu('built-in');
+    await page.factsAre(/built-in list/);
+    await browser.until("document.getElementById('improve-row').hidden");
+  },
+
   async 'workers that load a list ahead'() {
     writeFileSync(join(room, 'ahead.txt'), 'cat;10\ncot;90\ncut;50\near;60\n');
     await browser.value(`(() => {
