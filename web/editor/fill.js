@@ -1,7 +1,7 @@
 // Fills: `autofill` in slices, so that one can be stopped. Each slice goes on with what the last one learned. A search that is not done soon goes on in
 // other workers too, each with a seed of its own; the first `filled` or `nofill` ends all. If the words have scores, the fill is raised then.
 import { grades, outcomeOf } from './answers.js';
-import { MOST, totalOf } from './grades.js';
+import { gradeFrom, totalOf } from './grades.js';
 import { progressText } from './improving.js';
 import { closeNew } from './kin.js';
 import { refuse, say } from './messages.js';
@@ -59,7 +59,10 @@ export class Filler {
     this.show = show;
     this.explain = explain;
     this.figures = figures;
-    editor.on(['list'], () => this.#warm());
+    editor.on(['list'], () => {
+      this.#warm();
+      this.#raiser.aim(this.#target);
+    });
   }
 
   // A fill of words with scores is raised in other workers, which load each new list ahead.
@@ -68,6 +71,12 @@ export class Filler {
     if (!scored || (sources.length === this.#warmed.length && sources.every((bytes, at) => bytes === this.#warmed[at]))) return;
     this.#warmed = sources;
     this.#helpers.warm();
+  }
+
+  // The grade of the worst word at which a raising ends that goes on.
+  get #target() {
+    const { target, best } = this.#editor.list;
+    return target === null ? Infinity : gradeFrom(target, best);
   }
 
   get isRaising() {
@@ -98,7 +107,7 @@ export class Filler {
     if (this.isImproving) return this.stop();
     if (!this.isRunning && !this.isRaising) return this.run(false, true);
     this.#isEndless = true;
-    this.#raiser.goOn(MOST);
+    this.#raiser.goOn(this.#target);
     if (this.isRaising) this.#tellRaising();
     return undefined;
   }
@@ -214,21 +223,23 @@ export class Filler {
     const fixed = new Map(board.cells.filter(({ letter, coordinates }) => letter && !cells.includes(coordinates)).map(({ coordinates, letter }) => [coordinates, letter]));
     const raising = this.#raiser.run({
       base: without(editor.record, filled), names: this.#names, cells, seed: this.#seed, grade: Math.min(...known), sum: totalOf(known),
-      bound: this.figures.boundOf(names), isEndless: this.#isEndless,
+      bound: this.figures.boundOf(names), isEndless: this.#isEndless, target: this.#target,
     });
     if (this.isRaising) this.#tellRaising();
-    const { proved: bound, held, isStopped, isChanged } = await raising;
+    const { proved: bound, held, isReached, isStopped, isChanged } = await raising;
     if (this.isRunning || this.isRaising) return;
     this.show(null);
     if (isChanged) return;
     const isBack = isAnother && !isStopped && (await this.#putBack(filled));
     const text = await this.figures.prove({ bound, names, fixed, held });
-    say(`${isStopped ? 'stopped' : 'filled'}: ${text}${isBack ? '; it is the fill from before, since no better one was found' : ''}`, 'good');
+    const how = isReached ? `none is under ${list.target}` : 'filled';
+    say(`${isStopped ? 'stopped' : how}: ${text}${isBack ? '; it is the fill from before, since no better one was found' : ''}`, 'good');
   }
 
   // Says that a raising begins. One that goes on leaves the line of messages to others.
   #tellRaising() {
-    if (this.#isEndless) say('filled; its worst word is raised until no fill is better, or Esc stops it');
+    const { target } = this.#editor.list;
+    if (this.#isEndless) say(`filled; its worst word is raised until ${target === null ? 'no fill is better' : `none is under ${target}`}, or Esc stops it`);
     else say('filled; its worst word is raised … Esc ends this', 'busy');
     this.show({ isRaising: true, text: this.figures.worst });
   }

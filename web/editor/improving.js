@@ -1,4 +1,4 @@
-// A fill that is improved until no fill is better: the button for it, and how far it is.
+// A fill that is improved until no fill is better, or no word is under a score: the button for it, and how far it is.
 import { MOST, scoreOf } from './grades.js';
 import { put } from './page.js';
 import { termed } from './terms.js';

@@ -34,7 +34,7 @@ export class Race {
   #seeds;
   #workers;
 
-  constructor({ grade, sum, bound, seed, workers, target = MOST }) {
+  constructor({ grade, sum, bound, seed, workers, target = Infinity }) {
     Object.assign(this, { grade, sum, bound, target });
     this.proved = bound;
     this.#seed = seed;
@@ -46,9 +46,14 @@ export class Race {
     return this.#seed + SEEDS * at;
   }
 
-  // Whether the words are as good as is wanted.
+  // Whether the words that are not held are as good as is wanted, or as any can be.
   get isMet() {
     return this.grade >= Math.min(this.target, MOST);
+  }
+
+  // Whether all words are as good as is wanted.
+  get isReached() {
+    return this.grade >= this.target && !this.held.length;
   }
 
   // Whether no fill is better in this stage, so that words have to be held before others get better.

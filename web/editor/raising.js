@@ -87,11 +87,11 @@ export class Raiser {
 
   // Raises the fill in the grid: `base` is the record without the letters of its cells, `names` are those of its lights, as a line has them, `grade` is that
   // of its worst word, `sum` that of all of them, and `bound` one at which no fill is known to be. With `isEndless` it goes on until no fill is better, or the worst
-  // word has the grade `target`. Returns what is known then, and how it ended.
-  async run({ base, names, cells, seed, grade, sum, bound, isEndless = false, target = MOST }) {
+  // word has the grade `target`, which words that are held need not have. Returns what is known then, and how it ended.
+  async run({ base, names, cells, seed, grade, sum, bound, isEndless = false, target = Infinity }) {
     const editor = this.#editor;
     const workers = Math.max(1, this.#helpers.most);
-    const race = new Race({ grade, sum, bound, seed, workers, target: isEndless ? target : MOST });
+    const race = new Race({ grade, sum, bound, seed, workers, target: isEndless ? target : Infinity });
     /** @type {Run} */
     const run = {
       race, base, names, cells, isEndless, record: editor.record, pencil: String([...editor.pencil]), isOver: false, isStopped: false, isChanged: false,
@@ -111,7 +111,7 @@ export class Raiser {
     await run.entered;
     if (this.#run === run) this.#run = null;
     const { isStopped, isChanged } = run;
-    return { proved: race.proved, held: race.held, isMet: race.isMet, isStopped, isChanged };
+    return { proved: race.proved, held: race.held, isReached: race.isReached, isStopped, isChanged };
   }
 
   // Has a worker look for better fills than the one that is there.

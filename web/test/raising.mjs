@@ -7,7 +7,7 @@ import { deepStrictEqual as same } from 'node:assert/strict';
 import { Count } from './count.mjs';
 import { pageModules } from './page-modules.mjs';
 
-const { MOST_IDLE, Race, Raiser, progressText, timeText } = await pageModules('race', 'raising', 'improving');
+const { Lists, MOST_IDLE, Race, Raiser, gradeFrom, progressText, timeText } = await pageModules('race', 'raising', 'improving', 'grades', 'lists');
 
 const SEEDS = 1000003;
 
@@ -170,6 +170,44 @@ const CASES = {
     same([race.grade, race.isMet, race.held.length], [100, true, 2]);
   },
 
+  'a race ends at its target'() {
+    const race = raceOf({ target: 60 });
+    same([race.isMet, race.isReached], [false, false]);
+    answered(race, 0, filled(59, 500));
+    same(race.isMet, false);
+    answered(race, 0, filled(60, 500));
+    same([race.isMet, race.isReached], [true, true]);
+    same(raceOf({ target: 40 }).isMet, true);
+    // where a word is proved to stay below, the others have to meet it
+    const part = raceOf({ target: 60, bound: 41 });
+    part.hold({ names: ['2 down'], forced: ['2 down'], grade: 50, sum: 350 });
+    same([part.isMet, part.isReached, part.catchesUp(0)], [false, false, true]);
+    answered(part, 0, filled(60, 360));
+    same([part.isMet, part.isReached], [true, false]);
+    // one that no word has ends it where all words have the best grade
+    const high = raceOf({ target: Infinity });
+    answered(high, 0, filled(100, 700));
+    same([high.isMet, high.isReached], [true, false]);
+  },
+
+  'the grade that a score asks for'() {
+    same([gradeFrom(0, 100), gradeFrom(60, 100), gradeFrom(100, 100), gradeFrom(101, 100)], [0, 60, 100, Infinity]);
+    // of a list up to 5 grade 3 has the score 3; what is between whole scores asks for the next one
+    same([gradeFrom(3, 5), gradeFrom(3.5, 5), gradeFrom(6, 5)], [3, 4, Infinity]);
+    // of a list up to 250 grade 50 has the scores 125 to 127, and grade 51 those from 128
+    same([gradeFrom(125, 250), gradeFrom(126, 250), gradeFrom(128, 250), gradeFrom(250, 250)], [50, 51, 51, 100]);
+  },
+
+  'the target is kept with the lists'() {
+    const lists = Lists.builtIn({ name: 'built-in', bytes: new Uint8Array(3) });
+    same([lists.target, lists.chosen.target], [null, null]);
+    const aimed = lists.choosing({ target: 60 }).switching('built-in', false).withPersonal('cat;9').atLeast(5);
+    same([aimed.target, aimed.chosen.target], [60, 60]);
+    // what an older page kept has none, and another list has other scores
+    same(new Lists({ parts: [] }).target, null);
+    same(aimed.adding('other.txt', new Uint8Array(2)).target, null);
+  },
+
   'a worker that finds nothing better takes another seed'() {
     const race = raceOf();
     answered(race, 0, filled(50, 500));
@@ -197,10 +235,43 @@ const CASES = {
     // as many slices as it takes
     for (let slice = 2; slice < 200; slice++) (await workers.call(slice)).answer(limit(95));
     (await workers.call(200)).answer(found('TAR', 80, 81));
-    same(await ended, { proved: 81, held: [{ names: ['1 across'], forced: [] }], isMet: true, isStopped: false, isChanged: false });
+    same(await ended, { proved: 81, held: [{ names: ['1 across'], forced: [] }], isReached: false, isStopped: false, isChanged: false });
     same([session.entered, workers.begun], [['COT', 'TAR'], 'size 3 1\n']);
     const [{ seconds, ...told }] = tried;
     same([told, Number.isInteger(seconds)], [{ least: 11, bound: 101, isPart: false, isEndless: true }, true]);
+  },
+
+  async 'a raising ends at its target'() {
+    const { session, workers, ended } = improving({ target: 30 });
+    (await workers.call(0)).answer(limit(95));
+    (await workers.call(1)).answer(found('COT', 30));
+    same(await ended, { proved: 95, held: [], isReached: true, isStopped: false, isChanged: false });
+    same([session.board.spell(), workers.asked.length], ['COT', 2]);
+    // it may be met from the start
+    const met = improving({ target: 10 });
+    same([(await met.ended).isReached, met.workers.asked.length], [true, 0]);
+  },
+
+  async 'another target while a fill is raised'() {
+    const { workers, raiser, ended } = improving();
+    (await workers.call(0)).answer(found('COT', 30));
+    await workers.call(1);
+    raiser.aim(80);
+    same(raiser.isRunning, true);
+    raiser.aim(30);
+    same((await ended).isReached, true);
+  },
+
+  async 'a raising that ends by time goes on if it is told to'() {
+    const { workers, raiser, ended } = improving({ isEndless: false, target: 5 });
+    await workers.call(0);
+    // one that ends by time has no target
+    raiser.aim(5);
+    same([raiser.isRunning, raiser.isEndless], [true, false]);
+    raiser.goOn(80);
+    same([raiser.isRunning, raiser.isEndless], [true, true]);
+    workers.asked[0].answer(found('TAR', 80));
+    same((await ended).isReached, true);
   },
 
   async 'a raising that is stopped'() {
@@ -208,7 +279,7 @@ const CASES = {
     await workers.call(0);
     same([raiser.isRunning, raiser.isEndless], [true, true]);
     raiser.stop();
-    same(await ended, { proved: 101, held: [], isMet: false, isStopped: true, isChanged: false });
+    same(await ended, { proved: 101, held: [], isReached: false, isStopped: true, isChanged: false });
     (await workers.call(0)).answer(found('TAR', 80));
     same([raiser.isRunning, session.board.spell(), workers.asked.length], [false, 'CAT', 1]);
   },

@@ -390,6 +390,40 @@ export const CASES = {
     await browser.until("document.getElementById('improve-row').hidden");
   },
 
+  async 'a fill that is improved until none is under a score'() {
+    writeFileSync(join(room, 'squares.txt'), 'ab;90\ncd;80\nac;70\nbd;60\nef;75\ngh;85\neg;65\nfh;95\n');
+    await openFile(join(room, 'squares.txt'));
+    await page.factsAre(/squares.txt, 8 words/);
+    await beginBlank(2, 2);
+    const aim = (score) => browser.value(`document.getElementById('target').value = '${score}', document.getElementById('target').dispatchEvent(new Event('change'))`);
+    await aim(61);
+    await browser.click('#improve');
+    // the other fill has the worst word BD, of 60
+    await page.statusIs(/^none is under 61: worst 65, mean 80/);
+    expect(['EF,GH', 'EG,FH'].includes((await page.rows()).join()), `the grid is ${await page.rows()}`);
+    // it is kept, and one that cannot be met ends where no fill is better
+    await reload();
+    await browser.until("document.getElementById('target').value === '61'");
+    await aim(70);
+    await browser.click('#improve');
+    await page.statusIs(/^filled: worst 65, mean 80; no fill is better/);
+    // one that is lowered ends what is under way
+    await openGraded();
+    await browser.until("document.getElementById('target').value === ''");
+    await begin(1);
+    await aim(100);
+    await hold('best');
+    await browser.click('#improve');
+    await isHeld();
+    await page.statusIs(/^filled; its worst word is raised until none is under 100, or Esc stops it$/);
+    await aim(0);
+    await page.statusIs(/^none is under 0: worst \d+/);
+    await browser.value('window.release()');
+    await reload();
+    await menu('built-in');
+    await page.factsAre(/built-in list/);
+  },
+
   async 'workers that load a list ahead'() {
     writeFileSync(join(room, 'ahead.txt'), 'cat;10\ncot;90\ncut;50\near;60\n');
     await browser.value(`(() => {
