@@ -37,6 +37,7 @@ import { Tabs } from './tabs.js';
 import { Tools } from './tools.js';
 import { Typed } from './typed.js';
 import { WarningsView } from './warnings-view.js';
+import { WeakestView } from './weakest.js';
 import { WordsView } from './words.js';
 
 useMessages({ line: $('status'), toast: $('toast'), history: $('history'), warnings: $('warnings') });
@@ -149,7 +150,16 @@ const grids = new GridsView(
   },
   (record, entries) => puzzles.begin(record, entries).catch(unforeseen),
 );
-const figures = new Figures(editor, { box: $('figures'), text: $('figures-text'), worst: $('figures-worst') }, (light) => goTo(light));
+const figures = new Figures(editor, { box: $('figures'), text: $('figures-text'), worst: $('figures-worst') }, { go: (light) => goTo(light), told: (scores) => weakest.show(scores) });
+const weakest = new WeakestView(
+  editor,
+  {
+    box: $('weakest'), list: $('weakest-list'), offered: $('mend-offer'), told: $('mend-told'), place: $('mend-fill'), use: $('mend-use'), leave: $('mend-leave'),
+  },
+  {
+    go: (light) => goTo(light), mend: (light) => mayEdit() && filler.mend(light).catch(unforeseen), forced: (light) => figures.forcedAt(light), use: (letters) => useMended(letters), toGrid,
+  },
+);
 const improving = new ImprovingView(editor, { row: $('improve-row'), button: $('improve'), told: $('improve-told') });
 const fills = new Fills(editor, { box: $('fills'), list: $('fills-list') }, mayEdit);
 const filler = new Filler(editor, helpers, fills, {
@@ -158,9 +168,18 @@ const filler = new Filler(editor, helpers, fills, {
     improving.show(filler.isImproving, progress?.text);
     if (!filler.isRunning) typed.goOn();
   },
-  explain: () => whenIdle(() => reasons.ask().catch(() => {})), figures,
+  explain: () => whenIdle(() => reasons.ask().catch(() => {})), figures, offer: (offer) => weakest.offer(offer),
 });
 const nextLight = new NextLight(editor, faults, toGrid);
+
+// Puts letters into the grid in one step, and keeps them among the fills to choose from. Returns what they are refused for, or null.
+async function useMended(letters) {
+  if (!mayEdit()) return 'Filling';
+  editor.change({ edited: null });
+  const refused = await fills.put(letters);
+  if (!refused) fills.add();
+  return refused;
+}
 
 // Files, lists and puzzles.
 

@@ -4,6 +4,7 @@ import { grades, outcomeOf } from './answers.js';
 import { gradeFrom, totalOf } from './grades.js';
 import { progressText } from './improving.js';
 import { closeNew } from './kin.js';
+import { Mender } from './mending.js';
 import { refuse, say } from './messages.js';
 import { Raiser } from './raising.js';
 import { letterIn } from './record.js';
@@ -39,6 +40,7 @@ export class Filler {
   #editor;
   #helpers;
   #raiser;
+  #mender;
   #seed = 0;
   #isStopped = false;
   // whether the raising goes on until no fill is better
@@ -50,15 +52,17 @@ export class Filler {
   isRunning = false;
 
   // `fills` keeps what is found. `show` shows how far a fill is, `explain` where a dead end comes from; `figures` takes over what a raising proved, and
-  // returns what is said of the fill.
-  constructor(editor, helpers, fills, { show, explain, figures }) {
+  // returns what is said of the fill; `offer` shows better words around a light, or with null none.
+  constructor(editor, helpers, fills, { show, explain, figures, offer }) {
     this.#editor = editor;
     this.#helpers = helpers;
     this.#raiser = new Raiser(editor, helpers, () => fills.add(true), (tried) => this.#showTried(tried));
+    this.#mender = new Mender(editor, helpers);
     this.fills = fills;
     this.show = show;
     this.explain = explain;
     this.figures = figures;
+    this.offer = offer;
     editor.on(['list'], () => {
       this.#warm();
       this.#raiser.aim(this.#target);
@@ -79,8 +83,9 @@ export class Filler {
     return target === null ? Infinity : gradeFrom(target, best);
   }
 
+  // Whether words are raised or mended, beside which the grid can be edited.
   get isRaising() {
-    return this.#raiser.isRunning;
+    return this.#raiser.isRunning || this.#mender.isRunning;
   }
 
   // Whether a fill is raised, or will be, until no fill is better.
@@ -91,7 +96,12 @@ export class Filler {
   stop() {
     if (this.isRunning) say('stopping …', 'busy');
     this.#isStopped = true;
+    this.#endRaising();
+  }
+
+  #endRaising() {
     this.#raiser.stop();
+    this.#mender.stop();
   }
 
   // The cells that a fill may enter: those of the chosen lights, or all.
@@ -105,7 +115,7 @@ export class Filler {
   // Raises the fill until no fill is better, or stops that. A grid that is not full is filled first; a search that is under way goes on so.
   improve() {
     if (this.isImproving) return this.stop();
-    if (!this.isRunning && !this.isRaising) return this.run(false, true);
+    if (!this.isRunning && !this.#raiser.isRunning) return this.run(false, true);
     this.#isEndless = true;
     this.#raiser.goOn(this.#target);
     if (this.isRaising) this.#tellRaising();
@@ -116,7 +126,7 @@ export class Filler {
   // in pencil are raised again. With `isEndless` they are raised until no fill is better.
   async run(isAnother, isEndless = false) {
     if (this.isRunning) return;
-    this.#raiser.stop();
+    this.#endRaising();
     this.#isEndless = isEndless;
     this.#isStopped = false;
     // what is under way comes first, such as another puzzle
@@ -242,6 +252,35 @@ export class Filler {
     if (this.#isEndless) say(`filled; its worst word is raised until ${target === null ? 'no fill is better' : `none is under ${target}`}, or Esc stops it`);
     else say('filled; its worst word is raised … Esc ends this', 'busy');
     this.show({ isRaising: true, text: this.figures.worst });
+  }
+
+  // Looks for better words around a light, and offers them.
+  async mend(light) {
+    if (this.isRunning) return;
+    this.#endRaising();
+    this.offer(null);
+    [this.#isStopped, this.#isEndless] = [false, false];
+    // a raising that ends may have a fill on its way into the grid
+    await this.#editor.inOrder(() => {});
+    const there = this.#editor.board.byName.get(light.name);
+    if (this.isRunning || this.isRaising || this.#isStopped || !there) return;
+    say(`better words are looked for around ${titleOf(there)} … Esc ends this`, 'busy');
+    const mending = this.#mender.run(there, ++this.#seed);
+    this.show({ isRaising: true });
+    const told = await mending;
+    if (this.isRunning || this.isRaising) return;
+    this.show(null);
+    this.#rest();
+    this.#tellMended(there, told);
+  }
+
+  #tellMended(light, { offer, isProved, isChanged, isLocked }) {
+    const around = `around ${titleOf(light)}`;
+    if (isChanged) return say(`the grid was changed, so nothing is mended ${around}`);
+    if (isLocked) return refuse(`every letter of ${titleOf(light)} is locked or is held by a weaker word: put letters in pencil (=)`);
+    if (!offer) return say(isProved ? `no fill ${around} is better, with the rest as it is` : `${this.#isStopped ? 'stopped: ' : ''}no better words were found ${around}`);
+    this.offer(offer);
+    return say(`better words are found ${around}: look at them in the tab Words`, 'good');
   }
 
   // The running line of a raising.

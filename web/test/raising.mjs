@@ -1,4 +1,5 @@
-// Tests how a fill is raised, with workers and a session that the cases answer for: what a worker is told, what its answer changes, and when the raising ends.
+// Tests how a fill is raised and its words are mended, with workers and a session that the cases answer for: what a worker is told, what its answer changes, when
+// the search ends, and which cells are emptied around a light.
 //
 //   node web/test/raising.mjs
 //
@@ -7,7 +8,9 @@ import { deepStrictEqual as same } from 'node:assert/strict';
 import { Count } from './count.mjs';
 import { pageModules } from './page-modules.mjs';
 
-const { Lists, MOST_IDLE, Race, Raiser, gradeFrom, progressText, timeText } = await pageModules('race', 'raising', 'improving', 'grades', 'lists');
+const {
+  Board, Lists, MOST_IDLE, Mender, Race, Raiser, gradeFrom, holderText, offerText, partAround, partsAround, progressText, timeText, weakestOf,
+} = await pageModules('race', 'raising', 'improving', 'grades', 'lists', 'board', 'mending', 'weak-words');
 
 const SEEDS = 1000003;
 
@@ -19,30 +22,49 @@ const leastOf = (race, at) => race.next(at).least;
 // Has a worker be answered for its next slice.
 const answered = (race, at, told) => race.take(at, race.next(at), told);
 
-// A grid of one row with one light over all its cells, as the page has it.
-function boardOf(letters) {
-  const cells = [...letters].map((letter, at) => ({ coordinates: `1 ${at + 1}`, letter, block: false }));
-  const light = { name: '1 across', number: '1', direction: 'across', cells: cells.map((_, at) => at), count: 1 };
-  return {
-    cells, lights: [light], byName: new Map([[light.name, light]]), at: (coordinates) => cells.find((cell) => cell.coordinates === coordinates) ?? null,
-    spell: () => cells.map((cell) => cell.letter || '.').join(''), isEntered: () => cells.every((cell) => cell.letter),
-  };
+// A grid as the page has it, of rows of letters: `#` is a block, and `.` an empty cell. Each run of two cells or more is a light.
+function boardOf(...rows) {
+  const [width, all] = [rows[0].length, rows.join('')];
+  const cells = [...all].map((letter, at) => ({
+    coordinates: `${Math.floor(at / width) + 1} ${(at % width) + 1}`, letter: /[A-Z]/.test(letter) ? letter : '', block: letter === '#', across: null, down: null,
+  }));
+  const board = Object.assign(new Board(), { width, height: rows.length, cells });
+  const isOpen = (at) => all[at] !== undefined && all[at] !== '#';
+  const nextIn = { across: (at) => ((at + 1) % width ? at + 1 : -1), down: (at) => at + width };
+  const lastIn = { across: (at) => (at % width ? at - 1 : -1), down: (at) => at - width };
+  let number = 0;
+  for (const first of all.split('').keys()) {
+    const begun = ['across', 'down'].filter((way) => isOpen(first) && !isOpen(lastIn[way](first)) && isOpen(nextIn[way](first)));
+    if (begun.length) number++;
+    for (const direction of begun) {
+      const own = [];
+      for (let at = first; isOpen(at); at = nextIn[direction](at)) own.push(at);
+      const light = { name: `${number} ${direction}`, number: String(number), direction, cells: own, count: 1 };
+      board.lights.push(light);
+      board.byName.set(light.name, light);
+      for (const at of own) cells[at][direction] = light;
+    }
+  }
+  return board;
 }
 
-const recordOf = (board, texts = []) => [`size ${board.cells.length} 1`, ...board.cells.filter(({ letter }) => letter).map(({ coordinates, letter }) => `set ${coordinates} ${letter}`), ...texts, ''].join('\n');
+const recordOf = (board, texts = []) => [`size ${board.width} ${board.height}`, ...board.cells.filter(({ letter }) => letter).map(({ coordinates, letter }) => `set ${coordinates} ${letter}`), ...texts, ''].join('\n');
+const pencilOf = (board, ...ink) => new Set(board.cells.filter(({ letter, coordinates }) => letter && !ink.includes(coordinates)).map(({ coordinates }) => coordinates));
 
 // A session with a fill, as far as a raising needs it. `grades` are those of words.
 class Session {
   list = { weak: 50, best: 100, apart: false, scored: true };
-  pencil = new Set(['1 1', '1 2', '1 3']);
   texts = [];
   entered = [];
   #steps = [];
 
-  constructor(letters, grades) {
-    this.board = boardOf(letters);
+  constructor(board, grades, ...ink) {
+    this.board = board;
     this.grades = grades;
+    this.pencil = pencilOf(board, ...ink);
   }
+
+  engine = { call: async (name, { words }) => words.map((word) => this.grades[word] ?? null) };
 
   get record() {
     return recordOf(this.board, this.texts);
@@ -54,7 +76,7 @@ class Session {
 
   inOrder = async (action) => action();
 
-  ask = async () => this.board.lights.map(({ name }) => ({ name, grade: this.grades[this.board.spell()] }));
+  ask = async () => this.board.lights.map((light) => ({ name: light.name, grade: this.grades[this.board.spell(light)] }));
 
   async edit(lines, { only = null } = {}) {
     await null;
@@ -63,9 +85,14 @@ class Session {
       const [, row, column, letter = ''] = line.split(' ');
       this.board.at(`${row} ${column}`).letter = letter;
     }
-    if (only !== null) this.entered.push(this.board.spell());
+    if (only !== null) this.entered.push(this.row(1));
     this.#tell();
     return null;
+  }
+
+  // The letters of a row.
+  row(number) {
+    return this.board.cells.filter(({ coordinates }) => coordinates.startsWith(`${number} `)).map(({ letter }) => letter || '.').join('');
   }
 
   // Writes a clue.
@@ -112,9 +139,22 @@ class Workers {
 const lettersOf = (word) => [...word].map((letter, at) => `set 1 ${at + 1} ${letter}`);
 const found = (word, grade, bound = 101) => ({ answer: 'filled', grade, sum: grade, bound, letters: lettersOf(word) });
 
+// Five words in a chain: CAT crosses TOE, which crosses EAR, which crosses RAT, which crosses TEA.
+const CHAIN = ['CAT####', '##O####', '##EAR##', '####A##', '####TEA'];
+const CHAIN_GRADES = { CAT: 40, TOE: 30, EAR: 50, RAT: 40, TEA: 90, COT: 60, TIE: 70 };
+// its letters with others in the first row and column
+const chainWith = (...others) => [...new Map([...boardOf(...CHAIN).cells.filter(({ letter }) => letter).map(({ coordinates, letter }) => [coordinates, letter]), ...others])].map(([coordinates, letter]) => `set ${coordinates} ${letter}`);
+
+// A search for better words around CAT in that grid.
+function mending({ most = 1, ink = [] } = {}) {
+  const [session, workers] = [new Session(boardOf(...CHAIN), CHAIN_GRADES, ...ink), new Workers(most)];
+  const mender = new Mender(session, workers);
+  return { session, workers, mender, ended: mender.run(session.board.byName.get('1 across'), 7) };
+}
+
 // A raising of the word CAT, which has grade 10, until no word is better.
 function improving({ most = 1, ...given } = {}) {
-  const [session, workers, tried] = [new Session('CAT', { CAT: 10, COT: 30, TAR: 80 }), new Workers(most), []];
+  const [session, workers, tried] = [new Session(boardOf('CAT'), { CAT: 10, COT: 30, TAR: 80 }), new Workers(most), []];
   const raiser = new Raiser(session, workers, () => {}, (told) => tried.push(told));
   const run = { base: 'size 3 1\n', names: '', cells: ['1 1', '1 2', '1 3'], seed: 7, grade: 10, sum: 10, bound: 101, isEndless: true, ...given };
   return { session, workers, tried, raiser, ended: raiser.run(run) };
@@ -229,7 +269,7 @@ const CASES = {
     const { session, workers, tried, ended } = improving({ most: 2 });
     (await workers.call(1)).answer(found('COT', 30));
     // the one that found it goes on from there, and the other is told of it before its next slice
-    same([(await workers.call(2)).at, workers.asked[2].sent.least, session.board.spell()], [1, 30, 'COT']);
+    same([(await workers.call(2)).at, workers.asked[2].sent.least, session.row(1)], [1, 30, 'COT']);
     workers.asked[0].answer(limit(95));
     same([(await workers.call(3)).at, workers.asked[3].sent.least], [0, 31]);
     // as many slices as it takes
@@ -246,7 +286,7 @@ const CASES = {
     (await workers.call(0)).answer(limit(95));
     (await workers.call(1)).answer(found('COT', 30));
     same(await ended, { proved: 95, held: [], isReached: true, isStopped: false, isChanged: false });
-    same([session.board.spell(), workers.asked.length], ['COT', 2]);
+    same([session.row(1), workers.asked.length], ['COT', 2]);
     // it may be met from the start
     const met = improving({ target: 10 });
     same([(await met.ended).isReached, met.workers.asked.length], [true, 0]);
@@ -281,7 +321,7 @@ const CASES = {
     raiser.stop();
     same(await ended, { proved: 101, held: [], isReached: false, isStopped: true, isChanged: false });
     (await workers.call(0)).answer(found('TAR', 80));
-    same([raiser.isRunning, session.board.spell(), workers.asked.length], [false, 'CAT', 1]);
+    same([raiser.isRunning, session.row(1), workers.asked.length], [false, 'CAT', 1]);
   },
 
   async 'an edit of the grid ends a raising, and a text does not'() {
@@ -290,15 +330,15 @@ const CASES = {
     session.write('Pet');
     (await workers.call(0)).answer(found('COT', 30));
     await workers.call(1);
-    same([session.board.spell(), session.texts], ['COT', ['text clue 1 1 across Pet']]);
+    same([session.row(1), session.texts], ['COT', ['text clue 1 1 across Pet']]);
     // a clue that comes while a better fill is on its way
     (await workers.call(1)).answer(found('TAR', 80));
     session.write('Bed');
     await workers.call(2);
-    same(session.board.spell(), 'TAR');
+    same(session.row(1), 'TAR');
     await session.edit(['set 1 1 B']);
     const { isStopped, isChanged } = await ended;
-    same([isStopped, isChanged, session.board.spell()], [false, true, 'BAR']);
+    same([isStopped, isChanged, session.row(1)], [false, true, 'BAR']);
   },
 
   async 'workers that fail leave a raising to the others'() {
@@ -309,6 +349,108 @@ const CASES = {
     same([raiser.isRunning, (await workers.call(2)).at], [true, workers.asked[1].at]);
     workers.asked[2].fail(fault);
     same((await ended).isStopped, false);
+  },
+
+  'what is emptied around a light'() {
+    const board = boardOf(...CHAIN);
+    const around = (name, pencil = pencilOf(board), kept = []) => {
+      const { cells, lights } = partAround(board, pencil, board.byName.get(name), kept.map((one) => board.byName.get(one)));
+      return [cells, lights.map((light) => light.name)];
+    };
+    same(board.lights.map((light) => [light.name, board.spell(light)]), [['1 across', 'CAT'], ['2 down', 'TOE'], ['3 across', 'EAR'], ['4 down', 'RAT'], ['5 across', 'TEA']]);
+    // the light, the one that crosses it, and the one that crosses that; RAT loses a letter
+    same(around('1 across'), [['1 1', '1 2', '1 3', '2 3', '3 3', '3 4', '3 5'], ['1 across', '2 down', '3 across', '4 down']]);
+    same(around('3 across')[0].length, 11);
+    // letters in ink stay, and those of lights that are kept
+    same(around('1 across', pencilOf(board, '1 3', '3 4'))[0], ['1 1', '1 2', '2 3', '3 3', '3 5']);
+    same(around('1 across', pencilOf(board), ['2 down', '4 down']), [['1 1', '1 2', '3 4'], ['1 across', '3 across']]);
+    // a letter that is in no entered light would stay empty
+    const open = boardOf('CAT####', '##O####', '##E.R##', '####.##', '####TEA');
+    const { cells, lights } = partAround(open, pencilOf(open), open.byName.get('1 across'));
+    same([cells, lights.map(({ name }) => name)], [['1 1', '1 2', '1 3', '2 3', '3 3'], ['1 across', '2 down']]);
+  },
+
+  'words that are no better stay where all cannot get better'() {
+    const board = boardOf(...CHAIN);
+    const parts = (pencil) => partsAround(board, pencil, board.byName.get('1 across'), (light) => CHAIN_GRADES[board.spell(light)]).map(({ cells }) => cells);
+    same(parts(pencilOf(board)), [['1 1', '1 2', '1 3', '2 3', '3 3', '3 4', '3 5'], ['1 1', '1 2', '3 4']]);
+    // the light itself is locked
+    same(parts(pencilOf(board, '1 1', '1 2', '1 3')), []);
+    // each letter of the light is in a word that is no better
+    const square = boardOf('AB', 'CD');
+    const graded = { AB: 60, CD: 70, AC: 50, BD: 50 };
+    same(partsAround(square, pencilOf(square), square.byName.get('1 across'), (light) => graded[square.spell(light)]).map(({ cells }) => cells), [['1 1', '1 2', '2 1', '2 2']]);
+    // where all others are better there is one try
+    const other = { AB: 10, CD: 70, AC: 50, BD: 50 };
+    same(partsAround(square, pencilOf(square), square.byName.get('1 across'), (light) => other[square.spell(light)]).length, 1);
+  },
+
+  async 'better words around a light are an offer'() {
+    const { session, workers, mender, ended } = mending();
+    const { sent } = await workers.call(0);
+    same([sent.least, sent.limits, sent.cells], [41, '2000 7 1 across 2 down 3 across 4 down', ['1 1', '1 2', '1 3', '2 3', '3 3', '3 4', '3 5']]);
+    same([mender.isRunning, workers.begun], [true, recordOf(session.board) + sent.cells.map((cell) => `clear ${cell}\n`).join('')]);
+    workers.asked[0].answer({ answer: 'filled', grade: 60, sum: 210, bound: 61, letters: chainWith(['1 2', 'O'], ['2 3', 'I']) });
+    const { offer, ...how } = await ended;
+    same(how, { isProved: false, isChanged: false, isLocked: false });
+    same([offer.changed, offer.before, offer.after], [2, { worst: 30, mean: 40, under: 3, weak: 50 }, { worst: 40, mean: 55, under: 1, weak: 50 }]);
+    same(['1 1', '1 2', '2 3', '5 7'].map((cell) => offer.letters.get(cell)), ['C', 'O', 'I', 'A']);
+    same(offerText(offer), 'around 1 Across: worst 30, mean 40, 3 under 50 now; worst 40, mean 55, 1 under 50 with 2 other words');
+    // nothing is changed before it is chosen
+    same([session.row(1), session.entered, mender.isRunning], ['CAT....', [], false]);
+  },
+
+  async 'the search around a light ends after slices that find nothing'() {
+    const { workers, ended } = mending();
+    (await workers.call(0)).answer({ answer: 'filled', grade: 60, sum: 210, bound: 101, letters: chainWith(['1 2', 'O'], ['2 3', 'I']) });
+    for (let slice = 1; slice <= 24; slice++) (await workers.call(slice)).answer(limit());
+    same([(await ended).offer.changed, workers.asked.length], [2, 25]);
+    // nothing around it, nor with the words that are no better as they are
+    const none = mending();
+    for (let slice = 0; slice < 48; slice++) (await none.workers.call(slice)).answer(limit());
+    same([await none.ended, none.workers.asked[24].sent.cells], [{ offer: null, isProved: false, isChanged: false, isLocked: false }, ['1 1', '1 2', '3 4']]);
+    const proved = mending();
+    for (let slice = 0; slice < 2; slice++) (await proved.workers.call(slice)).answer({ answer: 'nofill' });
+    same(await proved.ended, { offer: null, isProved: true, isChanged: false, isLocked: false });
+  },
+
+  async 'the search around a light is for the grid as it is'() {
+    const changed = mending();
+    await changed.workers.call(0);
+    await changed.session.edit(['set 5 7 T']);
+    changed.workers.asked[0].answer({ answer: 'filled', grade: 60, sum: 210, bound: 61, letters: chainWith(['1 2', 'O']) });
+    same(await changed.ended, { offer: null, isProved: false, isChanged: true, isLocked: false });
+    const written = mending();
+    await written.workers.call(0);
+    written.session.write('Pet');
+    written.workers.asked[0].answer({ answer: 'filled', grade: 60, sum: 210, bound: 61, letters: chainWith(['1 2', 'O']) });
+    same((await written.ended).offer.letters.get('1 2'), 'O');
+    // a letter elsewhere is another one, as of a grid that came between
+    const strange = mending();
+    (await strange.workers.call(0)).answer({ answer: 'filled', grade: 60, sum: 210, bound: 61, letters: chainWith(['5 7', 'T']) });
+    same((await strange.ended).offer, null);
+    same(await mending({ ink: ['1 1', '1 2', '1 3'] }).ended, { offer: null, isProved: false, isChanged: false, isLocked: true });
+    const stopped = mending();
+    await stopped.workers.call(0);
+    stopped.mender.stop();
+    same(stopped.mender.isRunning, false);
+    stopped.workers.asked[0].answer(limit());
+    same(await stopped.ended, { offer: null, isProved: false, isChanged: false, isLocked: false });
+  },
+
+  'the weakest words, and what holds them'() {
+    const board = boardOf(...CHAIN);
+    const scores = new Map([['1 across', 40], ['2 down', 30], ['4 down', 40], ['5 across', 90]]);
+    const listed = (most) => weakestOf(board, scores, most).map(({ light, score }) => `${light.name} ${score}`);
+    same([listed(), listed(2)], [['2 down 30', '1 across 40', '4 down 40', '5 across 90'], ['2 down 30', '1 across 40']]);
+    const [cat, toe] = ['1 across', '2 down'].map((name) => board.byName.get(name));
+    const held = (light, ink, forced = []) => holderText(board, pencilOf(board, ...ink), light, forced);
+    same(held(cat, []), '');
+    same(held(cat, ['1 1', '1 2', '1 3']), 'locked');
+    same([held(cat, ['1 1']), held(cat, ['1 1', '1 2'])], ['1 locked letter', '2 locked letters']);
+    same(held(cat, ['1 3', '2 3', '3 3']), 'crosses TOE, locked');
+    same(held(toe, ['1 1', '1 2', '1 3', '3 3', '3 4', '3 5']), 'crosses CAT and EAR, locked');
+    same([held(cat, [], [toe]), held(cat, [], [cat, toe])], ['proved: 2 Down allows no more', 'proved: 1 Across and 2 Down allow no more']);
   },
 
   'what is said of a raising'() {

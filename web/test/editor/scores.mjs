@@ -424,6 +424,55 @@ export const CASES = {
     await page.factsAre(/built-in list/);
   },
 
+  async 'the weakest words, and one that is mended'() {
+    writeFileSync(join(room, 'weak.txt'), 'cat;40\ncot;60\ntoe;75\ntie;70\n');
+    await openFile(join(room, 'weak.txt'));
+    await page.factsAre(/weak.txt, 4 words/);
+    // CAT crosses TOE, whose other letters are locked
+    await openRecord('size 3 3\nblock 2 1\nblock 2 2\nblock 3 1\nblock 3 2\nset 1 1 C\nset 1 2 A\nset 1 3 T\nset 2 3 O\nset 3 3 E\n');
+    await browser.click('#weakest summary');
+    const rows = () => browser.value("[...document.querySelectorAll('#weakest-list li')].map((row) => [...row.children].map((part) => [...(part.children.length ? part.children : [part])].map(({ textContent }) => textContent).join(' ')).join('|'))");
+    const areRows = (...wanted) => browser.until(`[...document.querySelectorAll('#weakest-list .word')].map((word) => word.textContent).join() === '${wanted.join()}'`);
+    await areRows('CAT401 Across', 'TOE752 Down');
+    expect((await rows()).join() === 'CAT 40 1 Across|locked|Mend,TOE 75 2 Down|locked|Mend', `the rows are ${await rows()}`);
+    expect((await page.count('#weakest-list [data-mend]:disabled')) === 2, 'a locked word can be mended');
+    await browser.click('#cell-1-1');
+    await browser.press('+');
+    await browser.until("document.querySelectorAll('#weakest-list [data-mend]:not(:disabled)').length === 2");
+    expect((await rows()).join() === 'CAT 40 1 Across||Mend,TOE 75 2 Down|2 locked letters|Mend', `the rows are ${await rows()}`);
+    await browser.click('#weakest-list li:nth-child(2) .word');
+    await browser.until("document.getElementById('light-letters').textContent === 'TOE'");
+    // the offer is shown, and changes nothing
+    await browser.click('#weakest-list li:first-child [data-mend]');
+    await page.statusIs(/^better words are found around 1 Across/);
+    await browser.until("document.getElementById('mend-told').textContent === 'around 1 Across: worst 40, mean 58, 1 under 50 now; worst 60, mean 68 with 1 other word'");
+    await picture('mended');
+    expect((await page.rows()).join() === 'CAT,##O,##E', `the grid is ${await page.rows()}`);
+    await browser.click('#mend-leave');
+    await browser.until("document.getElementById('mend-offer').hidden");
+    await browser.click('#weakest-list li:first-child [data-mend]');
+    await browser.until("!document.getElementById('mend-offer').hidden");
+    await browser.click('#mend-use');
+    await page.statusIs(/^mended around 1 Across/);
+    expect((await page.rows()).join() === 'COT,##O,##E', `the grid is ${await page.rows()}`);
+    await areRows('COT601 Across', 'TOE752 Down');
+    // it is proved where nothing is better
+    await browser.click('#weakest-list li:first-child [data-mend]');
+    await page.statusIs(/^no fill around 1 Across is better, with the rest as it is$/);
+    // one step takes it back
+    await browser.press('Control+z');
+    await areRows('CAT401 Across', 'TOE752 Down');
+    // an offer is for the grid as it was
+    await browser.click('#weakest-list li:first-child [data-mend]');
+    await browser.until("!document.getElementById('mend-offer').hidden");
+    await browser.press('Control+z');
+    await browser.until("document.getElementById('mend-offer').hidden");
+    await browser.click('#weakest summary');
+    await menu('built-in');
+    await page.factsAre(/built-in list/);
+    await browser.until("document.getElementById('weakest').hidden");
+  },
+
   async 'workers that load a list ahead'() {
     writeFileSync(join(room, 'ahead.txt'), 'cat;10\ncot;90\ncut;50\near;60\n');
     await browser.value(`(() => {
