@@ -285,6 +285,26 @@ export const CASES = {
     return told;
   },
 
+  async 'a first fill that does not wait for the raising'() {
+    await openGraded();
+    await begin(1);
+    await hold('best');
+    await browser.press('Control+f');
+    await isHeld();
+    // no slice of the raising has an answer yet, and the fill is there
+    const rows = await page.rows();
+    expect(rows.every((row) => !row.includes('.')), `the grid is ${rows}`);
+    await page.statusIs(/^filled; its worst word is raised … Esc ends this$/);
+    await browser.until('document.getElementById("figures-text").textContent.startsWith("worst ")');
+    const worst = Number(/worst (\d+)/.exec(await browser.value('document.getElementById("figures-text").textContent'))[1]);
+    await browser.value('window.release()');
+    // the raising goes on from it
+    const told = await page.statusIs(/^filled: worst \d+/);
+    expect(Number(/worst (\d+)/.exec(told)[1]) >= worst, `it was ${worst} at first: ${told}`);
+    await menu('built-in');
+    await page.factsAre(/built-in list/);
+  },
+
   async 'a raising that ends'() {
     await openGraded();
     const startRaising = async () => {
