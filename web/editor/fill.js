@@ -5,7 +5,7 @@ import { gradeFrom, totalOf } from './grades.js';
 import { progressText } from './improving.js';
 import { closeNew } from './kin.js';
 import { Mender } from './mending.js';
-import { refuse, say } from './messages.js';
+import { endingMessage, refuse, say } from './messages.js';
 import { Raiser } from './raising.js';
 import { letterIn } from './record.js';
 import { titleOf } from './words.js';
@@ -45,6 +45,8 @@ export class Filler {
   #isStopped = false;
   // whether the raising goes on until no fill is better
   #isEndless = false;
+  // takes away what was said of a raising, if it stands still
+  #endMessage = () => {};
   // the lists whose words other workers have loaded, for raisings
   /** @type {Uint8Array[]} */
   #warmed = [];
@@ -231,6 +233,7 @@ export class Filler {
     if (!known.length || known.some(Number.isNaN)) return say(`filled; ${NEXT}`, 'good');
     const names = [...editor.chosen];
     const fixed = new Map(board.cells.filter(({ letter, coordinates }) => letter && !cells.includes(coordinates)).map(({ coordinates, letter }) => [coordinates, letter]));
+    this.#endRaising();
     const raising = this.#raiser.run({
       base: without(editor.record, filled), names: this.#names, cells, seed: this.#seed, grade: Math.min(...known), sum: totalOf(known),
       bound: this.figures.boundOf(names), isEndless: this.#isEndless, target: this.#target,
@@ -239,10 +242,10 @@ export class Filler {
     const { proved: bound, held, isReached, isStopped, isChanged } = await raising;
     if (this.isRunning || this.isRaising) return;
     this.show(null);
-    if (isChanged) return;
+    if (isChanged) return this.#endMessage();
     const isBack = isAnother && !isStopped && (await this.#putBack(filled));
     const text = await this.figures.prove({ bound, names, fixed, held });
-    const how = isReached ? `none is under ${list.target}` : 'filled';
+    const how = isReached ? `none is under ${editor.list.target}` : 'filled';
     say(`${isStopped ? 'stopped' : how}: ${text}${isBack ? '; it is the fill from before, since no better one was found' : ''}`, 'good');
   }
 
@@ -251,6 +254,7 @@ export class Filler {
     const { target } = this.#editor.list;
     if (this.#isEndless) say(`filled; its worst word is raised until ${target === null ? 'no fill is better' : `none is under ${target}`}, or Esc stops it`);
     else say('filled; its worst word is raised … Esc ends this', 'busy');
+    this.#endMessage = endingMessage();
     this.show({ isRaising: true, text: this.figures.worst });
   }
 
@@ -277,7 +281,7 @@ export class Filler {
   #tellMended(light, { offer, isProved, isChanged, isLocked }) {
     const around = `around ${titleOf(light)}`;
     if (isChanged) return say(`the grid was changed, so nothing is mended ${around}`);
-    if (isLocked) return refuse(`every letter of ${titleOf(light)} is locked or is held by a weaker word: put letters in pencil (=)`);
+    if (isLocked) return refuse(`every letter of ${titleOf(light)} is locked: put letters in pencil (=)`);
     if (!offer) return say(isProved ? `no fill ${around} is better, with the rest as it is` : `${this.#isStopped ? 'stopped: ' : ''}no better words were found ${around}`);
     this.offer(offer);
     return say(`better words are found ${around}: look at them in the tab Words`, 'good');
@@ -287,7 +291,10 @@ export class Filler {
   #showTried(tried) {
     const text = progressText(tried, { worst: this.figures.worst, best: this.#editor.list.best });
     if (tried.isEndless) this.show({ isRaising: true, text });
-    else say(`filled; its worst word is raised: ${text} … Esc ends this`, 'busy');
+    else {
+      say(`filled; its worst word is raised: ${text} … Esc ends this`, 'busy');
+      this.#endMessage = endingMessage();
+    }
   }
 
   // Puts the best fill that is known into the grid again, if it is better than the one that is there. Returns whether it is.

@@ -69,11 +69,18 @@ export class Race {
     return true;
   }
 
+  // Gives a worker another seed that found nothing better for long. Returns whether it has one, and so begins anew.
+  startsAnew(at) {
+    const worker = this.#workers[at];
+    if (worker.idle < MOST_IDLE) return false;
+    Object.assign(worker, { seed: this.#seedOf(this.#seeds++), own: NONE, idle: 0 });
+    return true;
+  }
+
   // What a worker is told now: to look for fills that are better than the best one of all workers. The worker that found that one also raises its mean.
   /** @returns {Asked} */
   next(at) {
     const worker = this.#workers[at];
-    if (worker.idle >= MOST_IDLE) Object.assign(worker, { seed: this.#seedOf(this.#seeds++), own: NONE, idle: 0 });
     return { least: worker.own === this.grade ? worker.own : this.grade + 1, seed: worker.seed, stage: worker.stage };
   }
 

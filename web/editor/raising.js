@@ -123,6 +123,8 @@ export class Raiser {
       while (!run.isOver) {
         if (race.isBlocked) await (run.holding ??= this.#hold(run, engine).finally(() => (run.holding = null)));
         if (run.isOver) break;
+        // words that were struck, to keep others apart, are there again
+        if (race.startsAnew(at)) await engine.call('unstrike');
         if (race.catchesUp(at)) await engine.call('edit', { lines: run.lines, isWhole: false });
         this.#tell(run);
         const asked = race.next(at);

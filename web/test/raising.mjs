@@ -109,6 +109,8 @@ class Session {
 // Workers that a case answers for: `asked` has the calls of `best` in order, each with what answers it.
 class Workers {
   asked = [];
+  // the names of other calls
+  others = [];
   #waiting = [];
 
   constructor(most) {
@@ -121,6 +123,7 @@ class Workers {
   }
 
   #call(at, name, sent) {
+    if (name !== 'best') this.others.push(name);
     if (name === 'forced') return Promise.resolve({ lights: [], near: null });
     if (name !== 'best') return Promise.resolve(null);
     return new Promise((answer, fail) => {
@@ -252,17 +255,17 @@ const CASES = {
     const race = raceOf();
     answered(race, 0, filled(50, 500));
     for (let slice = 1; slice < MOST_IDLE; slice++) answered(race, 0, limit());
-    same(race.next(0), { least: 50, seed: 7, stage: 0 });
+    same([race.startsAnew(0), race.next(0)], [false, { least: 50, seed: 7, stage: 0 }]);
     answered(race, 0, limit());
+    same([race.startsAnew(0), race.startsAnew(0)], [true, false]);
     // the next seed that no worker has had; its own fill is none of the new search
     same(race.next(0), { least: 51, seed: 7 + 2 * SEEDS, stage: 0 });
     for (let slice = 1; slice <= MOST_IDLE; slice++) answered(race, 1, limit());
-    same(race.next(1).seed, 7 + 3 * SEEDS);
-    same(race.next(0).seed, 7 + 2 * SEEDS);
+    same([race.startsAnew(1), race.next(1).seed, race.next(0).seed], [true, 7 + 3 * SEEDS, 7 + 2 * SEEDS]);
     // a better fill counts from anew
     answered(race, 0, filled(60, 600));
     for (let slice = 1; slice < MOST_IDLE; slice++) answered(race, 0, limit());
-    same(race.next(0).seed, 7 + 2 * SEEDS);
+    same(race.startsAnew(0), false);
   },
 
   async 'a raising goes on until no fill is better'() {
@@ -272,8 +275,10 @@ const CASES = {
     same([(await workers.call(2)).at, workers.asked[2].sent.least, session.row(1)], [1, 30, 'COT']);
     workers.asked[0].answer(limit(95));
     same([(await workers.call(3)).at, workers.asked[3].sent.least], [0, 31]);
-    // as many slices as it takes
+    // as many slices as it takes; one that finds nothing for long has its words again, and another seed
     for (let slice = 2; slice < 200; slice++) (await workers.call(slice)).answer(limit(95));
+    const seeds = new Set(workers.asked.map(({ sent }) => sent.limits));
+    same([seeds.size > 2, workers.others.filter((name) => name === 'unstrike').length], [true, seeds.size - 2]);
     (await workers.call(200)).answer(found('TAR', 80, 81));
     same(await ended, { proved: 81, held: [{ names: ['1 across'], forced: [] }], isReached: false, isStopped: false, isChanged: false });
     same([session.entered, workers.begun], [['COT', 'TAR'], 'size 3 1\n']);
@@ -339,6 +344,18 @@ const CASES = {
     await session.edit(['set 1 1 B']);
     const { isStopped, isChanged } = await ended;
     same([isStopped, isChanged, session.row(1)], [false, true, 'BAR']);
+  },
+
+  async 'a raising that begins while another one goes on'() {
+    const { session, workers, raiser, ended } = improving();
+    await workers.call(0);
+    raiser.stop();
+    const other = raiser.run({ base: 'size 3 1\n', names: '', cells: ['1 1', '1 2', '1 3'], seed: 8, grade: 10, sum: 10, bound: 101, isEndless: true });
+    same([(await ended).isStopped, raiser.isRunning], [true, true]);
+    // what the first one finds late is none of the second
+    (await workers.call(0)).answer(found('TAR', 80));
+    (await workers.call(1)).answer(found('COT', 30, 31));
+    same([(await other).proved, session.entered], [31, ['COT']]);
   },
 
   async 'workers that fail leave a raising to the others'() {
