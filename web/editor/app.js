@@ -20,6 +20,7 @@ import { GridView } from './grid.js';
 import { GridsView } from './grids/view.js';
 import { Helpers } from './helpers.js';
 import { whenIdle } from './idle.js';
+import { ImprovingView } from './improving.js';
 import { Leaving } from './leaving.js';
 import { LibraryView } from './library.js';
 import { ListsInUse } from './lists-in-use.js';
@@ -38,6 +39,7 @@ import { Tabs } from './tabs.js';
 import { Tools } from './tools.js';
 import { Typed } from './typed.js';
 import { WarningsView } from './warnings-view.js';
+import { WeakestView } from './weakest.js';
 import { WordsView } from './words.js';
 
 useMessages({ line: $('status'), toast: $('toast'), history: $('history'), warnings: $('warnings') });
@@ -70,7 +72,7 @@ const kept = (takeBack) => leaving.kept(takeBack);
 const edits = new Edits(editor, { isFilling: () => filler.isRunning, soon, toGrid, kept, showTab: (name) => tabs.show(name) });
 const edit = (lines, options) => edits.edit(lines, options);
 // what is typed into texts
-const typed = new Typed(editor, { isFilling: () => filler.isRunning, isRaising: () => filler.isRaising, undo: () => editor.undo(), finished: () => bank.addSoon() });
+const typed = new Typed(editor, { isFilling: () => filler.isRunning, undo: () => editor.undo(), finished: () => bank.addSoon() });
 const editText = (element, field, text) => typed.edit(element, (run) => edits.text(field, text, run));
 const leave = (event) => edits.leave(event, typed.takeBack);
 const toClue = (light) => tabs.toClue(light);
@@ -158,16 +160,36 @@ const grids = new GridsView(
   },
   (record, entries) => puzzles.begin(record, entries).catch(unforeseen),
 );
-const figures = new Figures(editor, { box: $('figures'), text: $('figures-text'), worst: $('figures-worst') }, (light) => goTo(light));
+const figures = new Figures(editor, { box: $('figures'), text: $('figures-text'), worst: $('figures-worst') }, { go: (light) => goTo(light), told: (scores) => weakest.show(scores) });
+const weakest = new WeakestView(
+  editor,
+  {
+    box: $('weakest'), list: $('weakest-list'), offered: $('mend-offer'), told: $('mend-told'), place: $('mend-fill'), use: $('mend-use'), leave: $('mend-leave'),
+  },
+  {
+    go: (light) => goTo(light), mend: (light) => mayEdit() && filler.mend(light).catch(unforeseen), forced: (light) => figures.forcedAt(light), use: (letters) => useMended(letters), toGrid,
+  },
+);
+const improving = new ImprovingView(editor, { row: $('improve-row'), button: $('improve'), told: $('improve-told') });
 const fills = new Fills(editor, { box: $('fills'), list: $('fills-list') }, mayEdit);
 const filler = new Filler(editor, helpers, fills, {
   show: (progress) => {
     showFill(progress, filler.isRunning, toGrid);
+    improving.show(filler.isImproving, progress?.text);
     if (!filler.isRunning) typed.goOn();
   },
-  explain: () => whenIdle(() => reasons.ask().catch(() => {})), figures,
+  explain: () => whenIdle(() => reasons.ask().catch(() => {})), figures, offer: (offer) => weakest.offer(offer),
 });
 const nextLight = new NextLight(editor, faults, toGrid);
+
+// Puts letters into the grid in one step, and keeps them among the fills to choose from. Returns what they are refused for, or null.
+async function useMended(letters) {
+  if (!mayEdit()) return 'Filling';
+  editor.change({ edited: null });
+  const refused = await fills.put(letters);
+  if (!refused) fills.add();
+  return refused;
+}
 
 // Files, lists and puzzles.
 
@@ -285,6 +307,7 @@ const ACTIONS = {
   redo: () => step(false),
   fill: () => filler.run(false),
   another: () => filler.run(true),
+  improve: () => filler.improve(),
   stop: () => filler.stop(),
   hardest: () => nextLight.go(),
   help: () => openDialog($('help-dialog')),

@@ -38,6 +38,9 @@ export class Dropped {
 // Phrases as one: “a, b and c”.
 export const joinedText = (phrases) => [phrases.slice(0, -1).join(', '), ...phrases.slice(-1)].filter(Boolean).join(' and ');
 
+// The first of some names, and how many more there are, as in “1 Across, 2 Down and 3 more”.
+export const namesText = (names, most) => joinedText(names.length > most ? [...names.slice(0, most), `${names.length - most} more`] : names);
+
 // What a .puz has.
 export function droppedOfPuz(bytes, sections = sectionsOf(bytes)) {
   const [width, height] = [bytes[0x2c], bytes[0x2d]];

@@ -436,8 +436,9 @@ export class Editor extends EditorState {
     });
   }
 
-  // Changes what of the lists is no matter of the engine: the score below which words are marked, and whether candidates and fills are apart.
-  /** @param {{ weak?: number, apart?: boolean }} changed */
+  // Changes what of the lists is no matter of the engine: the score below which words are marked, and whether candidates and fills are apart,
+  // and the score at which a raising ends.
+  /** @param {{ weak?: number, apart?: boolean, target?: number | null }} changed */
   changeList(changed) {
     this.change({ list: { ...this.list, ...changed }, board: this.board });
   }
