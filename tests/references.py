@@ -30,7 +30,7 @@ TYPE_OF_IMPL = re.compile(r"^impl(?:<[^{]*?>)? (?:(?:\w+::)*(\w+)(?:<.*?>)? for 
 VARIANT = re.compile(r"^    (\w+)\b")
 # what a folder of a crate may be called, and the endings of files that are cited without their folder
 PARTS = ("src", "specs", "proofs", "must-fail", "mutations", "accepted", "caught", "link")
-ENDINGS = (".rt", ".antt", ".py", ".mjs", ".svg")
+ENDINGS = (".py", ".mjs", ".svg")
 # what a build makes, and git ignores
 MADE = re.compile(r"(?:web/)?dist\b|out\b|crates/\w+/out\b")
 
@@ -150,74 +150,80 @@ class Reader:
     def __init__(self, sources, name, text):
         self.sources, self.name, self.text, self.faults = sources, name, text, []
         self.own = name.split("/")[1] if name.startswith("crates/") else None
-        self.functions, self.seen = set(), set()  # of the row above
+        self.row = set(), set()  # the crates and the names of the row above
         for block in blocks_of(name, text):
             self.read(block)
 
     def read(self, block):
         quoted = QUOTED.findall(block.text)
-        crates = {self.own, *(it.split("::")[0] for it in quoted)} & self.sources.crates.keys()
-        if not self.own:
-            crates = self.sources.crates.keys()
-        is_contract = bool(self.own) and block.head.endswith("| Contract |") and block.text != block.head and "|---" not in block.text
-        if is_contract and "the same" in block.text:
-            crates |= self.seen
+        named = {self.own, *(it.removeprefix("crates/").split("/")[0].split("::")[0] for it in quoted)} & self.sources.crates.keys()
+        if is_contract(block):
+            named |= self.row[0] if "the same" in block.text else set()
+            self.read_contract(block, named)
+        # a document that is not of a crate may cite a function of any
+        crates = named if self.own else self.sources.crates.keys()
         for words in quoted:
-            if FUNCTION.fullmatch(words):
-                self.read_function(block.place, words, crates)
-            else:
-                self.read_words(block.place, words, crates)
-        if is_contract:
-            self.read_contract(block.place, block.text.split(" | ", 1)[1], [self.sources.crates[name] for name in crates])
-            self.seen = crates
+            missing = self.missing_function(words, crates) if FUNCTION.fullmatch(words) else self.missing_file(words, named or crates)
+            self.say(block, missing and f"there is no {missing}")
         for path, heading in SECTION.findall(block.text):
-            if path in self.sources.files and heading not in headings(text_of(path)):
-                self.faults.append(f"{block.place}: {path} has no section {heading}")
+            is_there = path not in self.sources.files or heading in headings(text_of(path))
+            self.say(block, not is_there and f"{path} has no section {heading}")
         for target in LINK.findall(block.text):
-            self.read_link(block.place, target)
+            self.say(block, self.fault_of_link(target))
 
-    def read_function(self, place, path, crates):
+    def say(self, block, fault):
+        if fault:
+            self.faults.append(f"{block.place}: {fault}")
+
+    def missing_function(self, path, crates):
         first, *rest = path.split("::")
         found = [(first, rest)] if first in self.sources.crates else [(name, [first, *rest]) for name in crates]
-        if not CAPITALS.search(path) and not any(self.sources.crates[name].has_path(parts) for name, parts in found):
-            self.faults.append(f"{place}: there is no {path}")
+        is_there = CAPITALS.search(path) or any(self.sources.crates[name].has_path(parts) for name, parts in found)
+        return None if is_there else path
 
-    def read_words(self, place, words, crates):
-        for word in words.split():
-            path = PATH.fullmatch(word)
-            if path and not CAPITALS.search(word) and not self.has_file(path[1].rstrip("/"), crates):
-                self.faults.append(f"{place}: there is no {word}")
+    def missing_file(self, words, crates):
+        paths = [found[1].rstrip("/") for found in map(PATH.fullmatch, words.split()) if found and not CAPITALS.search(found[0])]
+        return next((path for path in paths if not self.has_file(path, crates)), None)
 
     def has_file(self, path, crates):
         """Whether a path is there, or is none of the repository."""
         first, *rest = path.split("/")
-        if first in PARTS and rest:
+        if rest and first in self.sources.tops:
+            return self.sources.has(path) or self.sources.has(f"{path}.js")
+        if rest and first in PARTS:
             pattern = re.compile(re.escape(path).replace(r"\*", "[^/]*") + "(?:/.*)?")
             return any(pattern.fullmatch(file) for name in crates for file in self.sources.crates[name].files)
-        if rest:
-            return first not in self.sources.tops or self.sources.has(path) or self.sources.has(f"{path}.js")
-        return not path.endswith(ENDINGS) or any(file == path or file.endswith(f"/{path}") for file in self.sources.files)
+        if path.endswith((".rt", ".antt")):
+            return any(file.endswith(f"/{path}") for name in crates for file in self.sources.crates[name].files)
+        return rest or not path.endswith(ENDINGS) or any(file == path or file.endswith(f"/{path}") for file in self.sources.files)
 
-    def read_contract(self, place, cell, crates):
+    def read_contract(self, block, crates):
         """Reads the second column of a table of promises: each name is one of the sources, and each clause one of a function that the row cites."""
-        names = [part for words in QUOTED.findall(cell) for part in words.split("::") if IDENTIFIER.fullmatch(part)]
-        self.functions = {*names, *(self.functions if "the same" in cell else ())}
+        cell, found = block.text.split(" | ", 1)[1], [self.sources.crates[name] for name in crates]
+        names = {part for words in QUOTED.findall(cell) for part in words.split("::") if IDENTIFIER.fullmatch(part)}
+        above = self.row[1] if "the same" in cell else set()
         clauses = {name for group in CLAUSES.findall(cell) for name in QUOTED.findall(group)}
-        known = set().union(*(crate.clauses.get(name, set()) for crate in crates for name in self.functions))
-        self.faults += [f"{place}: no function of the row has a clause {name}" for name in sorted(clauses - known)]
-        words = {name for name in names if name not in self.sources.crates and name not in clauses}
-        self.faults += [f"{place}: no source has a name {name}" for name in sorted(words) if not any(crate.has_word(name) for crate in crates)]
+        known = set().union(*(crate.clauses.get(name, set()) for crate in found for name in names | above))
+        unknown = {name for name in names - clauses - self.sources.crates.keys() if not any(crate.has_word(name) for crate in found)}
+        self.faults += [f"{block.place}: no function of the row has a clause {name}" for name in sorted(clauses - known)]
+        self.faults += [f"{block.place}: no source has a name {name}" for name in sorted(unknown)]
+        self.row = crates, names | above
 
-    def read_link(self, place, target):
+    def fault_of_link(self, target):
         path, _, anchor = target.partition("#")
-        if "://" in path:
-            return
         file = (TOP / self.name).parent.joinpath(path).resolve() if path else TOP / self.name
         name = str(file.relative_to(TOP)) if file.is_relative_to(TOP) else target
+        if "://" in target:
+            return None
         if not self.sources.has(name):
-            self.faults.append(f"{place}: the link {target} leads to no file")
-        elif anchor and anchor not in map(anchor_of, headings(text_of(name) if path else self.text)):
-            self.faults.append(f"{place}: the link {target} leads to no section")
+            return f"the link {target} leads to no file"
+        is_there = not anchor or anchor in map(anchor_of, headings(text_of(name) if path else self.text))
+        return None if is_there else f"the link {target} leads to no section"
+
+
+def is_contract(block):
+    """Whether a block is a row of a table of promises."""
+    return block.head.endswith("| Contract |") and block.text != block.head and "|---" not in block.text
 
 
 def headings(text):
