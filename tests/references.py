@@ -23,8 +23,9 @@ GHOST = re.compile(r"^    (?:pub )?ghost (\w+)(?: = |: )\{")
 CAPITALS = re.compile(r"(?:^|[/:])[A-Z]+(?:$|[/.:])")
 LINK = re.compile(r"\[[^]]*\]\(([^)\s]+)\)")
 SECTION = re.compile(r'`(docs/[\w-]+\.md)`, "([^"]+)"')
-# clauses behind the functions that have them: (`ok`, `err`)
+# clauses behind the functions that have them, (`ok`, `err`), and behind the path of the one function that does
 CLAUSES = re.compile(r"\(((?:`[a-z]\w*`(?:, | and )?)+)\)")
+CLAUSES_OF = re.compile(r"(?<!of )`([\w:]+::\w+)` \(((?:`[a-z]\w*`(?:, | and )?)+)\)")
 CLAUSE = re.compile(r"^ *(?:requires|ensures)\*? (\w+) \{")
 TYPE_OF_IMPL = re.compile(r"^impl(?:<[^{]*?>)? (?:(?:\w+::)*(\w+)(?:<.*?>)? for )?(?:\w+::)*(\w+)")
 VARIANT = re.compile(r"^    (\w+)\b")
@@ -165,6 +166,9 @@ class Reader:
         for words in quoted:
             missing = self.missing_function(words, crates) if FUNCTION.fullmatch(words) else self.missing_file(words, named or crates)
             self.say(block, missing and f"there is no {missing}")
+        for function, group in CLAUSES_OF.findall(block.text):
+            missing = self.missing_clause(function.split("::")[-1], QUOTED.findall(group), crates)
+            self.say(block, missing and f"{function} has no clause {missing}")
         for path, heading in SECTION.findall(block.text):
             is_there = path not in self.sources.files or heading in headings(text_of(path))
             self.say(block, not is_there and f"{path} has no section {heading}")
@@ -180,6 +184,10 @@ class Reader:
         found = [(first, rest)] if first in self.sources.crates else [(name, [first, *rest]) for name in crates]
         is_there = CAPITALS.search(path) or any(self.sources.crates[name].has_path(parts) for name, parts in found)
         return None if is_there else path
+
+    def missing_clause(self, function, clauses, crates):
+        known = set().union(*(self.sources.crates[name].clauses.get(function, set()) for name in crates))
+        return next((clause for clause in clauses if clause not in known), None)
 
     def missing_file(self, words, crates):
         paths = [found[1].rstrip("/") for found in map(PATH.fullmatch, words.split()) if found and not CAPITALS.search(found[0])]

@@ -31,7 +31,8 @@ FAULTS = {
     "[a link](../xw_letter/README.md)": "the link ../xw_letter/README.md leads to no file",
     "[a link](../xw_letters/README.md#promise)": "the link ../xw_letters/README.md#promise leads to no section",
     '`docs/DECISIONS.md`, "Word"': "docs/DECISIONS.md has no section Word",
-    "| Promise | Contract |\n|---|---|\n| a word | `bank::Bank::new` (`full`) |": "no function of the row has a clause full",
+    "`bank::Bank::new` (`empty`, `full`)": "bank::Bank::new has no clause full",
+    "| Promise | Contract |\n|---|---|\n| a word | `new` and `add` of `bank::Bank` (`full`) |": "no function of the row has a clause full",
     "| Promise | Contract |\n|---|---|\n| a word | `bank::Bank::new`, by `specs/Dictionary.antt`, `IsDictionaries` |": "no source has a name IsDictionaries",
 }
 
