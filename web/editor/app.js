@@ -1,7 +1,9 @@
 // The page: it joins the views with the session.
 import { AllWords } from './all-words.js';
 import { Claim } from './claim.js';
+import { BankView } from './bank-view.js';
 import { ClueBank } from './clue-bank.js';
+import { askClues } from './clue-preview.js';
 import { CluesView } from './clues.js';
 import { CrossingsView } from './crossings-view.js';
 import { DetailsView } from './details.js';
@@ -18,6 +20,7 @@ import { GridView } from './grid.js';
 import { GridsView } from './grids/view.js';
 import { Helpers } from './helpers.js';
 import { whenIdle } from './idle.js';
+import { ImprovingView } from './improving.js';
 import { Leaving } from './leaving.js';
 import { LibraryView } from './library.js';
 import { ListsInUse } from './lists-in-use.js';
@@ -36,6 +39,7 @@ import { Tabs } from './tabs.js';
 import { Tools } from './tools.js';
 import { Typed } from './typed.js';
 import { WarningsView } from './warnings-view.js';
+import { WeakestView } from './weakest.js';
 import { WordsView } from './words.js';
 
 useMessages({ line: $('status'), toast: $('toast'), history: $('history'), warnings: $('warnings') });
@@ -68,7 +72,7 @@ const kept = (takeBack) => leaving.kept(takeBack);
 const edits = new Edits(editor, { isFilling: () => filler.isRunning, soon, toGrid, kept, showTab: (name) => tabs.show(name) });
 const edit = (lines, options) => edits.edit(lines, options);
 // what is typed into texts
-const typed = new Typed(editor, { isFilling: () => filler.isRunning, isRaising: () => filler.isRaising, undo: () => editor.undo(), finished: () => bank.addSoon() });
+const typed = new Typed(editor, { isFilling: () => filler.isRunning, undo: () => editor.undo(), finished: () => bank.addSoon() });
 const editText = (element, field, text) => typed.edit(element, (run) => edits.text(field, text, run));
 const leave = (event) => edits.leave(event, typed.takeBack);
 const toClue = (light) => tabs.toClue(light);
@@ -116,13 +120,21 @@ const crossingWords = new WordsView(
 );
 isWide.addEventListener('change', () => crossingWords.soon());
 const bank = new ClueBank(editor, () => clues.unfinished(typed.unfinished));
+const bankView = new BankView(
+  bank,
+  {
+    summary: $('bank-summary'), export: $('bank-export'), import: $('bank-import'), clear: $('bank-clear'), file: $('bank-file'), dialog: $('bank-dialog'), title: $('bank-title'),
+    told: $('bank-told'), take: $('bank-take'),
+  },
+  (text, name) => files.saveText(text, name),
+);
 const allWords = new AllWords(editor);
 const clues = new CluesView(
   editor,
   { list: $('clue-list'), summary: $('clue-summary'), lengths: $('clue-lengths') },
   {
     text: editText, lengths: (texts, left) => edits.addLengths(texts, left), enumerations: (words) => lists.enumerations(words), toGrid, use: (light, clue) => edits.useClue(light, clue), keep: (light) => edits.keepClue(light),
-    former: (word) => bank.of(word), leave, note: (element, light, text) => typed.edit(element, (run) => edits.note(light, text, run)),
+    former: (word, clue) => bank.of(word, clue), leave, note: (element, light, text) => typed.edit(element, (run) => edits.note(light, text, run)),
     link: (element, light, text) => typed.edit(element, (run) => edits.link(light, text, run)),
     words: () => allWords.get(),
   },
@@ -130,10 +142,10 @@ const clues = new CluesView(
 const details = new DetailsView(
   editor,
   {
-    panel: $('puzzle'), title: $('title'), author: $('author'), copyright: $('copyright'), notes: $('notes'), checks: $('checks'), counts: $('counts'),
+    panel: $('puzzle'), title: $('title'), author: $('author'), copyright: $('copyright'), notes: $('notes'), language: $('language'), checks: $('checks'), counts: $('counts'),
     lengths: $('lengths'), frequency: $('frequency'), wordForm: $('word-form'), word: $('word'), changed: $('changed'),
   },
-  { edit, text: editText, toGrid, toClue, leave, keepWord: (word, isHidden) => lists.keepWord(word, isHidden) },
+  { edit, text: editText, toGrid, toClue, leave, language: (code) => edits.language(code), keepWord: (word, isHidden) => lists.keepWord(word, isHidden), refreshed: () => bankView.show() },
 );
 const tabs = new Tabs(details, clues, toGrid);
 const grids = new GridsView(
@@ -148,22 +160,43 @@ const grids = new GridsView(
   },
   (record, entries) => puzzles.begin(record, entries).catch(unforeseen),
 );
-const figures = new Figures(editor, { box: $('figures'), text: $('figures-text'), worst: $('figures-worst') }, (light) => goTo(light));
+const figures = new Figures(editor, { box: $('figures'), text: $('figures-text'), worst: $('figures-worst') }, { go: (light) => goTo(light), told: (scores) => weakest.show(scores) });
+const weakest = new WeakestView(
+  editor,
+  {
+    box: $('weakest'), list: $('weakest-list'), offered: $('mend-offer'), told: $('mend-told'), place: $('mend-fill'), use: $('mend-use'), leave: $('mend-leave'),
+  },
+  {
+    go: (light) => goTo(light), mend: (light) => mayEdit() && filler.mend(light).catch(unforeseen), forced: (light) => figures.forcedAt(light), use: (letters) => useMended(letters), toGrid,
+  },
+);
+const improving = new ImprovingView(editor, { row: $('improve-row'), button: $('improve'), told: $('improve-told') });
 const fills = new Fills(editor, { box: $('fills'), list: $('fills-list') }, mayEdit);
 const filler = new Filler(editor, helpers, fills, {
   show: (progress) => {
     showFill(progress, filler.isRunning, toGrid);
+    improving.show(filler.isImproving, progress?.text);
     if (!filler.isRunning) typed.goOn();
   },
-  explain: () => whenIdle(() => reasons.ask().catch(() => {})), figures,
+  explain: () => whenIdle(() => reasons.ask().catch(() => {})), figures, offer: (offer) => weakest.offer(offer),
 });
 const nextLight = new NextLight(editor, faults, toGrid);
+
+// Puts letters into the grid in one step, and keeps them among the fills to choose from. Returns what they are refused for, or null.
+async function useMended(letters) {
+  if (!mayEdit()) return 'Filling';
+  editor.change({ edited: null });
+  const refused = await fills.put(letters);
+  if (!refused) fills.add();
+  return refused;
+}
 
 // Files, lists and puzzles.
 
 const files = new Files(editor, {
   mayEdit, toGrid, toClue, opened: toGrid, changeLists: (changed, name, bytes) => lists.change(changed, name, bytes), addPuzzles: (text) => shelf.addAll(text),
-  saved: () => shelf.saved(), askRows, askFile,
+  saved: () => shelf.saved(), askRows, askFile, askAnyway, askKey, words: () => allWords.get(), takeClues: (changes) => edits.takeClues(changes),
+  askClues: (name, found) => askClues(editor, { dialog: $('table-dialog'), told: $('table-told'), changes: $('table-changes'), others: $('table-others') }, name, found),
 });
 files.takeDrops(document.body);
 // Asks for the letters of a cell, which may be several.
@@ -194,24 +227,45 @@ async function askFile(zip, names) {
   return /^\d+$/.test(answer) ? Number(answer) : null;
 }
 
+// the most repairs that are shown
+const MOST_REPAIRS = 200;
+
+// Shows what is wrong in a file and what is made of it, and promises `open` if it is opened so.
+function askAnyway(name, repairs) {
+  const more = repairs.length - MOST_REPAIRS;
+  $('repairs-told').textContent = `${name} has faults. If you open it anyway, this is what is made of them:`;
+  const shown = [...repairs.slice(0, MOST_REPAIRS), ...(more > 0 ? [`and ${more} more`] : [])];
+  $('repairs').replaceChildren(...shown.map((textContent) => Object.assign(document.createElement('li'), { textContent })));
+  return askDialog($('repairs-dialog'));
+}
+
+// Asks for the key of a scrambled file, and promises the answer and what was typed.
+async function askKey(told, maySearch) {
+  $('key-told').textContent = told;
+  const field = /** @type {HTMLInputElement} */ ($('key'));
+  field.value = '';
+  /** @type {HTMLButtonElement} */ ($('key-search')).disabled = !maySearch;
+  return { answer: await askDialog($('key-dialog')), key: field.value.trim() };
+}
+
 const lists = new ListsInUse(editor, {
   mayEdit, stop: () => filler.stop(), soon, shown: () => facts.show(), toGrid, save: (text, name) => files.saveText(text, name), unforeseen, kept,
 });
 const puzzles = new NewPuzzle(editor, { mayEdit, soon, toGrid, addVersion: () => shelf.addVersion() });
 const printing = new PrintDialog(editor);
 
-// whether the file that is being picked is to be a word list
-let isPickingList = false;
+// what the file that is being picked is to be, if that is said
+let picked = '';
 
 $('picker').addEventListener('change', async () => {
-  const isList = isPickingList;
-  isPickingList = false;
-  for (const file of [...$('picker').files]) await files.open(file, isList);
+  const as = picked;
+  picked = '';
+  for (const file of [...$('picker').files]) await files.open(file, as);
   $('picker').value = '';
 });
 
-function pick(accept, isList = false) {
-  isPickingList = isList;
+function pick(accept, as = '') {
+  picked = as;
   $('picker').accept = accept;
   $('picker').click();
 }
@@ -235,23 +289,25 @@ const ACTIONS = {
   new: () => openDialog($('new-dialog')),
   library: () => library.show(),
   themes: () => grids.open(),
-  open: () => pick('.puz,.ipuz,.jpz,.xml,.exolve,.qxw,.qxd,.txt,.xw,.json,.dict,.zip'),
+  open: () => pick('.puz,.ipuz,.jpz,.xml,.exolve,.qxw,.qxd,.txt,.xw,.json,.dict,.csv,.zip,.eml'),
   save: wholly(() => files.saveAny()),
   'save-puz': wholly(() => files.save('puz')),
   'save-ipuz': wholly(() => files.saveAs('ipuz')),
   'save-jpz': wholly(() => files.saveAs('jpz')),
   'save-exolve': wholly(() => files.saveAs('exolve')),
   'save-text': wholly(() => files.save('text')),
-  'clues-csv': wholly(() => files.saveClues('csv')),
-  'clues-html': wholly(() => files.saveClues('html')),
+  'clues-csv': wholly(() => files.saveClues()),
+  'clues-html': wholly(() => files.saveSheet()),
+  'clues-from': () => pick('.csv,.tsv,.txt', 'clues'),
   'save-session': wholly(() => files.saveSession()),
-  list: () => pick('.txt,.dict,.csv,.tsv', true),
+  list: () => pick('.txt,.dict,.csv,.tsv', 'list'),
   'built-in': () => lists.change((now) => now.onlyBuiltIn()),
   print: wholly(() => printing.open()),
   undo: () => step(true),
   redo: () => step(false),
   fill: () => filler.run(false),
   another: () => filler.run(true),
+  improve: () => filler.improve(),
   stop: () => filler.stop(),
   hardest: () => nextLight.go(),
   help: () => openDialog($('help-dialog')),

@@ -1,5 +1,6 @@
 // What a session has beside its record: the originals, which are texts as they were typed, cells with several letters, colours, links and private notes; the
 // letters in pencil; and the words that clues were written for. A file from elsewhere may have anything in their places.
+import { LANGUAGE, isLanguage } from './language.js';
 import { isRebus } from './rebus.js';
 
 /** @typedef {[string, string]} Pair */
@@ -16,6 +17,7 @@ const ORIGINALS = [
   { field: whole(`cell ${CELL}`), isLawful: isRebus, called: ['a cell with other characters than letters', 'cells with other characters than letters'] },
   { field: whole(`colour ${CELL}`), isLawful: matches(/^[0-9a-f]{6}$/), called: ['the colour of a cell', 'colours of cells'] },
   { field: whole(`link ${CLUE}`), isLawful: matches(whole(`${CLUE}(?:, ${CLUE})*`)), called: ['the link of a clue to other lights', 'links of clues to other lights'] },
+  { field: whole(LANGUAGE), isLawful: isLanguage, called: ['the language'] },
 ];
 const UNKNOWN = ['a text that belongs to nothing', 'texts that belong to nothing'];
 const PENCIL = ['a pencil mark', 'pencil marks'];

@@ -20,6 +20,7 @@ function linesBetween(one, other) {
 const KINDS = [
   { pattern: /^kept note (\d+ \d+) (\w+)/, tab: 'clues', nameOf: (titled, ...place) => `the note on ${titled(...place)}`, several: 'notes' },
   { pattern: /^(?:text|more|written|kept(?= (?:link|clue))) (?:clue|link) (\d+ \d+) (\w+)/, tab: 'clues', nameOf: (titled, ...place) => `the clue of ${titled(...place)}`, several: 'clues' },
+  { pattern: /^(?:text|more|written|kept) (?:clue|link|note) (\d+ \d+) (\w+)/, tab: 'clues', nameOf: (titled, ...place) => titled(...place), several: 'clues and notes' },
   { pattern: /^(?:text|more|kept(?! (?:colour|note|link|clue) )) (\w+)/, tab: 'puzzle', nameOf: (_, field) => `the ${field}`, several: 'texts' },
   { pattern: /^(?:add|strike) (\w+)/, tab: 'puzzle', nameOf: (_, word) => `${word} in the words of this puzzle`, several: 'words of this puzzle' },
   { pattern: /^sym /, tab: '', nameOf: () => 'the symmetry', several: '' },

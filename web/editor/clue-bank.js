@@ -1,7 +1,7 @@
 // The bank of clues: those of all puzzles that the browser keeps, by the words that they were written for.
+import { bankTable, isClueForBank, timeForBank, titleForBank } from './bank-table.js';
 import { whenIdle } from './idle.js';
-import { isReference } from './links.js';
-import { dropClues, keepClues, keptClues, makeBank, storedPuzzles } from './keep.js';
+import { clearClues, countClues, dropClues, everyClue, keepClues, keptClues, makeBank, storedPuzzles } from './keep.js';
 import { engineText, parseRecord, placeOf, unescapeText } from './record.js';
 
 export class ClueBank {
@@ -39,23 +39,47 @@ export class ClueBank {
     return dropClues(puzzles);
   }
 
-  // The clues that a word had, each once, the latest first.
-  async of(word) {
+  // What the bank has of a word, but for the clue of the puzzle that is here.
+  async of(word, clue) {
     const entries = await keptClues(word).catch(() => []);
-    return [...new Set(entries.sort((a, b) => b.at - a.at).map(({ clue }) => clue))];
+    return entries.filter((entry) => entry.puzzle !== this.#editor.puzzle || entry.clue !== clue);
+  }
+
+  // How many clues it has.
+  count() {
+    return countClues();
+  }
+
+  // All clues, as a table.
+  async table() {
+    return bankTable(await everyClue());
+  }
+
+  // Adds the clues of a table.
+  addTable(entries) {
+    return keepClues(entries);
+  }
+
+  // Takes all clues out. Those of the puzzle that is here come in again when they are changed, or when the page is loaded.
+  clear() {
+    return clearClues();
   }
 }
 
-const keyOf = ({ word, clue, puzzle }) => [word, clue, puzzle].join('\n');
+const keyOf = ({ word, clue, puzzle, title }) => [word, clue, puzzle, title].join('\n');
 
 // The clues of a session that are for words, as they were typed.
-function cluesIn({ puzzle, record, written = [], originals = [], at = Date.now() }, unfinished) {
+export function cluesIn({ puzzle, record, written = [], originals = [], at = Date.now() }, unfinished = '') {
   const state = parseRecord(record);
   const [words, typed] = [new Map(written), new Map(originals)];
-  return [...state.texts].filter(([field, spelled]) => spelled && field.startsWith('clue ') && field !== unfinished).flatMap(([field, spelled]) => {
-    const word = words.get(field) ?? wordAt(state, field);
-    const [text, original] = [unescapeText(spelled), typed.get(field)];
-    return word && !isReference(text) ? [{ word, clue: original !== undefined && engineText(original).near === text ? original : text, puzzle, at }] : [];
+  const textOf = (field) => {
+    const [text, original] = [unescapeText(state.texts.get(field) ?? ''), typed.get(field)];
+    return original !== undefined && engineText(original).near === text ? original : text;
+  };
+  const title = titleForBank(textOf('title'));
+  return [...state.texts.keys()].filter((field) => field.startsWith('clue ') && field !== unfinished).flatMap((field) => {
+    const [word, clue] = [words.get(field) ?? wordAt(state, field), textOf(field)];
+    return isClueForBank(word, clue) ? [{ word, clue, puzzle, at: timeForBank(at), title }] : [];
   });
 }
 

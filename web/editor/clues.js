@@ -2,13 +2,11 @@
 import { ClueMore } from './clue-more.js';
 import { hasEnumeration, withEnumeration } from './enumeration.js';
 import { hasItalics, toggledItalics } from './marks.js';
-import { nodesOfText, put } from './page.js';
+import { OldClues } from './old-clues.js';
+import { nodesOfText, put, speakIn } from './page.js';
 import { termed } from './terms.js';
 import { titleOf } from './words.js';
 import { staleClues, staleWord } from './written.js';
-
-// the most old clues that are offered for a word
-const MOST_OFFERED = 4;
 
 export class CluesView {
   /** @type {import('./editor.js').Editor} */
@@ -19,9 +17,8 @@ export class CluesView {
   #fields = new Map();
   #due = 0;
   #here = null;
-  // old clues for the word of the cursor's light, and what they are shown for
-  #offers = Object.assign(document.createElement('div'), { className: 'offers', hidden: true });
-  #offered = '';
+  #crossing = null;
+  #old;
   #more;
   // whether the tab is in sight
   isShown = false;
@@ -30,7 +27,7 @@ export class CluesView {
 
   // `lengths` is the button that adds enumerations. `actions`: `text` sets what is typed in a field, `lengths` those of several in one step and is told how many
   // lights have no enumeration that is sure, `enumerations` promises those of words, `use` sets the clue of a light, `keep` keeps a clue for the word that is
-  // there, `former` promises the clues that a word had before, `leave` leaves a field by Esc; `note` and `link` keep a private note and a link, and `words`
+  // there, `former` promises what the bank of clues has of a word, `leave` leaves a field by Esc; `note` and `link` keep a private note and a link, and `words`
   // promises all words of the lists.
   constructor(editor, { list: root, summary, lengths }, actions) {
     this.#editor = editor;
@@ -38,6 +35,7 @@ export class CluesView {
     this.#summary = summary;
     this.#lengths = lengths;
     this.actions = actions;
+    this.#old = new OldClues(editor, actions.former);
     this.#more = new ClueMore(editor, { ...actions, italics: (light) => this.#toggleItalics(this.#fields.get(light.name).field) });
     lengths.addEventListener('click', () => {
       const added = this.lengthsAdded.then(() => this.#addLengths());
@@ -67,6 +65,7 @@ export class CluesView {
       if (!this.#underWay.has(light.name)) this.#showText(light);
     }
     if (left) this.#goOn(left);
+    speakIn(this.#root, this.#editor.language);
     this.#lengths.disabled = !this.#withoutLengths.length;
     this.#words();
     this.#mark();
@@ -135,15 +134,12 @@ export class CluesView {
   #make(names, headOf) {
     this.names = names;
     this.#fields.clear();
-    this.#offered = '';
-    this.#offers.hidden = true;
+    this.#old.end();
     const part = (direction, title) => {
-      const heading = document.createElement('h3');
-      heading.textContent = title;
       const rows = this.#editor.board.lights.filter((light) => light.direction === direction).map((light) => this.#row(light, headOf.get(light)));
-      return [heading, ...rows];
+      return box('clue-part', Object.assign(document.createElement('h3'), { textContent: title }), ...rows);
     };
-    this.#root.replaceChildren(...part('across', 'Across'), ...part('down', 'Down'));
+    this.#root.replaceChildren(box('clue-parts', part('across', 'Across'), part('down', 'Down')));
   }
 
   // `head` is the light whose clue goes on in this one, if there is one: the clue leads to it.
@@ -243,7 +239,7 @@ export class CluesView {
     const stale = staleClues(this.#editor).length;
     const told = lacking ? `${board.lights.length - lacking} of ${board.lights.length} lights have a clue` : 'every light has a clue';
     put(this.#summary, 'textContent', termed(stale ? `${told}; ${stale} ${stale === 1 ? 'is' : 'are'} for another word` : told));
-    this.#offer();
+    this.#showOld();
   }
 
   // Marks a clue that was written for another word, with what can be done.
@@ -257,33 +253,22 @@ export class CluesView {
     entry.note.replaceChildren(...(word ? [`Written for ${word}: `, dataButton('Keep', { keep: light.name }), ' ', dataButton('Drop', { drop: light.name })] : []));
   }
 
-  // Offers the clues that the word of the cursor's light had before, if it has none, or one for another word.
-  async #offer() {
-    const { board, light, written } = this.#editor;
-    const isDue = this.isShown && light && board.isEntered(light) && (!board.hasClue(light) || staleWord(board, light, written));
-    const offered = isDue ? [light.name, board.spell(light), board.hasClue(light)].join() : '';
-    if (offered === this.#offered) return;
-    this.#offered = offered;
-    this.#offers.hidden = true;
-    const clues = isDue ? await this.actions.former(board.spell(light)) : [];
-    if (offered !== this.#offered || !clues.length) return;
-    const buttons = clues.slice(0, MOST_OFFERED).map((clue) => dataButton(clue, { use: light.name }));
-    this.#offers.replaceChildren(`Clues for ${this.#editor.answerOf(light)} before: `, ...buttons);
-    this.#fields.get(light.name)?.row.after(this.#offers);
-    this.#offers.hidden = false;
+  // Shows how the word of the cursor's light was clued before.
+  #showOld() {
+    const { light } = this.#editor;
+    this.#old.show(this.isShown ? light : null, this.#fields.get(light?.name)?.row);
   }
 
   #mark() {
-    const { light } = this.#editor;
-    const here = (light && this.#fields.get(light.name)) ?? null;
-    if (here !== this.#here) this.#here?.row.classList.remove('here');
-    this.#here = here;
-    this.#offer();
+    const { light, crossing } = this.#editor;
+    const [here, other] = [light, crossing].map((one) => (one && this.#fields.get(one.name)) ?? null);
+    this.#here = marked(this.#here, here, 'here');
+    this.#crossing = marked(this.#crossing, other, 'crossing');
+    this.#showOld();
     this.#more.show(here && this.isShown ? light : null, here?.row);
-    if (!here) return;
-    here.row.classList.add('here');
     if (!this.isShown) return;
-    if (!this.#root.contains(document.activeElement)) scrollWithin(this.#root, here.row);
+    if (here && !this.#root.contains(document.activeElement)) [this.#root, here.row.parentElement].forEach((column) => scrollWithin(column, here.row));
+    if (other) scrollWithin(other.row.parentElement, other.row);
   }
 
   #focused(field) {
@@ -410,6 +395,19 @@ function dataButton(text, data) {
   const button = Object.assign(document.createElement('button'), { type: 'button', textContent: text });
   Object.assign(button.dataset, data);
   return button;
+}
+
+// Gives the row of an entry a class, which that of another one had before; returns the entry.
+function marked(before, now, name) {
+  if (before !== now) before?.row.classList.remove(name);
+  now?.row.classList.add(name);
+  return now;
+}
+
+function box(className, ...inner) {
+  const made = Object.assign(document.createElement('div'), { className });
+  made.append(...inner);
+  return made;
 }
 
 // Scrolls a box so that an element of it is in sight, and nothing around the box.

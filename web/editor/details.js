@@ -2,8 +2,10 @@
 import { dups, stats } from './answers.js';
 import { lettersByColour, nameOfColour } from './colours.js';
 import { faultsOf } from './faults.js';
-import { parseRecord } from './record.js';
+import { languagesFor } from './language.js';
 import { refuse, say } from './messages.js';
+import { all, speakIn } from './page.js';
+import { parseRecord } from './record.js';
 import { warningsOf } from './rules.js';
 import { termed } from './terms.js';
 import { titleOf } from './words.js';
@@ -33,6 +35,7 @@ export class DetailsView {
         actions.leave(event);
       });
     }
+    elements.language.addEventListener('change', () => actions.language(elements.language.value));
     editor.on(['left'], () => this.#forgetTyped());
     elements.wordForm.addEventListener('submit', (event) => {
       event.preventDefault();
@@ -43,6 +46,7 @@ export class DetailsView {
   }
 
   #takeTexts() {
+    if (this.#elements.language.dataset.shown !== this.#editor.language) this.#showLanguage();
     for (const field of ['title', 'author', 'copyright', 'notes']) {
       const element = this.#elements[field];
       const text = this.#editor.textOf(field);
@@ -53,6 +57,17 @@ export class DetailsView {
       // as the browser shows it: a field drops line feeds, an area unites them
       element.dataset.kept = element.value;
     }
+  }
+
+  // The language, by which the spelling of the texts is checked.
+  #showLanguage() {
+    const { language } = this.#editor;
+    const { panel, language: choice } = this.#elements;
+    const options = languagesFor(language).map(({ code, name }) => Object.assign(document.createElement('option'), { value: code, textContent: name }));
+    choice.replaceChildren(Object.assign(document.createElement('option'), { value: '', textContent: 'not said' }), ...options);
+    choice.value = language;
+    choice.dataset.shown = language;
+    for (const field of all('#title, #notes', panel)) speakIn(field, language);
   }
 
   // Takes over what a field holds, if that is another text. The field stays as it is.
@@ -85,6 +100,7 @@ export class DetailsView {
   // Asks for counts and faults, if the tab is in sight.
   async refresh() {
     if (this.#elements.panel.hidden) return;
+    this.actions.refreshed();
     const editor = this.#editor;
     const [counted, repeated, found] = await Promise.all([editor.ask(stats()), editor.ask(dups()), faultsOf(editor)]);
     this.#showCounts(counted);
@@ -142,7 +158,7 @@ export class DetailsView {
     }
     const dead = board.lights.filter((light) => light.count === 0 && !board.isEntered(light));
     if (dead.length) items.unshift(check(dead.length === 1 ? `${titleOf(dead[0])} has no word left` : `${dead.length} lights have no word left`, dead[0].name));
-    for (const warning of warningsOf(board, (light) => this.#editor.answerOf(light), (light) => this.#editor.cluedBy(light).answer, (cell) => this.#editor.entryOf(cell))) {
+    for (const warning of warningsOf(this.#editor)) {
       const item = element('li', '', 'warning');
       const place = warning.cell === undefined ? { light: warning.light ?? '' } : { cell: warning.cell };
       item.append(button(`⚠ ${warning.text}`, { ...place, ...(warning.isClue && { tab: 'clue' }) }));

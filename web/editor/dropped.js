@@ -5,7 +5,7 @@ import { keptRebus } from './rebus.js';
 const HEADER = 0x34;
 const CIRCLE = 0x80;
 // the sections of a .puz that are kept, or told with others
-const TOLD = new Set(['GEXT', 'GRBS', 'RTBL', 'RUSR', 'LTIM']);
+export const TOLD = new Set(['GEXT', 'GRBS', 'RTBL', 'RUSR', 'LTIM']);
 
 // A text of a file as a message has it, which is not long.
 export const shortened = (text) => (text.length > 20 ? `${text.slice(0, 19)}…` : text);
@@ -38,15 +38,17 @@ export class Dropped {
 // Phrases as one: “a, b and c”.
 export const joinedText = (phrases) => [phrases.slice(0, -1).join(', '), ...phrases.slice(-1)].filter(Boolean).join(' and ');
 
+// The first of some names, and how many more there are, as in “1 Across, 2 Down and 3 more”.
+export const namesText = (names, most) => joinedText(names.length > most ? [...names.slice(0, most), `${names.length - most} more`] : names);
+
 // What a .puz has.
-export function droppedOfPuz(bytes) {
+export function droppedOfPuz(bytes, sections = sectionsOf(bytes)) {
   const [width, height] = [bytes[0x2c], bytes[0x2d]];
   const size = width * height;
   const state = bytes.subarray(HEADER + size, HEADER + 2 * size);
-  const sections = sectionsOf(bytes);
   const marks = [...(sections.get('GEXT') ?? [])].filter((mark) => mark & ~CIRCLE).length;
   return [
-    ...rebusText(keptRebus(rebusOf(bytes)).others),
+    ...rebusText(keptRebus(rebusOf(bytes, sections)).others),
     ...countText([...state].filter((entry) => !'-.\0'.includes(String.fromCharCode(entry))).length, 'a letter of a solver', 'letters of a solver'),
     ...countText(marks, 'the mark of a cell', 'marks of cells'),
     ...(sections.has('LTIM') ? ['the timer'] : []),

@@ -2,6 +2,7 @@
 import { Engine } from './engine.js';
 import { gradeOf, usualWeak } from './grades.js';
 import { colourField } from './colours.js';
+import { LANGUAGE } from './language.js';
 import { linksOf, noteField, numbersOf } from './links.js';
 import { entryOf, standing, withoutEntered } from './rebus.js';
 import { bodyOf, engineText, letterIn, parseRecord, placeOf, transition, unescapeText } from './record.js';
@@ -40,13 +41,31 @@ export class Editor extends EditorState {
     this.engine = new Engine(makeWorker, () => this.#restart());
   }
 
-  async begin(module, list, { record, pencil, puzzle, originals = [], written = [] }) {
+  // Begins with a session, and with its steps, if the browser kept them.
+  /** @param {import('./history.js').History | null} history */
+  async begin(module, list, { record, pencil, puzzle, originals = [], written = [] }, history = null) {
     this.module = module;
     await this.engine.call('load', { bytes: module });
     await this.#open(list, record);
     const words = adopted(this.board, new Map(written), this.record);
     this.change({ board: this.board, pencil: new Set(pencil), originals: new Map(originals), written: words, puzzle: puzzle ?? this.puzzle });
     this.#now = this.#state(this.record);
+    if (history) this.#takeHistory(history);
+  }
+
+  // Takes over the steps that the browser kept. If the session is newer than the last of them, that one comes before it.
+  #takeHistory({ past, now, future }) {
+    const isLast = isSameState(now, this.#now);
+    this.#past = isLast ? past : [...past, now];
+    this.#future = isLast ? future : [];
+    if (isLast) this.#now = { ...this.#now, from: now.from };
+  }
+
+  // The steps of the puzzle that is here.
+  /** @returns {import('./history.js').History} */
+  get history() {
+    const own = (steps) => steps.slice(steps.map(({ puzzle }) => puzzle === this.#now.puzzle).lastIndexOf(false) + 1);
+    return { past: own(this.#past), now: this.#now, future: own(this.#future) };
   }
 
   // The state as the browser keeps it: with the edits that are under way.
@@ -158,6 +177,11 @@ export class Editor extends EditorState {
   // The private note on the clue of a light.
   noteOf(light) {
     return this.originals.get(noteField(this.board, light)) ?? '';
+  }
+
+  // The language of the puzzle; '' if it has none.
+  get language() {
+    return this.originals.get(LANGUAGE) ?? '';
   }
 
   // The colour of a cell; '' if it has none.
@@ -289,9 +313,8 @@ export class Editor extends EditorState {
   /** @param {{ from: Place, to: Place }} places */
   #step({ from, to }, stroke = null) {
     const now = { ...this.#state(this.record), ...to, from };
-    const isSameState = ['record', 'pencil', 'originals', 'written'].every((part) => String(now[part]) === String(this.#now[part] ?? ''));
     const isLonger = stroke && stroke === this.#stroke;
-    if (isSameState) Object.assign(now, placesOf(this.#now));
+    if (isSameState(now, this.#now)) Object.assign(now, placesOf(this.#now));
     else {
       if (isLonger) now.from = this.#now.from;
       else this.#past.push(this.#now);
@@ -413,8 +436,9 @@ export class Editor extends EditorState {
     });
   }
 
-  // Changes what of the lists is no matter of the engine: the score below which words are marked, and whether candidates and fills are apart.
-  /** @param {{ weak?: number, apart?: boolean }} changed */
+  // Changes what of the lists is no matter of the engine: the score below which words are marked, and whether candidates and fills are apart,
+  // and the score at which a raising ends.
+  /** @param {{ weak?: number, apart?: boolean, target?: number | null }} changed */
   changeList(changed) {
     this.change({ list: { ...this.list, ...changed }, board: this.board });
   }
@@ -514,5 +538,8 @@ export class Editor extends EditorState {
 // The places of a step.
 /** @param {Step} step */
 const placesOf = ({ cursor, direction, from }) => ({ cursor, direction, from });
+
+// Whether two steps differ in their places alone.
+const isSameState = (one, other) => ['record', 'pencil', 'originals', 'written'].every((part) => String(one[part]) === String(other[part] ?? ''));
 
 const isSame = (one, other) => bodyOf(one).join('\n') === bodyOf(other).join('\n');

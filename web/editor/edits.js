@@ -4,6 +4,7 @@ import { colourField } from './colours.js';
 import { enumerated } from './enumeration.js';
 import { endingMessage, refusalText, refuse, say, sayAsIs } from './messages.js';
 import { $ } from './page.js';
+import { LANGUAGE } from './language.js';
 import { isReference, linkField, linkedTo, namedLights, noteField, referenceTo, spelledLink } from './links.js';
 import { hasItalics } from './marks.js';
 import { cellField } from './rebus.js';
@@ -138,6 +139,16 @@ export class Edits {
     return this.#texts([[this.#editor.board.clueField(light), clue]]);
   }
 
+  // Takes over clues and private notes of lights, such as those of a table, in one step; null stands for one that stays. Returns what that is refused for, or
+  // null.
+  /** @param {import('./clue-table.js').Change[]} changes */
+  takeClues(changes) {
+    const { board } = this.#editor;
+    const texts = changes.filter(({ clue }) => clue !== null).map(({ light, clue }) => [board.clueField(light), clue]);
+    const notes = changes.filter(({ note }) => note !== null).map(({ light, note }) => [noteField(board, light), note]);
+    return this.#texts(texts, notes);
+  }
+
   // Keeps a private note on the clue of a light; or none. Edits of one `stroke` are one step.
   note(light, text, stroke = null) {
     const { board } = this.#editor;
@@ -167,6 +178,11 @@ export class Edits {
   colour(index, colour, stroke = null) {
     const { coordinates } = this.#editor.board.cells[index];
     return this.edit([], { originals: this.#beside([[colourField(coordinates), colour]]), stroke });
+  }
+
+  // Gives the puzzle a language, or none.
+  language(code) {
+    return this.edit([], { originals: this.#beside([[LANGUAGE, code]]) });
   }
 
   // What is kept beside the record, with other texts by field; '' takes one away.

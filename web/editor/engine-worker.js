@@ -4,6 +4,7 @@ import * as answers from './answers.js';
 import { MOST, UNSCORED, gradeOf, totalOf } from './grades.js';
 import { closeNew } from './kin.js';
 import { Making } from './grids/making.js';
+import { reachOf } from './reach.js';
 import { letterIn, lettersOf, withoutLeast } from './record.js';
 import { enumerationsOf, joinLists } from './word-list.js';
 
@@ -238,8 +239,7 @@ function isNewWith(cells) {
 // Those of some cells that are in lights, in the lights that cross these, or in those that cross these again.
 function near(lights, cells) {
   const all = asked(answers.lights()).map((light) => answers.cellsOf(light).map(({ coordinates }) => coordinates));
-  let found = new Set(lights.flatMap(answers.cellsOf).map(({ coordinates }) => coordinates));
-  for (let ring = 0; ring < 2; ring++) found = new Set(all.filter((own) => own.some((cell) => found.has(cell))).flat());
+  const found = reachOf(all, lights.flatMap(answers.cellsOf).map(({ coordinates }) => coordinates), 2);
   return cells.filter((cell) => found.has(cell));
 }
 

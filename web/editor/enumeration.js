@@ -26,9 +26,23 @@ export function lengthsOfSpelling(spelling) {
   return counted(spelling.split(' ').map((word) => counted(word.split('-').map(lengthOf), '-')), ',');
 }
 
-// How many letters the enumeration of a clue counts; null if the clue has none, or one that counts something else, as “(3 wds.)” does.
-export function enumeratedLength(clue) {
+// The lengths that the enumeration of a clue has; null if the clue has none, or one that counts something else, as “(3 wds.)” does.
+function enumeratedLengths(clue) {
   const [, lengths, words] = LAST.exec(clue) ?? [];
-  if (!lengths || /w|hyph/i.test(words)) return null;
-  return lengths.match(/\d+/g).reduce((sum, length) => sum + Number(length), 0);
+  return !lengths || /w|hyph/i.test(words) ? null : lengths.match(/\d+/g).map(Number);
+}
+
+const sumOf = (lengths) => lengths.reduce((sum, length) => sum + length, 0);
+
+// How many letters the enumeration of a clue counts; null if it counts none.
+export function enumeratedLength(clue) {
+  const lengths = enumeratedLengths(clue);
+  return lengths && sumOf(lengths);
+}
+
+// The parts of an answer by the enumeration of its clue, as ICE and CREAM by (3,5); none if that counts other letters.
+export function partedBy(clue, answer) {
+  const lengths = enumeratedLengths(clue);
+  if (!lengths || sumOf(lengths) !== answer.length) return [];
+  return lengths.map((length, at) => answer.slice(sumOf(lengths.slice(0, at))).slice(0, length));
 }

@@ -1,5 +1,5 @@
 // Crosswords as text of Exolve: a section `exolve-…` a line or more, from `exolve-begin` to `exolve-end`.
-import { FileFault, Given, markedOf, plainOf } from './given.js';
+import { Given, lineOf, markedOf, plainOf } from './given.js';
 import { PLAIN, spelledLights } from './links.js';
 import { htmlText, markedUp } from './marks.js';
 
@@ -24,7 +24,7 @@ const OTHERWISE = new RegExp(`^\\s*(?:[,/]|&(?=\\s*\\d))|~(?=\\{)|(?<=\\})~|\\((
 const inClue = (text) => inLine(markedUp(text, htmlText)).replace(OTHERWISE, (found) => [...found].map(reference).join(''));
 
 // The file of a board. `textOf` gives the text of a field, `entryOf` the letters of a cell, and `links` those of clues.
-export function exolveOf(board, textOf, entryOf = ({ letter }) => letter, { links } = PLAIN) {
+export function exolveOf(board, textOf, entryOf = ({ letter }) => letter, { links, language = '' } = PLAIN) {
   const rows = Array.from({ length: board.height }, (_, row) => board.cells.slice(row * board.width, (row + 1) * board.width).map((cell) => spelled(cell, entryOf(cell))).join(' '));
   const isRebus = board.cells.some((cell) => entryOf(cell).length > 1);
   const line = (name, text) => (text ? [`  exolve-${name}: ${inLine(htmlText(text))}`] : []);
@@ -32,7 +32,7 @@ export function exolveOf(board, textOf, entryOf = ({ letter }) => letter, { link
   const clue = (light) => `    ${numbers(light)} ${inClue(textOf(`clue ${light.name}`))}`.trimEnd();
   const clues = (direction) => board.lights.filter((light) => light.direction === direction).map(clue);
   const whole = [
-    'exolve-begin', ...line('title', textOf('title')), ...line('setter', textOf('author')), ...line('copyright', textOf('copyright')), `  exolve-width: ${board.width}`,
+    'exolve-begin', ...line('language', language && `${language} Latin`), ...line('title', textOf('title')), ...line('setter', textOf('author')), ...line('copyright', textOf('copyright')), `  exolve-width: ${board.width}`,
     `  exolve-height: ${board.height}`, ...(isRebus ? ['  exolve-option: rebus-cells'] : []), ...(textOf('notes') ? ['  exolve-preamble:', ...inLines(htmlText(textOf('notes')))] : []), '  exolve-grid:', ...rows.map((row) => `    ${row}`),
     '  exolve-across:', ...clues('across'), '  exolve-down:', ...clues('down'), 'exolve-end',
   ];
@@ -61,7 +61,7 @@ function sectionsOf(text) {
 
 // The sections that are read, and those that say nothing of the puzzle itself.
 const FIELDS = { title: 'title', setter: 'author', copyright: 'copyright' };
-const READ = new Set(['width', 'height', 'grid', 'across', 'down', 'title', 'setter', 'copyright', 'preamble', 'id', 'maker', 'option', 'language', 'credits', 'email', 'prelude']);
+const READ = new Set(['width', 'height', 'grid', 'across', 'down', 'title', 'setter', 'copyright', 'preamble', 'id', 'maker', 'option', 'language', 'credits', 'email', 'prelude', 'explanations']);
 
 // The puzzle of a text. Throws a FileFault.
 export function readExolve(text) {
@@ -69,11 +69,13 @@ export function readExolve(text) {
   const of = (name) => sections.find((section) => section.name === name);
   const grid = of('grid')?.lines ?? [];
   const given = new Given(Number(of('width')?.value), Number(of('height')?.value));
-  if (grid.length !== given.height) throw new FileFault('the rows are not of the size that the file gives');
-  grid.forEach((line, at) => takeRow(given, at + 1, line));
+  const rows = given.repairs.fitted(grid.map((line) => cellsIn(line, given.width)), given, EMPTY);
+  rows.forEach((cells, above) => cells.forEach((cell, before) => takeCell(given, above + 1, before + 1, cell)));
   for (const [name, field] of Object.entries(FIELDS)) given.text(field, plainOf(of(name)?.value ?? ''));
+  given.language(of('language')?.value.split(/\s/)[0] ?? '');
   given.text('notes', plainOf((of('preamble') ?? of('prelude'))?.lines.join('\n') ?? ''));
   for (const direction of /** @type {const} */ (['across', 'down'])) for (const clue of cluesIn(of(direction)?.lines ?? [])) takeClue(given, clue, direction);
+  takeExplanations(given, of('explanations')?.lines ?? []);
   for (const { name } of sections) if (!READ.has(name)) given.drops(`the section exolve-${name}`);
   return given;
 }
@@ -81,16 +83,16 @@ export function readExolve(text) {
 // What marks of a cell say.
 const MARKS = { '|': ['right'], _: ['below'], '+': ['right', 'below'] };
 
-// Takes a row of cells, each with its marks. With a space between all cells, they may have several letters.
-function takeRow(given, row, line) {
+const EMPTY = '0';
+
+// The cells of a row, each with its marks. With a space between all cells, they may have several letters.
+function cellsIn(line, width) {
   const spaced = line.split(/\s+/);
-  const spelled = spaced.length === given.width ? spaced : line.replace(/\s/g, '').match(/[^|_+@*!~][|_+@*!~]*/g) ?? [];
-  const cells = spelled.map((cell) => /^([^|_+@*!~]+)([|_+@*!~]*)$/.exec(cell));
-  if (cells.length !== given.width || cells.includes(null)) throw new FileFault(`row ${row} of the grid does not have ${given.width} cells`);
-  cells.forEach(([, entry, marks], before) => takeCell(given, row, before + 1, entry, marks));
+  return spaced.length === width ? spaced : line.replace(/\s/g, '').match(/[^|_+@*!~][|_+@*!~]*/g) ?? [];
 }
 
-function takeCell(given, row, column, entry, marks) {
+function takeCell(given, row, column, spelled) {
+  const [, entry, marks] = /^([^|_+@*!~]+)([|_+@*!~]*)$/.exec(spelled) ?? [null, spelled, ''];
   if (entry === '.') {
     given.block(row, column);
     return;
@@ -100,7 +102,7 @@ function takeCell(given, row, column, entry, marks) {
   if (marks.includes('!')) given.drops('that a letter is shown to solvers', 'that letters are shown to solvers');
   if (marks.includes('*')) given.drops('a diagramless cell', 'diagramless cells');
   if (entry === '?') given.drops('a diagramless cell', 'diagramless cells');
-  else if (entry !== '0') given.entry(row, column, entry);
+  else if (entry !== EMPTY) given.entry(row, column, entry);
 }
 
 // Clues begin with their number; other lines go on with the one before.
@@ -123,6 +125,28 @@ function takeClue(given, clue, direction) {
   const named = (name) => `${/\d+/.exec(name)[0]} ${/d$/i.test(name) ? 'down' : /a$/i.test(name) ? 'across' : direction}`;
   const links = others.split(/[,&/]/).map((name) => name.trim()).filter(Boolean).map(named);
   const [, text, note] = NOTED.exec(told) ?? [null, told, ''];
-  if (note) given.drops('the note on a clue', 'notes on clues');
+  given.note({ number, direction, text: lineOf(note) });
   return given.clue({ number, direction, links, text: markedOf(text.replace(/~\{(.*?)\}~(?:\{.*?\})?/g, '$1')) });
+}
+
+// What says which clue a line explains: a title, which is for the lines below it, or a number, with a direction if it has one.
+const TITLE = /^(across|down)\s*:?$/i;
+const EXPLAINED = /^(\d+)(?:[ -]?(?=across|down))?(a|ac|across|d|dn|down)?(?:\s*[.:)-]\s*|\s+)(.+)$/i;
+
+// Takes explanations as notes on the clues that they name. Other lines go on with the one before.
+function takeExplanations(given, lines) {
+  /** @type {{ direction: 'across' | 'down' | '', notes: import('./given.js').GivenNote[] }} */
+  const found = { direction: '', notes: [] };
+  for (const line of lines) takeExplanation(given, found, lineOf(line));
+  found.notes.forEach((note) => given.note(note));
+}
+
+function takeExplanation(given, found, line) {
+  const [, title] = TITLE.exec(line) ?? [];
+  const [, number, spelled = found.direction, text] = EXPLAINED.exec(line) ?? [];
+  const last = found.notes.at(-1);
+  if (title) found.direction = title.toLowerCase();
+  else if (number && spelled) found.notes.push({ number, direction: /^a/i.test(spelled) ? 'across' : 'down', text });
+  else if (last) last.text += ` ${line}`;
+  else given.drops('a line of exolve-explanations', 'lines of exolve-explanations');
 }

@@ -1,4 +1,5 @@
 // How good the words in the grid are: the worst, the mean, and how many are weak, which are marked; and what is proved of fills.
+import { namesText } from './dropped.js';
 import { MOST, figuresOf, figuresText, gradeOf, scoreOf } from './grades.js';
 import { whenIdle } from './idle.js';
 import { wordsOf } from './record.js';
@@ -25,11 +26,13 @@ export class Figures {
   // that were fixed, by coordinates; and the lights that were held while others were raised, stage by stage, each with those that force it
   #proof = null;
 
-  // `elements` are the box, the text in it, and the button that goes to the worst word.
-  constructor(editor, elements, go) {
+  // `elements` are the box, the text in it, and the button that goes to the worst word. `told` is told the scores of the words in the grid, by the names of
+  // their lights.
+  constructor(editor, elements, { go, told }) {
     this.#editor = editor;
     this.#elements = elements;
     this.go = go;
+    this.told = told;
     editor.on(['step', 'board'], () => this.#soon());
   }
 
@@ -104,17 +107,34 @@ export class Figures {
     return this.#figures ? `${figuresText(this.#figures)}${this.#proofText()}` : '';
   }
 
-  // What is proved of the words that a fill made.
-  #proofText() {
+  #worstOf = (lights) => Math.min(...lights.map(({ name }) => this.#scores.get(name)));
+
+  // The words that the fill made of which something is proved: their lights, the worst score, and whether no fill is better; or null.
+  #judged() {
     const { board, pencil, list } = this.#editor;
     const proof = this.#proof;
-    if (!proof || proof.bound > MOST || !this.#isProved) return '';
+    if (!proof || proof.bound > MOST || !this.#isProved) return null;
     const isOwn = (light) => (!proof.names.length || proof.names.includes(light.name)) && light.cells.some((cell) => pencil.has(board.cells[cell].coordinates));
     const own = board.lights.filter((light) => this.#scores.has(light.name) && isOwn(light));
-    if (!own.length) return '';
-    const worstOf = (lights) => Math.min(...lights.map(({ name }) => this.#scores.get(name)));
-    const worst = worstOf(own);
-    const isBest = proof.bound <= gradeOf(worst, list.best) + 1;
+    const worst = this.#worstOf(own);
+    return own.length ? { own, worst, isBest: proof.bound <= gradeOf(worst, list.best) + 1 } : null;
+  }
+
+  // The lights that are proved to allow a light no better word; none if nothing is proved of it.
+  forcedAt({ name }) {
+    const judged = this.#judged();
+    if (!judged?.isBest || this.#scores.get(name) !== judged.worst) return [];
+    const [first] = this.#proof.held;
+    return first?.names.includes(name) ? this.#editor.board.lights.filter((light) => first.forced.includes(light.name)) : [];
+  }
+
+  // What is proved of the words that a fill made.
+  #proofText() {
+    const judged = this.#judged();
+    if (!judged) return '';
+    const { board, pencil, list } = this.#editor;
+    const proof = this.#proof;
+    const { own, worst, isBest } = judged;
     // a fill changes no letter in ink, but others in pencil might be other ones
     const isPart = [...proof.fixed.keys()].some((coordinates) => pencil.has(coordinates));
     const part = proof.names.length ? ' of these lights' : isPart ? ' of the cells that were empty' : '';
@@ -123,7 +143,7 @@ export class Figures {
     const cause = forced.length ? `: ${titlesOf(forced)} ${forced.length === 1 ? 'allows' : 'allow'} no more` : '';
     // those of the first stage, and of later ones the weak ones
     const held = new Set(proof.held.flatMap(({ names }, stage) => names.filter((name) => stage === 0 || this.#scores.get(name) < list.weak)));
-    const rest = worstOf(own.filter(({ name }) => !held.has(name)));
+    const rest = this.#worstOf(own.filter(({ name }) => !held.has(name)));
     const weaker = own.filter(({ name }) => this.#scores.get(name) < rest);
     const others = Number.isFinite(rest) && weaker.length ? `; all but ${titlesOf(weaker)} have ${rest} or more` : '';
     const text = `no fill${part} is better${isBest ? cause : ` than ${scoreOf(proof.bound, list.best) - 1}`}${others}`;
@@ -133,6 +153,7 @@ export class Figures {
   #tell() {
     const { box, text, worst } = this.#elements;
     box.hidden = !this.#figures;
+    this.told(this.#scores);
     if (!this.#figures) return;
     const { board } = this.#editor;
     const [name] = [...this.#scores].find(([, score]) => score === this.#figures.worst);
@@ -146,8 +167,4 @@ export class Figures {
 }
 
 // The names of lights, of many the first ones.
-function titlesOf(lights) {
-  const titles = lights.slice(0, MOST_NAMED).map(titleOf);
-  if (lights.length > MOST_NAMED) titles.push(`${lights.length - MOST_NAMED} more`);
-  return [titles.slice(0, -1).join(', '), ...titles.slice(-1)].filter(Boolean).join(' and ');
-}
+const titlesOf = (lights) => namesText(lights.map(titleOf), MOST_NAMED);

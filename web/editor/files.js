@@ -1,23 +1,29 @@
 // Files: what is opened, dropped and saved.
 import { toBytes, toText } from '../xw.js';
 import { lawfulBeside } from './beside.js';
-import { csvOf, htmlOf } from './clue-sheet.js';
-import { Dropped, droppedOfPuz, joinedText } from './dropped.js';
+import { htmlOf } from './clue-sheet.js';
+import { clueChanges, clueTable, countClues, readClueTable } from './clue-table.js';
+import { Dropped, countText, droppedOfPuz, joinedText } from './dropped.js';
 import { enumerated } from './enumeration.js';
 import { exolveOf, readExolve } from './exolve.js';
 import { FileFault } from './given.js';
 import { ipuzOf, readIpuz } from './ipuz.js';
 import { jpzOf, readJpz } from './jpz.js';
+import { solutionOf } from './locked.js';
 import { lossesOf } from './losses.js';
-import { SESSION_HEAD, foreignKind, hasCommands, isListText, isPuz, kindOf } from './kinds.js';
+import { SESSION_HEAD, foreignKind, hasCommands, isListText, isMailed, isMeant, isPuz, kindOf } from './kinds.js';
+import { attachedTo } from './mail.js';
 import { refusalText, refuseAsIs as refuse, sayAsIs as say } from './messages.js';
+import { readPuz } from './puz.js';
 import { rebusOf, withRebus } from './puz-sections.js';
 import { asVersion13, originalsOf } from './puz-versions.js';
 import { readDeck, readQxw } from './qxw.js';
 import { isRebus, keptRebus } from './rebus.js';
 import { bodyOf } from './record.js';
+import { counted } from './repairs.js';
 import { termed } from './terms.js';
 import { asVersion1, letterRows, recordOfRows } from './text-grids.js';
+import { isScrambled } from './unscramble.js';
 import { listText } from './word-list.js';
 import { titleOf } from './words.js';
 import { staleClues } from './written.js';
@@ -28,6 +34,8 @@ const PENCIL = '# pencil ';
 const ORIGINALS = '# originals ';
 const WRITTEN = '# written ';
 
+// how deep zips and mails are opened in one another
+const MOST_PACKED = 3;
 // the most bytes of a file that is opened; larger ones are none of those that the page knows
 const MOST_BYTES = 1 << 27;
 
@@ -50,13 +58,13 @@ export class Files {
     this.actions = actions;
   }
 
-  // Opens a file of any kind, or one that is said to be a word list. Returns whether it could.
-  async open(file, isList = false) {
+  // Opens a file of any kind, or one that is said to be a `list` of words or a table of `clues`. Returns whether it could.
+  async open(file, as = '') {
     if (!this.actions.mayEdit()) return false;
     const content = await this.#contentOf(file);
     if (!content) return false;
     const { name, bytes } = content;
-    const kind = kindOf(name, bytes);
+    const kind = as === 'clues' ? as : kindOf(name, bytes);
     try {
       switch (kind) {
         case 'list':
@@ -66,7 +74,9 @@ export class Files {
         case 'text2':
           return await this.#openText2(name, bytes);
         case 'rows':
-          return await (isList ? this.openList(name, bytes) : this.#openRows(name, bytes));
+          return await (as === 'list' ? this.openList(name, bytes) : this.#openRows(name, bytes));
+        case 'clues':
+          return await this.#openClues(name, readClueTable(listText(bytes)));
         case 'ipuz':
         case 'jpz':
         case 'exolve':
@@ -120,22 +130,63 @@ export class Files {
     return this.#opened(name);
   }
 
-  // Opens a .puz or a text file. The characters of a later .puz that earlier ones cannot have are kept beside its texts.
+  // Opens a .puz or a text file.
   async #openPuzzle(name, bytes) {
+    if (isPuz(bytes) && isScrambled(bytes)) return this.#openScrambled(name, bytes);
+    let read;
+    try {
+      read = await this.#soundPuzzle(bytes);
+    } catch (fault) {
+      if (!fault.status || !isPuz(bytes)) throw fault;
+      return await this.#openGiven(name, puzDespite(fault, bytes), { fault });
+    }
+    const { dropped, ...puzzle } = read;
+    await this.#editor.replace(puzzle);
+    return this.#opened(name, dropped);
+  }
+
+  // Opens a .puz with a scrambled solution, with its letters or without them.
+  async #openScrambled(name, bytes) {
+    // which is refused if it has no grid
+    readPuz(bytes);
+    const { askKey, words } = this.actions;
+    const found = await solutionOf(name, bytes, { ask: askKey, searching: () => say(`trying the keys of ${name} …`, 'busy', true), words });
+    if (!found) return this.#refuse(`${name} is not opened`);
+    const given = readPuz(bytes, found.solution);
+    if (!found.found) given.drops('its solution, which is scrambled');
+    return this.#openGiven(name, given, { found: found.found });
+  }
+
+  // What a .puz or a text file has. The characters of a later .puz that earlier ones cannot have are kept beside its texts.
+  async #soundPuzzle(bytes) {
     const { bytes: puzzle, texts } = isPuz(bytes) ? asVersion13(bytes) : { bytes, texts: [] };
     const record = await this.#editor.engine.call('read', { puzzle });
     const strange = texts.length ? originalsOf(texts, await this.#editor.engine.call('lights', { record })) : [];
     const { originals, lines } = keptRebus(isPuz(puzzle) ? rebusOf(puzzle) : []);
-    await this.#editor.replace({ record: [record.trimEnd(), ...lines, ''].join('\n'), originals: [...strange, ...originals] });
-    return this.#opened(name, isPuz(puzzle) ? droppedOfPuz(puzzle) : []);
+    return { record: [record.trimEnd(), ...lines, ''].join('\n'), originals: [...strange, ...originals], dropped: isPuz(puzzle) ? droppedOfPuz(puzzle) : [] };
   }
 
-  // Opens what a reader made of a file: its clues are at the lights that the engine finds in its grid.
-  async #openGiven(name, given) {
+  // Opens what a reader made of a file: its clues are at the lights that the engine finds in its grid. What was wrong in it is shown before. `fault` is why
+  // the engine refused the file itself, and `found` says how its solution was found.
+  async #openGiven(name, given, { fault = null, found = '' } = {}) {
     const { engine } = this.#editor;
     const { record, originals, lost } = given.recordWith(await engine.call('lights', { record: given.grid }));
-    await this.#editor.replace({ record: await engine.call('read', { record }), originals });
-    return this.#opened(name, given.dropped, lost ? `; ${lost} ${lost === 1 ? 'clue has' : 'clues have'} no place in its grid` : '');
+    const read = await engine.call('read', { record });
+    const repairs = given.repairs.lines.length || !fault ? given.repairs.lines : [refusalText(fault.status)];
+    if (repairs.length && (await this.actions.askAnyway(name, repairs)) !== 'open') return this.#refuse(`${name} is not opened`);
+    await this.#editor.replace({ record: read, originals });
+    const repaired = repairs.length ? `, with ${counted(repairs.length, 'repair')}` : '';
+    return this.#opened(name, given.dropped, `${found}${repaired}${lost ? `; ${lost} ${lost === 1 ? 'clue has' : 'clues have'} no place in its grid` : ''}`);
+  }
+
+  // Shows what a table of clues changes in the puzzle, and changes it in one step if the user agrees.
+  async #openClues(name, rows) {
+    const editor = this.#editor;
+    const found = await editor.inOrder(() => clueChanges(editor, rows));
+    if (!(await this.actions.askClues(name, found))) return this.#refuse(`${name}: the clues stay as they are`);
+    if (await this.actions.takeClues(found.changes)) return false;
+    say(`${name}: ${joinedText(countClues(found.changes))} taken over; undo takes this back`, 'good');
+    return true;
   }
 
   // Adds the puzzles of a file to those that the browser keeps.
@@ -156,35 +207,51 @@ export class Files {
     return false;
   }
 
-  // The name and the bytes of a file, or of one in a zip; null if there are too many, or the file cannot be read, as a folder cannot.
+  // The name and the bytes of a file, or of one in a zip or a mail; null if there are too many, or the file cannot be read, as a folder cannot.
   async #contentOf(file) {
     if (file.size > MOST_BYTES) {
       refuse(`${file.name} is too large to be a puzzle, a session or a word list: nothing is opened`);
       return null;
     }
     try {
-      const bytes = new Uint8Array(await file.arrayBuffer());
-      return isZip(bytes) ? await this.#inZip(file.name, filesIn(bytes)) : { name: file.name, bytes };
+      return await this.#unpacked({ name: file.name, bytes: new Uint8Array(await file.arrayBuffer()) });
     } catch {
       refuse(`${file.name} cannot be read`);
       return null;
     }
   }
 
-  // The one file of a zip, or of several the one that the user chooses. A zip that only packs a puzzle, as .jpz files are, keeps its name.
-  async #inZip(zip, files) {
-    const [only, ...others] = files;
-    if (!only) return this.#refuseZip(`${zip} is a zip without a file that can be read: nothing is opened`);
-    const chosen = others.length ? await this.actions.askFile(zip, files.map(({ name }) => name)) : 0;
-    const file = files[chosen ?? -1];
-    if (!file) return this.#refuseZip(`${zip} is not opened`);
-    const bytes = await unzipped(file, MOST_BYTES);
-    const name = file.name.replace(/^.*\//, '');
-    if (!bytes) return this.#refuseZip(`${zip}: ${name} is damaged, or too large to be a puzzle, a session or a word list: nothing is opened`);
-    return { name: others.length || /\.zip$/i.test(zip) ? name : zip, bytes };
+  // What a file has that only packs others, which may do so too.
+  async #unpacked(content, depth = 0) {
+    const { name, bytes } = content;
+    const isPacked = depth < MOST_PACKED && (isZip(bytes) || isMailed(bytes));
+    if (!isPacked) return content;
+    const within = await (isZip(bytes) ? this.#inZip(name, filesIn(bytes)) : this.#inMail(name, attachedTo(bytes).filter(isMeant)));
+    return within && this.#unpacked(within, depth + 1);
   }
 
-  #refuseZip(text) {
+  // The one file of a zip, or of several the one that the user chooses. A zip that only packs a puzzle, as .jpz files are, keeps its name.
+  async #inZip(zip, files) {
+    if (!files.length) return this.#refuseWhole(`${zip} is a zip without a file that can be read: nothing is opened`);
+    const file = await this.#oneOf(zip, files);
+    if (!file) return null;
+    const bytes = await unzipped(file, MOST_BYTES);
+    const name = file.name.replace(/^.*\//, '');
+    if (!bytes) return this.#refuseWhole(`${zip}: ${name} is damaged, or too large to be a puzzle, a session or a word list: nothing is opened`);
+    return { name: files.length > 1 || /\.zip$/i.test(zip) ? name : zip, bytes };
+  }
+
+  // The one file of a mail, or of several the one that the user chooses.
+  async #inMail(mail, files) {
+    return files.length ? this.#oneOf(mail, files) : this.#refuseWhole(`${mail} is a mail without a file that can be opened: nothing is opened`);
+  }
+
+  async #oneOf(holder, files) {
+    const chosen = files.length > 1 ? await this.actions.askFile(holder, files.map(({ name }) => name)) : 0;
+    return files[chosen ?? -1] ?? this.#refuseWhole(`${holder} is not opened`);
+  }
+
+  #refuseWhole(text) {
     refuse(text);
     return null;
   }
@@ -307,16 +374,22 @@ export class Files {
   // Saves a file that can be unfinished and have bars: `ipuz`, `jpz` or `exolve`.
   saveAs(form) {
     const editor = this.#editor;
-    const more = { colourOf: (cell) => editor.colourOf(cell), links: editor.links };
+    const more = { colourOf: (cell) => editor.colourOf(cell), links: editor.links, language: editor.language };
     this.#givePuzzle(new TextEncoder().encode(WRITERS[form](editor.board, this.#textOf, this.#entryOf, more)), this.#name(form), this.#lossNote(form));
   }
 
-  // Saves the clues as a table: `csv` or `html`.
-  saveClues(form) {
+  // Saves the clues as a table in CSV, with the private notes.
+  saveClues() {
     const editor = this.#editor;
-    const told = { answerOf: (light) => editor.answerOf(light), cluedBy: (light) => editor.cluedBy(light), isLinked: (light) => editor.links.headOf.has(light) };
-    const of = [editor.board, this.#textOf, enumerated, told];
-    this.#give(new TextEncoder().encode(form === 'csv' ? csvOf(...of) : htmlOf(...of)), this.#name(form), this.#lossNote(form));
+    const notes = countText(editor.board.lights.filter((light) => editor.noteOf(light)).length, 'a private note', 'private notes');
+    this.#give(new TextEncoder().encode(clueTable(editor)), this.#name('csv'), `${notes.length ? `, with ${notes[0]}` : ''}${this.#lossNote('csv')}`);
+  }
+
+  // Saves the clues as a sheet in HTML.
+  saveSheet() {
+    const editor = this.#editor;
+    const told = { answerOf: (light) => editor.answerOf(light), cluedBy: (light) => editor.cluedBy(light), isLinked: (light) => editor.links.headOf.has(light), language: editor.language };
+    this.#give(new TextEncoder().encode(htmlOf(editor.board, this.#textOf, enumerated, told)), this.#name('html'), this.#lossNote('html'));
   }
 
   #givePuzzle(bytes, name, why = '') {
@@ -370,6 +443,15 @@ function givenBy(reader, bytes) {
   } catch (fault) {
     if (fault.status) throw fault;
     throw new FileFault('it is not as its format has it');
+  }
+}
+
+// What can be read of a .puz that is refused for a fault. If it has not even a grid, it stays refused.
+function puzDespite(fault, bytes) {
+  try {
+    return readPuz(bytes);
+  } catch {
+    throw fault;
   }
 }
 

@@ -1,9 +1,11 @@
 // Fills: `autofill` in slices, so that one can be stopped. Each slice goes on with what the last one learned. A search that is not done soon goes on in
 // other workers too, each with a seed of its own; the first `filled` or `nofill` ends all. If the words have scores, the fill is raised then.
 import { grades, outcomeOf } from './answers.js';
-import { MOST, scoreOf, totalOf } from './grades.js';
+import { gradeFrom, totalOf } from './grades.js';
+import { progressText } from './improving.js';
 import { closeNew } from './kin.js';
-import { refuse, say } from './messages.js';
+import { Mender } from './mending.js';
+import { endingMessage, refuse, say } from './messages.js';
 import { Raiser } from './raising.js';
 import { letterIn } from './record.js';
 import { titleOf } from './words.js';
@@ -38,8 +40,13 @@ export class Filler {
   #editor;
   #helpers;
   #raiser;
+  #mender;
   #seed = 0;
   #isStopped = false;
+  // whether the raising goes on until no fill is better
+  #isEndless = false;
+  // takes away what was said of a raising, if it stands still
+  #endMessage = () => {};
   // the lists whose words other workers have loaded, for raisings
   /** @type {Uint8Array[]} */
   #warmed = [];
@@ -47,16 +54,21 @@ export class Filler {
   isRunning = false;
 
   // `fills` keeps what is found. `show` shows how far a fill is, `explain` where a dead end comes from; `figures` takes over what a raising proved, and
-  // returns what is said of the fill.
-  constructor(editor, helpers, fills, { show, explain, figures }) {
+  // returns what is said of the fill; `offer` shows better words around a light, or with null none.
+  constructor(editor, helpers, fills, { show, explain, figures, offer }) {
     this.#editor = editor;
     this.#helpers = helpers;
     this.#raiser = new Raiser(editor, helpers, () => fills.add(true), (tried) => this.#showTried(tried));
+    this.#mender = new Mender(editor, helpers);
     this.fills = fills;
     this.show = show;
     this.explain = explain;
     this.figures = figures;
-    editor.on(['list'], () => this.#warm());
+    this.offer = offer;
+    editor.on(['list'], () => {
+      this.#warm();
+      this.#raiser.aim(this.#target);
+    });
   }
 
   // A fill of words with scores is raised in other workers, which load each new list ahead.
@@ -67,14 +79,31 @@ export class Filler {
     this.#helpers.warm();
   }
 
+  // The grade of the worst word at which a raising ends that goes on.
+  get #target() {
+    const { target, best } = this.#editor.list;
+    return target === null ? Infinity : gradeFrom(target, best);
+  }
+
+  // Whether words are raised or mended, beside which the grid can be edited.
   get isRaising() {
-    return this.#raiser.isRunning;
+    return this.#raiser.isRunning || this.#mender.isRunning;
+  }
+
+  // Whether a fill is raised, or will be, until no fill is better.
+  get isImproving() {
+    return this.#isEndless && (this.isRunning || this.isRaising);
   }
 
   stop() {
     if (this.isRunning) say('stopping …', 'busy');
     this.#isStopped = true;
+    this.#endRaising();
+  }
+
+  #endRaising() {
     this.#raiser.stop();
+    this.#mender.stop();
   }
 
   // The cells that a fill may enter: those of the chosen lights, or all.
@@ -85,11 +114,22 @@ export class Filler {
     return [...indices].map((index) => board.cells[index]);
   }
 
+  // Raises the fill until no fill is better, or stops that. A grid that is not full is filled first; a search that is under way goes on so.
+  improve() {
+    if (this.isImproving) return this.stop();
+    if (!this.isRunning && !this.#raiser.isRunning) return this.run(false, true);
+    this.#isEndless = true;
+    this.#raiser.goOn(this.#target);
+    if (this.isRaising) this.#tellRaising();
+    return undefined;
+  }
+
   // Fills what is empty, and raises the fill; `isAnother` first empties what is in pencil, and takes the next seed. If nothing is empty, the letters
-  // in pencil are raised again.
-  async run(isAnother) {
+  // in pencil are raised again. With `isEndless` they are raised until no fill is better.
+  async run(isAnother, isEndless = false) {
     if (this.isRunning) return;
-    this.#raiser.stop();
+    this.#endRaising();
+    this.#isEndless = isEndless;
     this.#isStopped = false;
     // what is under way comes first, such as another puzzle
     await this.#editor.inOrder(() => {});
@@ -193,29 +233,68 @@ export class Filler {
     if (!known.length || known.some(Number.isNaN)) return say(`filled; ${NEXT}`, 'good');
     const names = [...editor.chosen];
     const fixed = new Map(board.cells.filter(({ letter, coordinates }) => letter && !cells.includes(coordinates)).map(({ coordinates, letter }) => [coordinates, letter]));
+    this.#endRaising();
     const raising = this.#raiser.run({
       base: without(editor.record, filled), names: this.#names, cells, seed: this.#seed, grade: Math.min(...known), sum: totalOf(known),
-      bound: this.figures.boundOf(names),
+      bound: this.figures.boundOf(names), isEndless: this.#isEndless, target: this.#target,
     });
-    if (this.#raiser.isRunning) {
-      say('filled; its worst word is raised … Esc ends this', 'busy');
-      this.show({ isRaising: true });
-    }
-    const { proved: bound, held, isStopped, isChanged } = await raising;
+    if (this.isRaising) this.#tellRaising();
+    const { proved: bound, held, isReached, isStopped, isChanged } = await raising;
     if (this.isRunning || this.isRaising) return;
     this.show(null);
-    if (isChanged) return;
+    if (isChanged) return this.#endMessage();
     const isBack = isAnother && !isStopped && (await this.#putBack(filled));
     const text = await this.figures.prove({ bound, names, fixed, held });
-    say(`${isStopped ? 'stopped' : 'filled'}: ${text}${isBack ? '; it is the fill from before, since no better one was found' : ''}`, 'good');
+    const how = isReached ? `none is under ${editor.list.target}` : 'filled';
+    say(`${isStopped ? 'stopped' : how}: ${text}${isBack ? '; it is the fill from before, since no better one was found' : ''}`, 'good');
   }
 
-  // The running line of a raising, as in “worst 62, mean 81; no fill is better than 84; looking for 63 or more; 6 s”.
-  #showTried({ least, bound, isPart, seconds }) {
-    const { list: { best } } = this.#editor;
-    const proved = bound <= MOST ? `no fill is better than ${scoreOf(bound, best) - 1}; ` : '';
-    const { worst } = this.figures;
-    say(`filled; its worst word is raised: ${worst ? `${worst}; ` : ''}${proved}looking for ${scoreOf(least, best)} or more${isPart ? ' for the others' : ''}; ${seconds} s … Esc ends this`, 'busy');
+  // Says that a raising begins. One that goes on leaves the line of messages to others.
+  #tellRaising() {
+    const { target } = this.#editor.list;
+    if (this.#isEndless) say(`filled; its worst word is raised until ${target === null ? 'no fill is better' : `none is under ${target}`}, or Esc stops it`);
+    else say('filled; its worst word is raised … Esc ends this', 'busy');
+    this.#endMessage = endingMessage();
+    this.show({ isRaising: true, text: this.figures.worst });
+  }
+
+  // Looks for better words around a light, and offers them.
+  async mend(light) {
+    if (this.isRunning) return;
+    this.#endRaising();
+    this.offer(null);
+    [this.#isStopped, this.#isEndless] = [false, false];
+    // a raising that ends may have a fill on its way into the grid
+    await this.#editor.inOrder(() => {});
+    const there = this.#editor.board.byName.get(light.name);
+    if (this.isRunning || this.isRaising || this.#isStopped || !there) return;
+    say(`better words are looked for around ${titleOf(there)} … Esc ends this`, 'busy');
+    const mending = this.#mender.run(there, ++this.#seed);
+    this.show({ isRaising: true });
+    const told = await mending;
+    if (this.isRunning || this.isRaising) return;
+    this.show(null);
+    this.#rest();
+    this.#tellMended(there, told);
+  }
+
+  #tellMended(light, { offer, isProved, isChanged, isLocked }) {
+    const around = `around ${titleOf(light)}`;
+    if (isChanged) return say(`the grid was changed, so nothing is mended ${around}`);
+    if (isLocked) return refuse(`every letter of ${titleOf(light)} is locked: put letters in pencil (=)`);
+    if (!offer) return say(isProved ? `no fill ${around} is better, with the rest as it is` : `${this.#isStopped ? 'stopped: ' : ''}no better words were found ${around}`);
+    this.offer(offer);
+    return say(`better words are found ${around}: look at them in the tab Words`, 'good');
+  }
+
+  // The running line of a raising.
+  #showTried(tried) {
+    const text = progressText(tried, { worst: this.figures.worst, best: this.#editor.list.best });
+    if (tried.isEndless) this.show({ isRaising: true, text });
+    else {
+      say(`filled; its worst word is raised: ${text} … Esc ends this`, 'busy');
+      this.#endMessage = endingMessage();
+    }
   }
 
   // Puts the best fill that is known into the grid again, if it is better than the one that is there. Returns whether it is.

@@ -121,14 +121,7 @@ export class Fills {
   }
 
   #card(fill, figures) {
-    const { board } = this.#editor;
-    const card = Object.assign(document.createElement('button'), { type: 'button', className: 'pattern fill' });
-    const changed = new Set([...fill].filter(([coordinates, letter]) => board.at(coordinates)?.letter !== letter).map(([coordinates]) => coordinates));
-    const blocks = new Set(board.cells.filter((cell) => cell.block).map((cell) => cell.coordinates));
-    const bars = new Set(board.cells.flatMap((cell) => [...(cell.right ? [`${cell.coordinates} right`] : []), ...(cell.below ? [`${cell.coordinates} below`] : [])]));
-    card.append(sketchOf({ width: board.width, height: board.height, blocks, bars, letters: fill }, changed), Object.assign(document.createElement('small'), { textContent: figures }));
-    card.setAttribute('aria-pressed', String(!changed.size));
-    card.setAttribute('aria-label', `Fill: ${figures}`);
+    const card = fillCard(this.#editor.board, fill, figures);
     card.addEventListener('click', () => this.#choose(fill));
     return card;
   }
@@ -151,6 +144,18 @@ export class Fills {
     const lines = [...cleared.map((cell) => `clear ${cell.coordinates}`), ...entered.map((cell) => `set ${cell.coordinates} ${fill.get(cell.coordinates)}`)];
     return editor.edit(lines, { pencil, only });
   }
+}
+
+// A fill as a button: a small grid, in which the letters that differ from the board are marked, and what is said of it.
+export function fillCard(board, fill, told) {
+  const card = Object.assign(document.createElement('button'), { type: 'button', className: 'pattern fill' });
+  const changed = new Set([...fill].filter(([coordinates, letter]) => board.at(coordinates)?.letter !== letter).map(([coordinates]) => coordinates));
+  const blocks = new Set(board.cells.filter((cell) => cell.block).map((cell) => cell.coordinates));
+  const bars = new Set(board.cells.flatMap((cell) => [...(cell.right ? [`${cell.coordinates} right`] : []), ...(cell.below ? [`${cell.coordinates} below`] : [])]));
+  card.append(sketchOf({ width: board.width, height: board.height, blocks, bars, letters: fill }, changed), Object.assign(document.createElement('small'), { textContent: told }));
+  card.setAttribute('aria-pressed', String(!changed.size));
+  card.setAttribute('aria-label', `Fill: ${told}`);
+  return card;
 }
 
 const isSame = (one, other) => one.size === other.size && [...one].every(([cell, letter]) => other.get(cell) === letter);

@@ -1,13 +1,17 @@
-// A puzzle as a file tells it: its cells, texts and clues, and what of it the page does not keep. Each reader of a format makes one.
+// A puzzle as a file tells it: its cells, texts and clues, what of it the page does not keep, and what is wrong in it. Each reader of a format makes one.
 import { colourField } from './colours.js';
 import { Dropped } from './dropped.js';
+import { LANGUAGE, isLanguage } from './language.js';
 import { hasItalics, withoutItalics } from './marks.js';
 import { cellField } from './rebus.js';
 import { engineText, escapeText, textLines } from './record.js';
+import { Repairs, shownText } from './repairs.js';
 
 /** @typedef {import('./answers.js').Direction} Direction */
 // A clue is at a cell, or at the light that has its number. `links` names the lights that it goes on in, as `N DIR`.
 /** @typedef {{ at: string | null, number: string, direction: Direction, text: string, links: string[] }} GivenClue */
+// A note of the setter on a clue, at the light that has its number.
+/** @typedef {{ number: string, direction: Direction, text: string }} GivenNote */
 // How the engine tells the lights of a grid: their names, directions and first cells.
 /** @typedef {{ name: string, direction: Direction, row: number, column: number }} FirstCell */
 
@@ -27,6 +31,9 @@ export class Given {
   texts = new Map();
   /** @type {GivenClue[]} */
   clues = [];
+  #language = '';
+  /** @type {GivenNote[]} */
+  #notes = [];
   #blocks = new Set();
   #bars = new Set();
   #circles = new Set();
@@ -40,6 +47,8 @@ export class Given {
   #colours = [];
   // what else is not kept
   #dropped = new Dropped();
+  // what is wrong, and what is made of it
+  repairs = new Repairs();
 
   // Throws a FileFault if there is no such grid.
   constructor(width, height) {
@@ -48,8 +57,11 @@ export class Given {
     this.height = height;
   }
 
-  has(row, column) {
-    return row >= 1 && column >= 1 && row <= this.height && column <= this.width;
+  // Whether a cell lies in the grid. One that does not is told, and is to be left out.
+  admits(row, column) {
+    const isInside = Number.isInteger(row) && Number.isInteger(column) && row >= 1 && column >= 1 && row <= this.height && column <= this.width;
+    if (!isInside) this.repairs.add(`a cell lies outside the grid, in row ${row}, column ${column}: it is left out`);
+    return isInside;
   }
 
   block(row, column) {
@@ -76,10 +88,10 @@ export class Given {
     }
   }
 
-  // What is in a cell: a letter, or several. Throws a FileFault if it is something else.
+  // What is in a cell: a letter, or several. A cell with something else stays empty.
   entry(row, column, given) {
-    const entry = String(given).toUpperCase();
-    if (!/^[A-Z]+$/.test(entry)) throw new FileFault(`row ${row}, column ${column} has “${String(given).slice(0, 10)}” for a letter`);
+    const entry = this.repairs.lettersOf(row, column, given);
+    if (!entry) return;
     this.#letters.set(`${row} ${column}`, entry.slice(0, 1));
     if (entry.length > 1) this.#rebus.push([cellField(`${row} ${column}`), entry]);
   }
@@ -88,9 +100,20 @@ export class Given {
     if (text) this.texts.set(field, text);
   }
 
+  // The language of its texts, such as en-GB; or ''.
+  language(code) {
+    if (isLanguage(code)) this.#language = code;
+    else if (code) this.drops('the language');
+  }
+
   /** @param {{ at?: string | null, number?: string | number, direction: Direction, text: string, links?: string[] }} clue */
   clue({ at = null, number = '', direction, text, links = [] }) {
     if (text) this.clues.push({ at, number: String(number), direction, text, links });
+  }
+
+  /** @param {GivenNote} note */
+  note(note) {
+    if (note.text) this.#notes.push(note);
   }
 
   // Counts what is not kept, under the words for one and those for several.
@@ -119,8 +142,8 @@ export class Given {
     const byName = new Map(lights.map(({ name, row, column, direction }) => [name, `${row} ${column} ${direction}`]));
     const all = new Set(byName.values());
     const placed = this.clues.map(({ at, number, direction, text, links }) => ({ field: at ? `${at} ${direction}` : byName.get(`${number} ${direction}`), text, links }));
-    const known = placed.filter(({ field }) => all.has(field));
-    const originals = [...this.#rebus, ...this.#colours];
+    const known = this.#eachOnce(placed.filter(({ field }) => all.has(field)));
+    const originals = [...this.#rebus, ...this.#colours, ...(this.#language ? [[LANGUAGE, this.#language]] : [])];
     const lines = [...this.texts, ...known.map(({ field, text }) => [`clue ${field}`, text])].flatMap(([field, text]) => {
       const { near, count } = engineText(text);
       if (count || hasItalics(text)) originals.push([field, text]);
@@ -131,7 +154,27 @@ export class Given {
       if (others.includes(undefined)) this.drops('the link of a clue to other lights', 'links of clues to other lights');
       else if (others.length) originals.push([`link ${field}`, others.join(', ')]);
     }
-    return { record: [this.grid, ...lines.map((line) => `${line}\n`)].join(''), originals, lost: placed.length - known.length };
+    originals.push(...this.#placedNotes(byName));
+    return { record: [this.grid, ...lines.map((line) => `${line}\n`)].join(''), originals, lost: placed.filter(({ field }) => !all.has(field)).length };
+  }
+
+  // The notes as originals are kept, those of one clue as one.
+  #placedNotes(byName) {
+    /** @type {Map<string, string>} */
+    const notes = new Map();
+    for (const { number, direction, text } of this.#notes) {
+      const [place, before] = [byName.get(`${number} ${direction}`), notes.get(byName.get(`${number} ${direction}`))];
+      if (place) notes.set(place, before ? `${before} ${text}` : text);
+      else this.drops('the note on a clue', 'notes on clues');
+    }
+    return [...notes].map(([place, text]) => /** @type {[string, string]} */ ([`note ${place}`, text]));
+  }
+
+  // The last clue of each light.
+  #eachOnce(clues) {
+    const last = new Map(clues.map((clue) => [clue.field, clue]));
+    for (const clue of clues) if (last.get(clue.field) !== clue) this.repairs.add(`a clue has the place of another one: “${shownText(clue.text)}” is left out`);
+    return [...last.values()];
   }
 
   // Whether a bar lies between two cells.
@@ -161,6 +204,9 @@ const bodyOf = (text, gap) => new DOMParser().parseFromString(String(text).repla
 
 // A text without its marks, which are those of HTML.
 export const plainOf = (text) => (/[<&]/.test(text) ? bodyOf(text, '\n').textContent : String(text)).trim();
+
+// The same in one line.
+export const lineOf = (text) => plainOf(text).replace(/\s*\n\s*/g, ' ');
 
 // The text of a node without its marks but for italics.
 /** @param {Node} node */

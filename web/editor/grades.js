@@ -10,6 +10,13 @@ export const gradeOf = (score, best) => Math.max(0, Math.min(MOST, Math.floor(be
 // The least whole score that has this grade or a better one.
 export const scoreOf = (grade, best) => (best > MOST ? Math.ceil((grade * best) / MOST) : grade);
 
+// The least grade whose words all have this score or a better one; none where no word has it.
+export function gradeFrom(score, best) {
+  const grade = gradeOf(score, best);
+  if (score > best) return Infinity;
+  return scoreOf(grade, best) < score ? grade + 1 : grade;
+}
+
 // The score below which a word counts as weak, unless another is chosen.
 export const usualWeak = (best) => (best > 50 && best <= MOST ? 50 : Math.ceil(best / 2));
 

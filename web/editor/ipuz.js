@@ -44,13 +44,13 @@ export function readIpuz(text) {
   const file = parsed(text);
   const { width, height } = file.dimensions ?? {};
   const given = new Given(width, height);
-  if (!Array.isArray(file.puzzle) || file.puzzle.length !== height || file.puzzle.some((row) => !Array.isArray(row) || row.length !== width)) {
-    throw new FileFault('the rows are not of the size that the file gives');
-  }
-  const numbered = takeGrid(given, file);
+  if (!areRows(file.puzzle)) throw new FileFault('the rows are not of the size that the file gives');
+  const numbered = takeGrid(given, { ...file, puzzle: given.repairs.fitted(file.puzzle, given, 0) });
+  tellSolution(given, file.solution);
   for (const field of FIELDS) if (file[field]) given.text(field, plainOf(file[field]));
   if (file.intro && !file.notes) given.text('notes', plainOf(file.intro));
   else if (file.intro) given.drops('the introduction');
+  if (file.explanation) given.drops('the explanation');
   if (file.saved) given.drops('the letters of a solver');
   if (file.zones?.length) given.drops('zones of the grid');
   for (const [name, clues] of Object.entries(file.clues ?? {})) {
@@ -59,6 +59,13 @@ export function readIpuz(text) {
     else for (const clue of clues) takeClue(given, clue, direction, numbered);
   }
   return given;
+}
+
+const areRows = (rows) => Array.isArray(rows) && rows.every(Array.isArray);
+
+// A solution that is larger than the grid loses letters.
+function tellSolution({ width, height, repairs }, solution) {
+  if (areRows(solution) && (solution.length > height || solution.some((row) => row.length > width))) repairs.add('the solution is larger than the grid: letters outside are left out');
 }
 
 function parsed(text) {

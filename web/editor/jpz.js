@@ -78,7 +78,7 @@ function takeCells(given, cells) {
   const numbered = new Map();
   for (const cell of cells) {
     const [row, column] = ['y', 'x'].map((name) => Number(cell.getAttribute(name)));
-    if (!given.has(row, column)) throw new FileFault('a cell lies outside the grid');
+    if (!given.admits(row, column)) continue;
     const [type, shape, solution, number] = ['type', 'background-shape', 'solution', 'number'].map((name) => cell.getAttribute(name) ?? '');
     if (type === 'void') given.drops('a cell that is left out, which is a block now', 'cells that are left out, which are blocks now');
     if (type === 'clue') given.drops('a clue in the grid', 'clues in the grid');

@@ -1,4 +1,4 @@
-// What the browser keeps between visits. In IndexedDB: the puzzles with their versions, the word list, and the bank of clues. In the local store: a
+// What the browser keeps between visits. In IndexedDB: the puzzles with their versions, the word list, the steps of the open puzzles, and the bank of clues. In the local store: a
 // draft of each puzzle that is open, since a page that goes can write there before it goes.
 
 /** @typedef {{ name: string, version: number, stores: Record<string, string>, make: (opened: IDBDatabase, oldVersion: number) => void }} Database */
@@ -22,6 +22,16 @@ const BANK = {
   stores: { clues: 'clues' },
   make(opened) {
     opened.createObjectStore(this.stores.clues, { keyPath: ['word', 'clue', 'puzzle'] }).createIndex('puzzle', 'puzzle');
+  },
+};
+// the steps of the open puzzles, apart too
+/** @type {Database} */
+const HISTORY = {
+  name: 'xw-editor-history',
+  version: 1,
+  stores: { history: 'history' },
+  make(opened) {
+    opened.createObjectStore(this.stores.history, { keyPath: 'puzzle' });
   },
 };
 const DRAFT = 'xw-editor/';
@@ -197,7 +207,20 @@ export function destroyPuzzles(names) {
   });
 }
 
-// The bank of clues: { word, clue, puzzle, at }.
+// The histories of the puzzles that are open.
+
+/** @param {import('./history.js').KeptHistory} entry */
+export const keepHistory = (entry) => within('readwrite', ({ history }) => history.put(entry), HISTORY);
+
+/** @returns {Promise<import('./history.js').KeptHistory | undefined>} */
+export const keptHistory = (puzzle) => within('readonly', ({ history }) => history.get(puzzle), HISTORY);
+
+export const dropHistories = (puzzles) => within('readwrite', ({ history }) => {
+  for (const puzzle of puzzles) history.delete(puzzle);
+}, HISTORY);
+
+// The bank of clues. An entry has the word and the clue, the puzzle with its title, and when the clue was first there; 0 if that is not known.
+/** @typedef {{ word: string, clue: string, puzzle: string, title: string, at: number }} KeptClue */
 
 // Makes the bank if there is none; returns whether there was none.
 export async function makeBank() {
@@ -209,9 +232,45 @@ export async function makeBank() {
   return isMade;
 }
 
-export const keepClues = (entries) => within('readwrite', ({ clues }) => entries.map((entry) => clues.put(entry)).at(-1), BANK);
+// the most clues that are kept, and the part of them that stays once there are more
+export const MOST_CLUES = 50000;
+const STAYING = 0.95;
+
+// The earlier of two times, of which one may not be known.
+const earlier = (one, other) => Math.min(one || other, other || one);
+
+// Keeps clues. One that is there stays as old as it is. If there are too many, the oldest go.
+/** @param {KeptClue[]} entries */
+export const keepClues = (entries, most = MOST_CLUES) => within('readwrite', ({ clues }) => {
+  entries.forEach((entry, at) => {
+    const found = clues.get([entry.word, entry.clue, entry.puzzle]);
+    found.onsuccess = () => {
+      clues.put({ ...entry, at: earlier(entry.at, found.result?.at ?? entry.at) });
+      if (at === entries.length - 1) thinClues(clues, most);
+    };
+  });
+}, BANK);
+
+// Takes the oldest clues out if there are too many.
+function thinClues(clues, most) {
+  const count = clues.count();
+  count.onsuccess = () => {
+    if (count.result <= most) return;
+    const all = clues.getAll();
+    all.onsuccess = () => oldest(all.result, most).forEach(({ word, clue, puzzle }) => clues.delete([word, clue, puzzle]));
+  };
+}
+
+// The clues that go if so many may stay. Some more go than have to, so that it is not done for each new clue.
+export const oldest = (entries, most) => [...entries].sort((a, b) => b.at - a.at).slice(Math.floor(STAYING * most));
+
+export const countClues = () => within('readonly', ({ clues }) => clues.count(), BANK);
+/** @returns {Promise<KeptClue[]>} */
+export const everyClue = () => within('readonly', ({ clues }) => clues.getAll(), BANK);
+export const clearClues = () => within('readwrite', ({ clues }) => clues.clear(), BANK);
 
 // The clues that a word had.
+/** @returns {Promise<KeptClue[]>} */
 export const keptClues = (word) => within('readonly', ({ clues }) => clues.getAll(IDBKeyRange.bound([word], [word, []])), BANK);
 
 // Takes the clues of puzzles out of the bank.

@@ -1,17 +1,20 @@
 // What a file is, by its bytes and its name.
 import { toText } from '../xw.js';
+import { isClueTable } from './clue-table.js';
 import { isExolve } from './exolve.js';
 import { isIpuz } from './ipuz.js';
 import { isJpz } from './jpz.js';
+import { isMail } from './mail.js';
 import { isPuzzlesFile } from './puzzles-file.js';
 import { isQxw } from './qxw.js';
 import { isVersion2, letterRows } from './text-grids.js';
 import { isWordList, listText } from './word-list.js';
+import { isZip } from './zip.js';
 
 const MAGIC = 'ACROSS&DOWN';
 // where a .puz has it
 const MAGIC_AT = 2;
-// how many bytes tell whether a file is a word list
+// how many bytes tell whether a file is a word list, or a mail
 const SAMPLE = 1 << 18;
 // the first line of a session that the program or this page saved
 export const SESSION_HEAD = '# xw session 1';
@@ -39,6 +42,9 @@ const isSixteenBits = (bytes) => (bytes[0] === 0xff && bytes[1] === 0xfe) || (by
 // Whether a puzzle is a .puz, and not a text.
 export const isPuz = (bytes) => toText(bytes.subarray(MAGIC_AT, MAGIC_AT + MAGIC.length)) === MAGIC;
 
+// Whether a file is a mail.
+export const isMailed = (bytes) => isMail(toText(bytes.subarray(0, SAMPLE)));
+
 // Whether the bytes of a file are a word list, whatever its name.
 export const isListText = (bytes) => isText(bytes) && isWordList(listText(bytes.subarray(0, SAMPLE)));
 
@@ -51,7 +57,6 @@ const FOREIGN = [
   [/^\x89PNG\r\n/, 'a picture (PNG)'], [/^\xff\xd8\xff/, 'a picture (JPEG)'], [/^GIF8[79]a/, 'a picture (GIF)'], [/^RIFF[^]{4}WEBP/, 'a picture (WebP)'],
   [/^%PDF-/, 'a document (PDF)'], [/^\x1f\x8b/, 'a packed file (gzip)'], [/^Rar!\x1a|^7z\xbc\xaf/, 'an archive that is no zip'], [/^\s*<(!doctype html|html)\b/i, 'a web page (HTML)'],
 ];
-const MAIL = /^(from|to|subject|date|received|return-path|delivered-to|message-id|mime-version|content-(type|disposition|transfer-encoding)): /i;
 
 // What a file of another kind is, such as a picture; or null.
 export function foreignKind(bytes) {
@@ -59,37 +64,44 @@ export function foreignKind(bytes) {
   return FOREIGN.find(([begin]) => begin.test(head))?.[1] ?? null;
 }
 
-// Whether a text begins with the lines that a mail has before its text.
-function isMail(head) {
-  const lines = head.split(/\r?\n\r?\n/, 1)[0].split(/\r?\n/);
-  return (MAIL.test(lines[0]) || /^From \S+@/.test(lines[0])) && lines.filter((line) => MAIL.test(line)).length > 1;
-}
-
 // What the bytes of a file say that it is; null if they do not tell.
 function kindIn(head, bytes) {
   if (isPuz(bytes) || /^\s*<across puzzle>/i.test(head)) return 'puzzle';
+  // a mail may have any other in it
+  if (isMailed(bytes)) return 'mail';
   if (isVersion2(head)) return 'text2';
   if (isPuzzlesFile(head)) return 'puzzles';
   if (isIpuz(head)) return 'ipuz';
   if (isJpz(head)) return 'jpz';
   if (isQxw(head)) return 'qxw';
   if (isExolve(toText(bytes.subarray(0, SAMPLE)))) return 'exolve';
-  if (isMail(head)) return 'mail';
   return foreignKind(bytes) && 'foreign';
 }
 
 // What the ends of names say.
 const NAMED = { puz: 'puzzle', ipuz: 'ipuz', jpz: 'jpz', qxd: 'deck' };
 
-// What a file is: `puzzle` (.puz or text), `text2` (text of version 2), `ipuz`, `jpz`, `exolve`, `qxw`, `deck`, `session`, `puzzles`, `list`, `rows` (a grid of letters, or a
+// What a file is: `puzzle` (.puz or text), `text2` (text of version 2), `ipuz`, `jpz`, `exolve`, `qxw`, `deck`, `session`, `clues` (a table), `puzzles`, `list`, `rows` (a grid of letters, or a
 // list of words of one length), `empty`, `mail`, `foreign` (of a kind that foreignKind tells), or `other`.
 export function kindOf(name, bytes) {
   if (!bytes.length) return 'empty';
   const head = toText(bytes.subarray(0, 4096)).replace(/^\u00ef\u00bb\u00bf/, '');
   const kind = kindIn(head, bytes) ?? NAMED[/\.(\w+)$/.exec(name)?.[1].toLowerCase()];
   if (kind) return kind;
+  if (isClueTable(head)) return 'clues';
   if (isSession(name, head)) return 'session';
   if (!isText(bytes)) return 'other';
   if (bytes.length < SAMPLE && letterRows(listText(bytes))) return 'rows';
   return isListText(bytes) ? 'list' : 'other';
+}
+
+// The kinds of files that have a puzzle, whatever their names.
+const PUZZLES = new Set(['puzzle', 'text2', 'ipuz', 'jpz', 'exolve', 'qxw', 'deck', 'session', 'puzzles']);
+// The kinds that cannot be opened.
+const OTHERS = new Set(['empty', 'foreign', 'other']);
+
+// Whether a file in a mail can be opened. Of a text without a name only a puzzle is meant.
+export function isMeant({ name, isNamed, bytes }) {
+  const kind = kindOf(name, bytes);
+  return PUZZLES.has(kind) || (isNamed && (isZip(bytes) || !OTHERS.has(kind)));
 }

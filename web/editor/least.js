@@ -17,13 +17,13 @@ export class LeastView {
   #isPointed = false;
 
   // `actions`: `mayChange` tells whether the words can change now, `use` has the engine take a least score, `kept` is told of the one that is chosen,
-  // `chosen` of another score to mark words below and of words that are to be apart, `threes` of a least score for words of three letters, and `toGrid`
+  // `chosen` of another score to mark words below, of words that are to be apart and of the score at which a raising ends, `threes` of a least score for words of three letters, and `toGrid`
   // goes back to the grid.
   constructor(editor, elements, actions) {
     this.#editor = editor;
     this.#elements = elements;
     this.actions = actions;
-    const { row, slider, weak, threes, apart } = elements;
+    const { row, slider, weak, threes, apart, target } = elements;
     // on a phone the row is folded away, behind what it says
     const isNarrow = matchMedia('(max-width: 640px)');
     const fold = () => {
@@ -40,11 +40,12 @@ export class LeastView {
     take(weak, (score) => actions.chosen({ weak: score }));
     take(threes, (score) => (actions.mayChange() ? actions.threes(score) : this.show()));
     apart.addEventListener('change', () => actions.chosen({ apart: apart.checked }));
+    target.addEventListener('change', () => (Number(target.value) >= 0 ? actions.chosen({ target: target.value ? Number(target.value) : null }) : this.show()));
   }
 
   // Shows what the lists in use have.
   show() {
-    const { scored, best, grade, weak, threes, apart } = this.#editor.list;
+    const { scored, best, grade, weak, threes, apart, target } = this.#editor.list;
     const { row, slider } = this.#elements;
     this.#elements.apart.checked = apart;
     row.hidden = !scored;
@@ -55,6 +56,8 @@ export class LeastView {
     this.#elements.weak.value = String(weak);
     this.#elements.threes.max = String(best);
     this.#elements.threes.value = String(threes);
+    this.#elements.target.max = String(best);
+    this.#elements.target.value = target === null ? '' : String(target);
     this.#elements.told.textContent = `${grade ? `Least score ${scoreOf(grade, best)}` : 'All scores'}, marks below ${weak}`;
     this.#showLeft(grade);
   }

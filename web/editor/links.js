@@ -85,6 +85,6 @@ export const spelledLights = (light, others) => others.map((one) => (one.directi
 // How originals spell a link.
 export const spelledLink = (board, others) => others.map((one) => board.clueField(one).replace(/^clue /, '')).join(', ');
 
-// What a board has without links and colours.
-/** @type {{ colourOf: (cell: import('./board.js').Cell) => string, links: { heads: Map<Light, Light[]>, headOf: Map<Light, Light> } }} */
-export const PLAIN = { colourOf: () => '', links: { heads: new Map(), headOf: new Map() } };
+// What a board has without links, colours and a language.
+/** @type {{ colourOf: (cell: import('./board.js').Cell) => string, links: { heads: Map<Light, Light[]>, headOf: Map<Light, Light> }, language: string }} */
+export const PLAIN = { colourOf: () => '', links: { heads: new Map(), headOf: new Map() }, language: '' };

@@ -31,7 +31,7 @@ export class ListsInUse {
     this.actions = actions;
     this.#least = new LeastView(
       editor,
-      { row: $('least-row'), told: $('least-told'), slider: $('least'), shown: $('least-shown'), left: $('least-left'), weak: $('weak'), threes: $('threes'), apart: $('apart') },
+      { row: $('least-row'), told: $('least-told'), slider: $('least'), shown: $('least-shown'), left: $('least-left'), weak: $('weak'), threes: $('threes'), apart: $('apart'), target: $('target') },
       {
         mayChange: actions.mayEdit, use: (least) => this.#useLeast(least), kept: () => this.#keepLeast(), chosen: (chosen) => this.#choose(chosen),
         threes: (score) => this.#useThrees(score), toGrid: actions.toGrid,
@@ -174,7 +174,7 @@ export class ListsInUse {
     this.#store();
   }
 
-  // Takes over another score to mark words below, or whether words are to be apart.
+  // Takes over another score to mark words below, or one at which a raising ends, or whether words are to be apart.
   #choose(chosen) {
     this.#editor.changeList(chosen);
     this.#lists = this.#lists.choosing(chosen);

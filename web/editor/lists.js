@@ -11,9 +11,12 @@ export class Lists {
   apart = false;
   /** @type {number | null} */
   weak = null;
+  // the score that no word of a fill is under when its raising ends; null for none
+  /** @type {number | null} */
+  target = null;
 
-  constructor({ parts, personal = '', least = 0, weak = null, threes = 0, apart = false }) {
-    Object.assign(this, { parts, personal, least, weak, threes, apart });
+  constructor({ parts, personal = '', least = 0, weak = null, threes = 0, apart = false, target = null }) {
+    Object.assign(this, { parts, personal, least, weak, threes, apart, target });
   }
 
   // What the browser keeps, or the built-in list alone.
@@ -44,7 +47,7 @@ export class Lists {
     const isTaken = (wanted) => others.some((part) => part.name === wanted);
     let free = name;
     for (let count = 2; isTaken(free); count++) free = `${name} (${count})`;
-    return this.#with({ parts: [...others, { name: free, bytes, isOn: true }], least: 0, weak: null, threes: 0 });
+    return this.#with({ parts: [...others, { name: free, bytes, isOn: true }], least: 0, weak: null, threes: 0, target: null });
   }
 
   switching(name, isOn) {
@@ -53,7 +56,7 @@ export class Lists {
 
   // With the built-in list alone in use.
   onlyBuiltIn() {
-    return this.#with({ parts: this.parts.map((part) => ({ ...part, isOn: Boolean(part.isBuiltIn) })), least: 0, weak: null, threes: 0 });
+    return this.#with({ parts: this.parts.map((part) => ({ ...part, isOn: Boolean(part.isBuiltIn) })), least: 0, weak: null, threes: 0, target: null });
   }
 
   removing(name) {
@@ -64,7 +67,7 @@ export class Lists {
     return this.#with({ least });
   }
 
-  // With what is chosen otherwise: `weak`, `threes` or `apart`.
+  // With what is chosen otherwise: `weak`, `threes`, `apart` or `target`.
   choosing(chosen) {
     return this.#with(chosen);
   }
@@ -82,7 +85,7 @@ export class Lists {
   get chosen() {
     const on = this.parts.filter(({ isOn, bytes }) => isOn && bytes.length);
     const name = on.length === 1 ? on[0].name : on.length ? `${on.length} lists` : '';
-    return { name: name || (this.personal.trim() ? 'my words' : ''), sources: on.map(({ bytes }) => bytes), personal: this.personal, least: this.least, weak: this.weak, threes: this.threes, apart: this.apart };
+    return { name: name || (this.personal.trim() ? 'my words' : ''), sources: on.map(({ bytes }) => bytes), personal: this.personal, least: this.least, weak: this.weak, threes: this.threes, apart: this.apart, target: this.target };
   }
 }
 

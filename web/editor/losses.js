@@ -1,6 +1,7 @@
 // What of a puzzle the format of a file cannot keep, each in a few words. It is said on each saving.
 import { countText } from './dropped.js';
 import { isColourField } from './colours.js';
+import { LANGUAGE } from './language.js';
 import { isAdded } from './links.js';
 import { hasItalics } from './marks.js';
 import { isCellField, isRebus } from './rebus.js';
@@ -9,8 +10,8 @@ import { strangeCharacters } from './record.js';
 // What the formats keep of what not all of them do.
 const KEPT = {
   puz: ['rebus'], text: [], ipuz: ['rebus', 'italics', 'colours', 'links', 'characters'], jpz: ['rebus', 'italics', 'colours', 'characters'],
-  exolve: ['rebus', 'italics', 'links', 'characters'], csv: ['rebus', 'links', 'characters', 'colours'],
-  html: ['rebus', 'italics', 'links', 'characters', 'colours'],
+  exolve: ['rebus', 'italics', 'links', 'characters', 'language'], csv: ['rebus', 'italics', 'links', 'notes', 'characters', 'colours', 'language'],
+  html: ['rebus', 'italics', 'links', 'characters', 'colours', 'language'],
 };
 
 // What a puzzle has of it.
@@ -25,6 +26,7 @@ function hadBy(editor) {
     colours: countText(cells((cell) => editor.colourOf(cell)), 'the colour of a cell', 'colours of cells'),
     links: countText(links.heads.size, 'the link of a clue', 'links of clues'),
     notes: countText(board.lights.filter((light) => editor.noteOf(light)).length, 'a private note', 'private notes'),
+    language: editor.language ? ['the language'] : [],
   };
 }
 
@@ -32,7 +34,7 @@ function hadBy(editor) {
 /** @param {import('./editor.js').Editor} editor */
 export function lossesOf(editor, form) {
   const isLost = (name) => !KEPT[form].includes(name);
-  const isText = (field) => !isCellField(field) && !isColourField(field) && !isAdded(field);
+  const isText = (field) => field !== LANGUAGE && !isCellField(field) && !isColourField(field) && !isAdded(field);
   const strange = [...editor.originals].filter(([field]) => isText(field)).flatMap(([, text]) => strangeCharacters(text));
   return {
     lost: Object.entries(hadBy(editor)).filter(([name]) => isLost(name)).flatMap(([, told]) => told),

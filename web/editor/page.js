@@ -21,6 +21,12 @@ export function put(element, name, value) {
   if (element[name] !== value) element[name] = value;
 }
 
+// Says which language the text of an element is in, or with '' that nothing says it.
+export function speakIn(element, language) {
+  if (language) put(element, 'lang', language);
+  else element.removeAttribute('lang');
+}
+
 // A part of a picture in SVG, with attributes, and elements or a text in it.
 export function svgElement(name, attributes, ...inner) {
   const made = document.createElementNS('http://www.w3.org/2000/svg', name);

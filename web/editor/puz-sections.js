@@ -20,28 +20,38 @@ function endOfTexts(bytes) {
   return at;
 }
 
-// The bytes of the sections, by their names.
-export function sectionsOf(bytes) {
-  let at = endOfTexts(bytes);
-  /** @type {Map<string, Uint8Array>} */
-  const sections = new Map();
-  while (at + HEAD <= bytes.length) {
-    const name = toText(bytes.subarray(at, at + 4));
-    const length = bytes[at + 4] + 256 * bytes[at + 5];
-    if (!/^[A-Z]{4}$/.test(name)) break;
-    sections.set(name, bytes.subarray(at + HEAD, at + HEAD + length));
-    at += HEAD + length + 1;
+// The section at a place, with whether its checksum is right; null if none begins there.
+export function sectionAt(bytes, at) {
+  const name = toText(bytes.subarray(at, at + 4));
+  if (at + HEAD > bytes.length || !/^[A-Z]{4}$/.test(name)) return null;
+  const [length, sum] = [bytes[at + 4] + 256 * bytes[at + 5], bytes[at + 6] + 256 * bytes[at + 7]];
+  const data = bytes.subarray(at + HEAD, at + HEAD + length);
+  return { name, data, isSound: data.length === length && sumOf(data) === sum };
+}
+
+// The sections from where the texts end, in their order.
+export function sectionsFrom(bytes, begin) {
+  const sections = [];
+  let at = begin;
+  for (let section = sectionAt(bytes, at); section; section = sectionAt(bytes, at)) {
+    sections.push(section);
+    at += HEAD + section.data.length + 1;
   }
   return sections;
 }
 
+// The bytes of sections, by their names.
+/** @returns {Map<string, Uint8Array>} */
+export const sectionsOf = (bytes, sections = sectionsFrom(bytes, endOfTexts(bytes))) => new Map(sections.map(({ name, data }) => [name, data]));
+
 // The cells with several letters, and the letters that they have in the grid.
-export function rebusOf(bytes) {
-  const [sections, width, solution] = [sectionsOf(bytes), bytes[WIDTH], bytes.subarray(HEADER, HEADER + sizeOf(bytes))];
+export function rebusOf(bytes, sections = sectionsOf(bytes)) {
+  const [width, solution] = [bytes[WIDTH], bytes.subarray(HEADER, HEADER + sizeOf(bytes))];
   const entries = new Map(toText(sections.get('RTBL') ?? new Uint8Array()).split(';').map((one) => one.split(':')).filter(([, entry]) => entry).map(([number, entry]) => [Number(number), entry]));
-  const cells = [...(sections.get('GRBS') ?? [])].map((number, at) => ({ number, at })).filter(({ number }) => number);
+  const cells = [...(sections.get('GRBS') ?? []).slice(0, solution.length)].map((number, at) => ({ number, at })).filter(({ number }) => number);
+  const letterAt = (at) => /^[A-Z]$/.exec(String.fromCharCode(solution[at]).toUpperCase())?.[0] ?? 'empty';
   return cells.map(({ number, at }) => ({
-    row: Math.floor(at / width) + 1, column: (at % width) + 1, entry: (entries.get(number - 1) ?? 'what is there').toUpperCase(), letter: String.fromCharCode(solution[at]).toUpperCase(),
+    row: Math.floor(at / width) + 1, column: (at % width) + 1, entry: (entries.get(number - 1) ?? 'what is there').toUpperCase(), letter: letterAt(at),
   }));
 }
 

@@ -59,7 +59,7 @@ function partsOf(bytes) {
 }
 
 // The checksums of a file, and where they are.
-function sumsOf(bytes, { size, texts }, hasNotes) {
+export function sumsOf(bytes, { size, texts }, hasNotes) {
   const [solution, state] = [bytes.subarray(HEADER, HEADER + size), bytes.subarray(HEADER + size, HEADER + 2 * size)];
   const cib = sumOf(bytes.subarray(CIB, CIB + 8));
   const whole = (text) => (text.length ? [...text, 0] : []);

@@ -41,7 +41,7 @@ function takeSquare(given, line, entries) {
   const [, letter = ''] = /^SQ(?:\s+\d+){5}\s(.)/u.exec(line) ?? [];
   const [before, above, bars, merged, flags] = numbersIn(line);
   const [row, column] = [above + 1, before + 1];
-  if (!given.has(row, column)) throw new FileFault('a cell lies outside the grid');
+  if (!given.admits(row, column)) return;
   if (flags & CUTOUT) given.drops('a cell that is left out, which is a block now', 'cells that are left out, which are blocks now');
   if (flags & (BLOCK | CUTOUT)) given.block(row, column);
   if (merged) given.drops('merged cells');
@@ -53,7 +53,7 @@ function takeSquare(given, line, entries) {
 function takeContents(given, line, entries) {
   const [, before, above, direction, quoted, bare] = /^SQCT\s+(\d+)\s+(\d+)\s+(\d+)\s+(?:"(.*)"|(\S*))/.exec(line) ?? [];
   const entry = quoted ?? bare ?? '';
-  if (!before || entry === '' || entry === '.') return;
+  if (!before || entry === '' || entry === '.' || !given.admits(Number(above) + 1, Number(before) + 1)) return;
   const coordinates = `${Number(above) + 1} ${Number(before) + 1}`;
   if (direction === '0') entries.set(coordinates, entry);
   else if (entry !== entries.get(coordinates)) given.drops('letters that are others down than across');

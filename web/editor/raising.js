@@ -1,45 +1,38 @@
 // The raising of a fill: its worst word gets better by `best` in slices, in workers beside the one of the session, each with a seed of its own. A slice
 // goes on with what the slices of its worker learned. Where no fill is better, the words that keep it from that are held, and the worst of the others is
-// raised. The fill that is in the grid can be edited meanwhile, which ends the raising.
+// raised; race.js decides. The fill that is in the grid can be edited meanwhile, which ends the raising; texts can be changed beside it.
 import { grades } from './answers.js';
 import { MOST, gradeOf, totalOf } from './grades.js';
-import { letterIn } from './record.js';
+import { Race } from './race.js';
+import { letterIn, withoutTexts } from './record.js';
 
 // The placements of a slice.
 const PLACEMENTS = 2000;
 // how long a raising takes at most, once it has words, and how much longer if its worst word is no more than so far above the weak ones by then, in
-// milliseconds
+// milliseconds; but for one that goes on until no fill is better
 const LONGEST = 2000;
 const FURTHER = 3000;
 const GOOD = 20;
 // how often it tells what it looks for, in milliseconds
 const TOLD_EACH = 500;
-// the seed of one worker lies so far from that of the next
-const SEEDS = 1000003;
-
-// the grade of no fill
-const NONE = -1;
-
-// what a search tells that was not refused
-const ANSWERS = new Set(['filled', 'nofill', 'limit']);
 
 /**
  * @typedef {{
- *   record: string, base: string, names: string, cells: string[], seed: number, grade: number, sum: number, bound: number, isOver: boolean, isStopped: boolean,
- *   isChanged: boolean, isEntering: boolean, pencil: string, entered: Promise<void>, end: () => void, begun: number, told: number,
- *   proved: number, held: { names: string[], forced: string[] }[], lines: string[], holding: Promise<void> | null,
- * }} Race `proved` is the bound of all lights; `held` has the lights whose words are held, stage by stage, with those that force it, and `lines` enter those words
+ *   race: Race, record: string, base: string, names: string, cells: string[], isEndless: boolean, isOver: boolean, isStopped: boolean, isChanged: boolean,
+ *   isEntering: boolean, pencil: string, entered: Promise<void>, end: () => void, begun: number, told: number, workers: number, isTimed: boolean,
+ *   lines: string[], holding: Promise<void> | null,
+ * }} Run `lines` enter the words that are held; `workers` is how many have not failed
  */
 
 export class Raiser {
   /** @type {import('./editor.js').Editor} */
   #editor;
   #helpers;
-  /** @type {Race | null} */
-  #race = null;
+  /** @type {Run | null} */
+  #run = null;
 
-  // `raised` is told of each better fill in the grid, and `tried` what is looked for: { least, bound, isPart, seconds }: fills of words that have the grade
-  // `least`, and `isPart` says that the words of some lights are held.
+  // `raised` is told of each better fill in the grid, and `tried` what is looked for: { least, bound, isPart, seconds, isEndless }: fills of words that have the
+  // grade `least`, and `isPart` says that the words of some lights are held.
   constructor(editor, helpers, raised, tried) {
     this.#editor = editor;
     this.#helpers = helpers;
@@ -49,128 +42,148 @@ export class Raiser {
   }
 
   get isRunning() {
-    return this.#race !== null;
+    return this.#run !== null;
+  }
+
+  // Whether it goes on until no fill is better.
+  get isEndless() {
+    return this.#run?.isEndless ?? false;
   }
 
   // Ends the raising; what is in the grid stays.
   stop() {
-    if (!this.#race) return;
-    this.#race.isStopped = true;
-    this.#race.end();
+    if (!this.#run) return;
+    this.#run.isStopped = true;
+    this.#run.end();
   }
 
-  // Another edit than its own ends the raising too.
+  // Has the raising go on until no fill is better, or its worst word has a grade.
+  goOn(target) {
+    if (!this.#run) return;
+    this.#run.isEndless = true;
+    this.aim(target);
+  }
+
+  // Has one that goes on so end at another grade.
+  aim(target) {
+    if (!this.isEndless) return;
+    const { race, end } = this.#run;
+    race.target = target;
+    if (race.isMet) end();
+  }
+
+  // Another edit than its own ends the raising too, but for one of texts.
   #stepped() {
-    const race = this.#race;
-    if (!race || race.isEntering) return;
+    const run = this.#run;
+    if (!run) return;
     const { record, pencil } = this.#editor;
-    if (record === race.record && String([...pencil]) === race.pencil) return;
-    race.isChanged = true;
-    race.end();
+    const isOfTexts = withoutTexts(record) === withoutTexts(run.record) && String([...pencil]) === run.pencil;
+    if (isOfTexts) run.record = record;
+    else if (!run.isEntering) {
+      run.isChanged = true;
+      run.end();
+    }
   }
 
   // Raises the fill in the grid: `base` is the record without the letters of its cells, `names` are those of its lights, as a line has them, `grade` is that
-  // of its worst word, `sum` that of all of them, and `bound` one at which no fill is known to be. Returns the grade that it has then, such a bound, and how it ended.
-  async run({ base, names, cells, seed, grade, sum, bound }) {
+  // of its worst word, `sum` that of all of them, and `bound` one at which no fill is known to be. With `isEndless` it goes on until no fill is better, or the worst
+  // word has the grade `target`, which words that are held need not have. Returns what is known then, and how it ended.
+  async run({ base, names, cells, seed, grade, sum, bound, isEndless = false, target = Infinity }) {
     const editor = this.#editor;
-    const race = {
-      base, names, cells, seed, grade, sum, bound, record: editor.record, pencil: String([...editor.pencil]), isOver: false, isStopped: false, isChanged: false,
-      isEntering: false, entered: Promise.resolve(), end: () => {}, begun: performance.now(), told: 0, proved: bound, held: [], lines: [], holding: null,
+    const workers = Math.max(1, this.#helpers.most);
+    const race = new Race({ grade, sum, bound, seed, workers, target: isEndless ? target : Infinity });
+    /** @type {Run} */
+    const run = {
+      race, base, names, cells, isEndless, record: editor.record, pencil: String([...editor.pencil]), isOver: false, isStopped: false, isChanged: false,
+      isEntering: false, entered: Promise.resolve(), end: () => {}, begun: performance.now(), told: -Infinity, workers, isTimed: false, lines: [], holding: null,
     };
     const ended = new Promise((resolve) => {
-      race.end = () => {
-        race.isOver = true;
+      run.end = () => {
+        run.isOver = true;
         resolve(undefined);
       };
     });
-    this.#race = race;
-    if (grade >= MOST) race.end();
-    else this.#begin(race);
+    this.#run = run;
+    if (race.isMet) run.end();
+    else this.#helpers.begin(base, workers).forEach((begun, at) => this.#climb(run, begun, at));
     await ended;
     // a better fill may be on its way into the grid
-    await race.entered;
-    if (this.#race === race) this.#race = null;
-    return race;
-  }
-
-  // Has all workers begin, or one where there is one core.
-  #begin(race) {
-    this.#helpers.begin(race.base, Math.max(1, this.#helpers.most)).forEach((begun, at) => this.#climb(race, begun, race.seed + SEEDS * at, at === 0));
+    await run.entered;
+    if (this.#run === run) this.#run = null;
+    const { isStopped, isChanged } = run;
+    return { proved: race.proved, held: race.held, isReached: race.isReached, isStopped, isChanged };
   }
 
   // Has a worker look for better fills than the one that is there.
-  async #climb(race, begun, seed, isFirst) {
+  async #climb(run, begun, at) {
+    const { race, names } = run;
     try {
       const engine = await begun;
-      if (isFirst) setTimeout(() => this.#endInTime(race), LONGEST);
-      let [stage, own] = [0, NONE];
-      while (!race.isOver) {
-        if (race.bound <= race.grade + 1) await (race.holding ??= this.#hold(race, engine).finally(() => (race.holding = null)));
-        if (race.isOver) break;
-        if (stage < race.held.length) {
-          [stage, own] = [race.held.length, NONE];
-          await engine.call('edit', { lines: race.lines, isWhole: false });
-        }
-        this.#tell(race);
-        // the worker that found the best fill also raises its mean
-        const least = own === race.grade ? own : race.grade + 1;
-        const told = await engine.call('best', { least, limits: `${PLACEMENTS} ${seed}${race.names}`, cells: race.cells, isApart: this.#editor.list.apart });
-        // what was found without the words that are held by now is none of this stage
-        if (!race.isOver && stage === race.held.length) own = await this.#take(race, told, least, own);
+      this.#time(run);
+      while (!run.isOver) {
+        if (race.isBlocked) await (run.holding ??= this.#hold(run, engine).finally(() => (run.holding = null)));
+        if (run.isOver) break;
+        // words that were struck, to keep others apart, are there again
+        if (race.startsAnew(at)) await engine.call('unstrike');
+        if (race.catchesUp(at)) await engine.call('edit', { lines: run.lines, isWhole: false });
+        this.#tell(run);
+        const asked = race.next(at);
+        const told = await engine.call('best', { least: asked.least, limits: `${PLACEMENTS} ${asked.seed}${names}`, cells: run.cells, isApart: this.#editor.list.apart });
+        if (!run.isOver) await this.#take(run, race.take(at, asked, told), told);
       }
     } catch (fault) {
-      // a worker that fails leaves the race to the others; without the first there is none
+      // a worker that fails leaves the race to the others; without any there is none
       if (!fault.status) throw fault;
-      if (isFirst) race.end();
+      if (--run.workers === 0) run.end();
     }
   }
 
-  // Ends a raising, unless its words are not good yet.
-  #endInTime(race) {
+  // Has the raising end in time, once its first worker has begun.
+  #time(run) {
+    if (!run.isTimed && !run.isEndless) setTimeout(() => this.#endInTime(run), LONGEST);
+    run.isTimed = true;
+  }
+
+  // Ends a raising, unless its words are not good yet, or it goes on until no fill is better.
+  #endInTime(run) {
     const { weak, best } = this.#editor.list;
-    if (race.grade < Math.min(MOST, gradeOf(weak, best) + GOOD)) setTimeout(race.end, FURTHER);
-    else race.end();
+    const end = () => run.isEndless || run.end();
+    if (run.race.grade < Math.min(MOST, gradeOf(weak, best) + GOOD)) setTimeout(end, FURTHER);
+    else end();
   }
 
   // Tells what is looked for, now and then.
-  #tell(race) {
+  #tell(run) {
     const now = performance.now();
-    if (race.isOver || now - race.told < TOLD_EACH) return;
-    race.told = now;
-    this.tried({ least: race.grade + 1, bound: race.proved, isPart: race.held.length > 0, seconds: Math.floor((now - race.begun) / 1000) });
+    if (run.isOver || now - run.told < TOLD_EACH) return;
+    run.told = now;
+    const { grade, proved, held } = run.race;
+    this.tried({ least: grade + 1, bound: proved, isPart: held.length > 0, seconds: Math.floor((now - run.begun) / 1000), isEndless: run.isEndless });
   }
 
-  // Takes what a slice tells that looked for fills with a least grade, in a worker that has found a fill of its own grade or none before. Returns that
-  // grade.
-  async #take(race, told, least, own) {
-    if (!ANSWERS.has(told.answer)) {
-      race.end();
-      return own;
-    }
-    race.bound = Math.min(race.bound, told.answer === 'nofill' ? least : told.bound ?? MOST + 1);
-    if (!race.held.length) race.proved = race.bound;
-    if (told.answer !== 'filled') return own;
-    if (told.grade > race.grade || (told.grade === race.grade && told.sum > race.sum)) {
-      [race.grade, race.sum] = [told.grade, told.sum];
-      // fills of several workers come into the grid one after another, the better one last
-      race.entered = race.entered.then(() => this.#enter(race, told.letters));
-      await race.entered;
-    }
-    return told.grade;
+  // Goes on after an answer that is refused, or has a better fill.
+  async #take(run, kind, { letters }) {
+    if (kind === 'refused') run.end();
+    if (kind !== 'better') return;
+    // fills of several workers come into the grid one after another, the better one last
+    run.entered = run.entered.then(() => this.#enter(run, letters));
+    await run.entered;
+    if (run.race.isMet) run.end();
   }
 
   // Where no fill is better: holds the words of the lights that keep it from that, or of the worst ones, and goes on with the worst of the others.
-  async #hold(race, engine) {
+  async #hold(run, engine) {
     // a better fill may be on its way into the grid
-    await race.entered;
+    await run.entered;
+    const { race } = run;
     const editor = this.#editor;
     const { board } = editor;
-    const open = new Set(race.cells);
+    const open = new Set(run.cells);
     const coordinatesOf = (light) => light.cells.map((cell) => board.cells[cell].coordinates);
     const lights = board.lights.filter((light) => coordinatesOf(light).some((coordinates) => open.has(coordinates)));
     const told = await editor.inOrder(() => editor.ask(grades(lights.map(({ name }) => name))));
-    if (race.isOver) return;
-    if (!told) return race.end();
+    if (run.isOver) return;
+    if (!told) return run.end();
     const words = Object.fromEntries(lights.map((light) => [light.name, board.spell(light)]));
     const forced = race.bound <= MOST ? await engine.call('forced', { least: race.bound, grade: race.grade, words }) : { lights: [], near: null };
     const worst = told.filter(({ grade }) => grade <= race.grade).map(({ name }) => ({ name, word: words[name] }));
@@ -178,34 +191,39 @@ export class Raiser {
     const names = new Set(held.map(({ name }) => name));
     const lines = held.flatMap(({ name, word }) => coordinatesOf(board.byName.get(name)).map((coordinates, at) => `set ${coordinates} ${word[at]}`));
     const entered = new Set(lines.map((line) => letterIn(line)[0]));
-    race.lines.push(...lines.filter((line) => open.has(letterIn(line)[0])));
-    race.cells = race.cells.filter((coordinates) => !entered.has(coordinates));
-    const left = new Set(race.cells);
+    run.lines.push(...lines.filter((line) => open.has(letterIn(line)[0])));
+    run.cells = run.cells.filter((coordinates) => !entered.has(coordinates));
+    const left = new Set(run.cells);
     const others = told.filter(({ name }) => !names.has(name));
-    race.grade = Math.min(MOST, ...others.map(({ grade }) => grade));
-    race.sum = totalOf(others.filter(({ name }) => coordinatesOf(board.byName.get(name)).some((coordinates) => left.has(coordinates))).map(({ grade }) => grade));
-    race.bound = MOST + 1;
-    race.held.push({ names: [...names], forced: forced.near ? [forced.near] : forced.lights.map(({ name }) => name) });
-    return !race.cells.length || race.grade >= MOST ? race.end() : undefined;
+    const raised = others.filter(({ name }) => coordinatesOf(board.byName.get(name)).some((coordinates) => left.has(coordinates)));
+    race.hold({
+      names: [...names], forced: forced.near ? [forced.near] : forced.lights.map(({ name }) => name), grade: Math.min(...others.map(({ grade }) => grade)),
+      sum: totalOf(raised.map(({ grade }) => grade)),
+    });
+    if (!run.cells.length || race.isMet) run.end();
   }
 
-  // Puts a better fill into the grid, in the step of the history that the first one made.
-  async #enter(race, letters) {
-    if (race.isStopped || race.isChanged) return;
+  // Puts a better fill into the grid, in the step of the history that the first one made, or that of a text which came since.
+  async #enter(run, letters) {
+    if (run.isStopped || run.isChanged) return;
     const editor = this.#editor;
     const isOther = (line) => {
       const [coordinates, letter] = letterIn(line);
       return editor.board.at(coordinates)?.letter !== letter;
     };
-    race.isEntering = true;
-    const refused = await editor.edit(letters.filter(isOther), { only: race.record });
-    race.isEntering = false;
+    let [refused, record] = [null, ''];
+    run.isEntering = true;
+    do {
+      ({ record } = run);
+      refused = await editor.edit(letters.filter(isOther), { only: record });
+    } while (refused === 'Changed' && record !== run.record);
+    run.isEntering = false;
     if (refused) {
-      race.isChanged = true;
-      race.end();
+      run.isChanged = true;
+      run.end();
       return;
     }
-    race.record = editor.record;
+    run.record = editor.record;
     this.raised();
   }
 }

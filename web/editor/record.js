@@ -132,6 +132,9 @@ export const withoutLeast = (record) => record.replace(/^least \d+\n/m, '');
 // The lines of a record that change the words.
 export const wordsOf = (record) => record.split('\n').filter((line) => /^(add|strike) /.test(line));
 
+// A record without the texts and clues.
+export const withoutTexts = (record) => record.split('\n').filter((line) => !/^(text|more) /.test(line)).join('\n');
+
 // The lines of a record that make its grid and its texts, without notes and those of words, of the least grade and of the watch.
 export function bodyOf(record) {
   return record.split('\n').filter((line) => line && !/^(#|(add|strike|least|watch) )/.test(line));

@@ -1,11 +1,14 @@
 // The usual rules of grids, as warnings: the number of words, lights of two letters, parts that do not connect, unchecked letters, words that
-// are close to each other, and enumerations of another length than the word.
+// are close to each other, enumerations of another length than the word, and clues with a word of an answer.
 
+import { clueWords } from './clue-words.js';
 import { mostUnchecked } from './grids/barred.js';
 import { enumeratedLength } from './enumeration.js';
 import { closeWords } from './kin.js';
 import { unescapeText } from './record.js';
 import { isBritishGrid } from './terms.js';
+
+/** @typedef {Pick<import('./editor.js').Editor, 'board' | 'textOf' | 'answerOf' | 'entryOf' | 'cluedBy' | 'cluedWith'>} Told what tells of the puzzle */
 
 // The most words of an American grid, by its size.
 const MOST_WORDS = { 15: 78, 21: 140 };
@@ -88,9 +91,11 @@ function barredWarnings(board) {
 }
 
 // Words that are close to each other. Letters that both have in one cell are meant to come again.
-function wordWarnings(board, answerOf, entryOf) {
-  const entered = board.lights.filter((light) => board.isEntered(light)).map((light) => [answerOf(light), light]);
-  const hasInCell = (light, shared) => light.cells.some((cell) => entryOf(board.cells[cell]).includes(shared));
+/** @param {Told} editor */
+function wordWarnings(editor) {
+  const { board } = editor;
+  const entered = board.lights.filter((light) => board.isEntered(light)).map((light) => [editor.answerOf(light), light]);
+  const hasInCell = (light, shared) => light.cells.some((cell) => editor.entryOf(board.cells[cell]).includes(shared));
   const isMeant = ({ of, otherOf, shared }) => shared && hasInCell(of, shared) && hasInCell(otherOf, shared);
   return closeWords(entered).filter((close) => !isMeant(close)).map(({ word, of, other, otherOf, shared }) => ({
     text: `${other} and ${word} ${shared ? `share ${shared}` : 'have one root'}: ${titled(otherOf)} and ${titled(of)}`, light: of.name,
@@ -98,17 +103,24 @@ function wordWarnings(board, answerOf, entryOf) {
 }
 
 // Clues whose enumeration counts other letters than their lights have. One that leads to other lights may count theirs too.
-function clueWarnings(board, cluedOf) {
+/** @param {Told} editor */
+function clueWarnings(editor) {
+  const { board } = editor;
   return board.lights.flatMap((light) => {
     const clue = unescapeText(board.texts.get(`clue ${light.name}`) ?? '');
     const length = enumeratedLength(clue);
-    const { length: own } = cluedOf(light);
+    const { length: own } = editor.cluedBy(light).answer;
     if (length === null || length === own || /\b(across|down|ac|dn)\b/i.test(clue)) return [];
     return [{ text: `the clue of ${titled(light)} says ${clue.slice(clue.lastIndexOf('('))} and it has ${own} letters`, light: light.name, isClue: true }];
   });
 }
 
-// What the usual rules say against a grid: { text, light or cell to go to, isClue if it is about the clue }. `answerOf` gives the
-// letters of a light, of which a cell may have several, `cluedOf` those of all lights of its clue, and `entryOf` those of a cell.
-export const warningsOf = (board, answerOf = (light) => board.spell(light), cluedOf = answerOf, entryOf = ({ letter }) => letter) =>
-  [...gridWarnings(board), ...wordWarnings(board, answerOf, entryOf), ...clueWarnings(board, cluedOf)];
+// Clues that have a word of an answer.
+/** @param {Told} editor */
+const clueWordWarnings = (editor) => clueWords(editor).map(({ light, word, in: other }) => ({
+  text: `the clue of ${titled(light)} has ${word}, which is in ${other === light ? 'its answer' : titled(other)}`, light: light.name, isClue: true,
+}));
+
+// What the usual rules say against a grid: { text, light or cell to go to, isClue if it is about the clue }.
+/** @param {Told} editor */
+export const warningsOf = (editor) => [...gridWarnings(editor.board), ...wordWarnings(editor), ...clueWarnings(editor), ...clueWordWarnings(editor)];

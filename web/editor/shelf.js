@@ -1,10 +1,11 @@
 // The puzzles that the browser keeps: the one that is here, at each change, and all that were here before, each with versions. A tab writes
 // only the puzzle that it holds the claim to.
 import { Claim } from './claim.js';
+import { keptSteps, packedHistory } from './history.js';
 import { whenIdle } from './idle.js';
 import {
-  askToPersist, destroyPuzzles, draftOf, drafted, dropDraft, dropFormer, formerSessions, keepDraft, keepPuzzleOfTab, onOtherDraft, puzzleOfTab, storePuzzles,
-  storedPuzzle, storedPuzzles, storedVersions, whyNotKept,
+  askToPersist, destroyPuzzles, draftOf, drafted, dropDraft, dropFormer, dropHistories, formerSessions, keepDraft, keepHistory, keepPuzzleOfTab, keptHistory, onOtherDraft, puzzleOfTab,
+  storePuzzles, storedPuzzle, storedPuzzles, storedVersions, whyNotKept,
 } from './keep.js';
 import { endWarning, warn } from './messages.js';
 import { PATTERNS, recordOf, rowsOf } from './patterns.js';
@@ -108,7 +109,22 @@ export class Shelf extends EventTarget {
       const draft = await this.latest(puzzle);
       if (!isUntouched(draft)) await storePuzzles([draft]);
       dropDraft(puzzle);
+      this.#dropHistory(puzzle);
     }
+  }
+
+  // The steps of a puzzle before the page was loaded, and those that were undone; or null.
+  async history(puzzle) {
+    try {
+      return keptSteps(await keptHistory(puzzle));
+    } catch {
+      return null;
+    }
+  }
+
+  // The history of a puzzle that is no longer open in this tab goes.
+  #dropHistory(puzzle) {
+    dropHistories([puzzle]).catch(() => {});
   }
 
   // Begins to keep the puzzle that is here.
@@ -195,6 +211,8 @@ export class Shelf extends EventTarget {
     this.#versions = this.#versions.filter((one) => !versions.includes(one));
     // a puzzle that undo brought back is drafted again
     for (const { puzzle } of aside) if (puzzle !== this.#editor.puzzle) dropDraft(puzzle);
+    // without the steps the puzzle is kept all the same
+    if (here.length && session.puzzle === this.#editor.puzzle) await keepHistory(packedHistory(this.#editor.history)).catch(() => {});
   }
 
   // Whether something was done to a puzzle. Once it was, its record is not looked at again.
@@ -253,7 +271,10 @@ export class Shelf extends EventTarget {
 
   // Keeps a session that another puzzle replaces, and asks for the claim to that one.
   #leave(session) {
-    if (this.#claim.isHeld) this.putAside(session);
+    if (this.#claim.isHeld) {
+      this.putAside(session);
+      this.#dropHistory(session.puzzle);
+    }
     this.#isElsewhere = false;
     endWarning('other');
     this.#seen = 0;
@@ -327,6 +348,7 @@ export class Shelf extends EventTarget {
 
   async destroy(names) {
     await destroyPuzzles(names);
+    for (const name of names) this.#dropHistory(name);
     await this.#bank.drop(names).catch(() => {});
   }
 }

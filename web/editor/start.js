@@ -41,9 +41,10 @@ async function beginOn({ editor, shelf }, module, kept, session) {
   const first = { record: recordOf(rowsOf(PATTERNS[0]), PATTERNS[0].sym), pencil: [] };
   const own = Lists.builtIn(kept.builtIn, kept.lists.personal);
   const tries = [[kept.lists, session ?? first], [own, session ?? first], [own, first]];
+  const history = session ? await shelf.history(session.puzzle) : null;
   for (const [lists, state] of tries) {
     try {
-      await editor.begin(module, lists.chosen, state);
+      await editor.begin(module, lists.chosen, state, state === session ? history : null);
       if (session && state === first) shelf.putAside(session);
       return lists;
     } catch (fault) {

@@ -16,11 +16,11 @@ import { Board } from './board.js';
 
 // The word lists in use as one. `byGrade` has the number of words of each grade; `least` is the least score, and `grade` its grade; words
 // below the score `weak` are marked. `threes` is the least score of words of three letters; with `apart`, candidates and fills have no words that are
-// close to others.
+// close to others. `target` is the score that no word of a fill is under when its raising ends, or null.
 /**
  * @typedef {{
  *   name: string, words: number, scored: boolean, best: number, byGrade: Uint32Array, leftOut: Record<string, number>, folded: number, asRead: string[],
- *   least: number, grade: number, weak: number, threes: number, apart: boolean, sources: Uint8Array[], personal: string,
+ *   least: number, grade: number, weak: number, threes: number, apart: boolean, target: number | null, sources: Uint8Array[], personal: string,
  * }} WordList
  */
 
@@ -70,7 +70,7 @@ class Parts {
   /** @type {ReadonlySet<number>} */
   worst = new Set();
   /** @type {WordList} */
-  list = { name: '', words: 0, scored: false, best: 0, byGrade: new Uint32Array(), leftOut: {}, folded: 0, asRead: [], least: 0, grade: 0, weak: 0, threes: 0, apart: false, sources: [], personal: '' };
+  list = { name: '', words: 0, scored: false, best: 0, byGrade: new Uint32Array(), leftOut: {}, folded: 0, asRead: [], least: 0, grade: 0, weak: 0, threes: 0, apart: false, target: null, sources: [], personal: '' };
   // names the puzzle: edits keep the name, another file or pattern has another one
   puzzle = newPuzzleName();
 }

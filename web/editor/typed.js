@@ -29,7 +29,7 @@ export class Typed {
   /** @type {(() => void)[]} */
   #waiting = [];
 
-  // `actions`: `isFilling` tells whether a fill has the engine, and `isRaising` whether an edit would end the raising of one; `undo` takes a step of the history back, `finished` is told when a field is left. A field takes
+  // `actions`: `isFilling` tells whether a fill has the engine; `undo` takes a step of the history back, `finished` is told when a field is left. A field takes
   // its text over at the event `change`.
   constructor(editor, actions) {
     this.actions = actions;
@@ -122,6 +122,6 @@ export class Typed {
 
   #soon() {
     clearTimeout(this.#timer);
-    this.#timer = window.setTimeout(() => (this.actions.isRaising() ? this.#soon() : this.take()), SETTLED);
+    this.#timer = window.setTimeout(() => this.take(), SETTLED);
   }
 }

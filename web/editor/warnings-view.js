@@ -24,7 +24,7 @@ export class WarningsView {
     const spelled = (name) => board.spell(board.byName.get(name));
     const known = [...this.#faults.repeated.keys()].filter((name) => board.byName.has(name));
     return [
-      ...warningsOf(board, (light) => this.#editor.answerOf(light), (light) => this.#editor.cluedBy(light).answer, (cell) => this.#editor.entryOf(cell)).map(({ text }) => termed(text)), ...known.map((name) => `${spelled(name)} stands twice`),
+      ...warningsOf(this.#editor).map(({ text }) => termed(text)), ...known.map((name) => `${spelled(name)} stands twice`),
       ...[...this.#faults.unlisted.values()].map(({ why }) => why),
     ];
   }

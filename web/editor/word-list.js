@@ -79,7 +79,7 @@ const WHY = {
 const SPELLED = { Æ: 'AE', æ: 'ae', Œ: 'OE', œ: 'oe', Ø: 'O', ø: 'o', ẞ: 'SS', ß: 'ss', Ł: 'L', ł: 'l', Đ: 'D', đ: 'd', Ð: 'D', ð: 'd', Þ: 'TH', þ: 'th' };
 
 // A spelling without accents: É is E, and Œ is OE.
-function unaccented(spelling) {
+export function unaccented(spelling) {
   if (!/[^\x00-\x7f]/.test(spelling)) return spelling;
   return spelling.normalize('NFD').replace(/\p{M}/gu, '').replace(/\p{L}/gu, (letter) => SPELLED[letter] ?? letter);
 }

@@ -46,6 +46,15 @@ export async function openFile(path) {
   await browser.choose('#picker', path);
 }
 
+// What the page says of a file with faults, once it asks whether to open it.
+export async function faultsShown() {
+  await browser.until("document.getElementById('repairs-dialog').open");
+  return browser.value("[...document.querySelectorAll('#repairs li')].map(({ textContent }) => textContent)");
+}
+
+// Answers that: `open` or `cancel`.
+export const openAnyway = (answer = 'open') => browser.click(`#repairs-dialog [value=${answer}]`);
+
 // Opens a file whose words have one length, as a list.
 export async function openWords(path) {
   await openFile(path);
@@ -198,7 +207,8 @@ export async function wholePuzzle(name, title, form) {
   await browser.until("document.querySelector('#checks li') && !/no clue|are empty/.test(document.getElementById('checks').textContent)");
   await picture(`${name}-checks`);
   const warnings = await browser.value("[...document.querySelectorAll('#checks li:not(.good)')].map(({ textContent }) => textContent)");
-  expect(warnings.every((text) => /one root|share/.test(text)), `warned of: ${warnings}`);
+  // the clues have the word CLUE, which the grid may have
+  expect(warnings.every((text) => /one root|share|has CLUE/.test(text)), `warned of: ${warnings}`);
   await browser.press('Control+p');
   await browser.until(`document.querySelectorAll('#preview .page:first-child .clues p').length === ${count}`);
   await picture(`${name}-print`);

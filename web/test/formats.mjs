@@ -2,86 +2,17 @@
 // that are read are spelled here from the descriptions of the formats. .jpz files need a browser (editor/files.mjs).
 //
 //   node web/test/formats.mjs
-import { readFileSync } from 'node:fs';
-import { Xw, load, toText } from '../dist/xw.js';
+import { Xw, toText } from '../dist/xw.js';
 import { Count } from './count.mjs';
 import { pageModules } from './page-modules.mjs';
 import { puzOf } from './puz.mjs';
+import { expect, module, openedOf, openedPuz, refused, same } from './reading.mjs';
 import { textsFrom } from './texts.mjs';
 import { zipOf } from './zip.mjs';
 
 const {
-  Board, asVersion13, droppedOfPuz, engineText, entryOf, escapeText, exolveOf, filesIn, foreignKind, ipuzOf, isZip, keptRebus, kindOf, lights, linksOf, lossesOf, originalsOf, readDeck, readExolve,
-  readIpuz, readList, readQxw, rebusOf, textLines, unescapeText, unzipped, withRebus,
-} = await pageModules(
-  'answers', 'board', 'dropped', 'exolve', 'ipuz', 'kinds', 'links', 'losses', 'puz-sections', 'puz-versions', 'qxw', 'rebus', 'record', 'word-list', 'zip',
-);
-const module = await load(readFileSync(new URL('../dist/xw.wasm', import.meta.url)));
-
-function expect(isSo, what) {
-  if (!isSo) throw new Error(what);
-}
-
-// with the names in order
-const sorted = (_, value) => (value && typeof value === 'object' && !Array.isArray(value) ? Object.fromEntries(Object.entries(value).sort(([one], [other]) => (one < other ? -1 : 1))) : value);
-const spelled = (value) => JSON.stringify(value, sorted);
-const same = (told, wanted) => expect(spelled(told) === spelled(wanted), `${spelled(told)}, and not ${spelled(wanted)}`);
-
-function lightsIn(xw) {
-  const { line, read } = lights();
-  return read(xw.line(line).lines);
-}
-
-// The board that the engine has, and the texts of it as the page shows them.
-function boardOf(xw, originals = []) {
-  const lines = (line) => xw.line(line).lines;
-  const board = new Board();
-  board.takeWhole({ show: lines('show'), lights: lines('lights'), cells: lines('cells'), counts: [], circles: lines('circles'), texts: lines('texts') });
-  const kept = new Map(originals);
-  const textOf = (field) => kept.get(field.startsWith('clue ') ? board.clueField(board.byName.get(field.slice(5))) : field) ?? unescapeText(board.texts.get(field) ?? '');
-  return { board, textOf, entries: (cell) => entryOf(cell, kept) };
-}
-
-// What the page has of a puzzle that was read.
-function openedOf(given) {
-  const { record, originals, lost } = given.recordWith(lightsIn(Xw.open(module, { record: given.grid })));
-  const xw = Xw.open(module, { record });
-  expect(!xw.reports, `the engine reports ${xw.reports}`);
-  const { board, textOf, entries } = boardOf(xw, originals);
-  return { ...toldOf(board, textOf, entries), lost, dropped: given.dropped, originals, board, textOf, entries };
-}
-
-// The rows, with cells of several letters in brackets, the bars and circles, and the texts.
-function toldOf(board, textOf, entries) {
-  const spelled = (cell) => (cell.block ? '#' : entries(cell).replace(/^(..+)$/, '[$1]') || '.');
-  const rows = Array.from({ length: board.height }, (_, row) => board.cells.slice(row * board.width, (row + 1) * board.width).map(spelled).join(''));
-  const at = (isThere) => board.cells.filter(isThere).map(({ coordinates }) => coordinates).join();
-  const clues = board.lights.map(({ name }) => [name, textOf(`clue ${name}`)]).filter(([, text]) => text);
-  return {
-    rows: rows.join(), right: at(({ right }) => right), below: at(({ below }) => below), circles: at(({ circle }) => circle),
-    texts: ['title', 'author', 'copyright', 'notes'].map(textOf), clues: Object.fromEntries(clues),
-  };
-}
-
-function refused(read) {
-  try {
-    read();
-  } catch ({ status, message }) {
-    expect(status === 'File', `the status is ${status}: ${message}`);
-    return message;
-  }
-  throw new Error('it is read');
-}
-
-// What the page has of a .puz.
-function openedPuz(bytes) {
-  const { bytes: plain, texts } = asVersion13(bytes);
-  const { originals, lines } = keptRebus(rebusOf(plain));
-  const record = [toText(Xw.open(module, { puzzle: plain }).record()), ...lines, ''].join('\n');
-  const xw = Xw.open(module, { record });
-  const { board, textOf, entries } = boardOf(xw, [...originalsOf(texts, lightsIn(xw)), ...originals]);
-  return { ...toldOf(board, textOf, entries), dropped: droppedOfPuz(plain), board, textOf, entries };
-}
+  asVersion13, engineText, escapeText, exolveOf, filesIn, foreignKind, ipuzOf, isZip, kindOf, linksOf, lossesOf, readDeck, readExolve, readIpuz, readList, readQxw, textLines, unzipped, withRebus,
+} = await pageModules('exolve', 'ipuz', 'kinds', 'links', 'losses', 'puz-sections', 'puz-versions', 'qxw', 'record', 'word-list', 'zip');
 
 const statusOf = (bytes) => {
   try {
@@ -135,7 +66,7 @@ const CASES = {
 
   '.ipuz: what is not kept, and what is no crossword'() {
     const file = {
-      ...IPUZ, intro: 'Hello', dimensions: { width: 3, height: 1 }, block: 'X', empty: '_', saved: [['A', 0, 0]], zones: [{}],
+      ...IPUZ, intro: 'Hello', explanation: 'Why', dimensions: { width: 3, height: 1 }, block: 'X', empty: '_', saved: [['A', 0, 0]], zones: [{}],
       puzzle: [[{ cell: '_', style: { colortext: 'ff0000' } }, { cell: '_', style: { shapebg: 'star' } }, null]], solution: [['HEART', 'C', null]], clues: { Zones: [[1, 'All']], Across: ['No number'] },
     };
     const { rows, texts, lost, dropped, board, textOf, entries } = openedOf(readIpuz(JSON.stringify(file)));
@@ -143,13 +74,12 @@ const CASES = {
     same(JSON.parse(ipuzOf(board, textOf, entries)).solution, [['HEART', 'C', '#']]);
     same(dropped, [
       'the colour of a cell', 'a shape that is no circle', 'a cell that is left out, which is a block now',
-      'the letters of a solver', 'zones of the grid', 'the clues of Zones',
+      'the explanation', 'the letters of a solver', 'zones of the grid', 'the clues of Zones',
     ]);
     expect(/no JSON/.test(refused(() => readIpuz('{'))), 'half a file');
     expect(/no crossword/.test(refused(() => readIpuz(JSON.stringify({ ...IPUZ, kind: 'http://ipuz.org/sudoku#1' })))), 'a sudoku');
     expect(/size from 1/.test(refused(() => readIpuz(JSON.stringify({ ...IPUZ, dimensions: { width: 256, height: 1 } })))), 'a wide grid');
-    expect(/rows/.test(refused(() => readIpuz(JSON.stringify({ ...IPUZ, dimensions: { width: 2, height: 1 }, puzzle: [[0]] })))), 'a short row');
-    expect(/\u2665/.test(refused(() => readIpuz(JSON.stringify({ ...IPUZ, dimensions: { width: 1, height: 1 }, puzzle: [[0]], solution: [['\u2665']] })))), 'a heart');
+    expect(/rows/.test(refused(() => readIpuz(JSON.stringify({ ...IPUZ, dimensions: { width: 2, height: 1 }, puzzle: [0] })))), 'no row');
   },
 
   'Exolve'() {
@@ -185,9 +115,9 @@ const CASES = {
     same(told, {
       rows: 'COT,A#O,T..', right: '1 2,3 2', below: '2 1', circles: '1 3', texts: ['Bars and circles', 'A. Setter', '\u00a9 2026', 'First line\nand \u2192 second'],
       clues: { '1 across': 'Firm (2)', '3 across': 'A definition that goes on (3,1)', '1 down': 'Feline (3)', '2 down': 'As well' }, lost: 1,
-      dropped: ['that a letter is shown to solvers', 'the note on a clue', 'a clue without a number', 'the section exolve-nina'],
+      dropped: ['that a letter is shown to solvers', 'a clue without a number', 'the section exolve-nina'],
     });
-    same(originals, [['notes', 'First line\nand \u2192 second'], ['link 3 1 across', '1 3 down']]);
+    same(originals, [['notes', 'First line\nand \u2192 second'], ['link 3 1 across', '1 3 down'], ['note 1 1 across', '[Letters of no word]']]);
     same(exolveOf(board, textOf).split('\n').map((line) => line.trim()), [
       'exolve-begin', 'exolve-title: Bars and circles', 'exolve-setter: A. Setter', 'exolve-copyright: \u00a9 2026', 'exolve-width: 3', 'exolve-height: 3', 'exolve-preamble:', 'First line',
       'and \u2192 second', 'exolve-grid:', 'C O| T@', 'A_ . O', 'T 0| 0', 'exolve-across:', '1 Firm (2)', '3 A definition that goes on (3,1)', 'exolve-down:', '1 Feline (3)', '2 As well', 'exolve-end', '',
@@ -196,8 +126,24 @@ const CASES = {
     same([spaced.rows, spaced.right, spaced.dropped], ['[HEART]AE,BCD', '1 2', []]);
     const again = exolveOf(spaced.board, spaced.textOf, spaced.entries);
     expect(again.includes('\n  exolve-option: rebus-cells\n') && again.includes('\n    HEART A| E\n'), again);
-    expect(/row 1 /.test(refused(() => readExolve('exolve-begin\nexolve-width: 3\nexolve-height: 1\nexolve-grid:\nAB\nexolve-end'))), 'a short row');
     expect(/size from 1/.test(refused(() => readExolve('exolve-begin\nexolve-end'))), 'no grid');
+  },
+
+  'Exolve: explanations are notes on the clues that they name'() {
+    const file = (...explanations) => readExolve(['exolve-begin', 'exolve-width: 3', 'exolve-height: 3', 'exolve-grid:', 'COT', 'A.O', 'TIE', 'exolve-across:', '1 Firm (3) c + ot', '3 Ends (3)', 'exolve-down:', '1 Also (3)', '2 Two (3)', 'exolve-explanations:', ...explanations, 'exolve-end'].join('\n'));
+    const notes = (...explanations) => {
+      const { originals, dropped, clues } = openedOf(file(...explanations));
+      same(clues, { '1 across': 'Firm (3)', '3 across': 'Ends (3)', '1 down': 'Also (3)', '2 down': 'Two (3)' });
+      return [originals.map((pair) => pair.join(': ')), dropped];
+    };
+    const own = 'note 1 1 across: c + ot';
+    same(notes('1d: hidden', '3 Across. one', 'and more', '2-down two', '1a) definition'), [
+      [`${own} definition`, 'note 1 1 down: hidden', 'note 3 1 across: one and more', 'note 1 3 down: two'], [],
+    ]);
+    same(notes('Across', '3 a tree', 'Down:', '1. hidden', '2 two'), [[own, 'note 3 1 across: a tree', 'note 1 1 down: hidden', 'note 1 3 down: two'], []]);
+    // lines that name no clue, and clues that are not there
+    same(notes('The theme is trees.', '5 of them', '9d: oak'), [[own], ['2 lines of exolve-explanations', 'the note on a clue']]);
+    same(notes('1945 was a good year'), [[own], ['a line of exolve-explanations']]);
   },
 
   'Qxw: puzzles and decks'() {

@@ -47,6 +47,21 @@ export const stored = `() => new Promise((resolve, reject) => {
   };
 })`;
 export const isStored = (line) => browser.until(`(${stored})().then(({ puzzles }) => puzzles.some(({ record }) => record.includes('${line}')))`);
+// The histories of open puzzles that the browser keeps; none if the page has not made their store yet.
+const histories = `() => new Promise((resolve) => {
+  const request = indexedDB.open('xw-editor-history');
+  request.onupgradeneeded = () => request.transaction.abort();
+  request.onerror = () => resolve([]);
+  request.onsuccess = () => {
+    const all = request.result.transaction('history').objectStore('history').getAll();
+    all.onsuccess = () => {
+      request.result.close();
+      resolve(all.result);
+    };
+  };
+})`;
+// Waits until these are the histories: for each puzzle how many steps can be undone, and how many done again.
+export const areStepsKept = (...counts) => browser.until(`(${histories})().then((all) => JSON.stringify(all.map(({ past, future }) => [past.length, future.length])) === '${JSON.stringify(counts)}')`);
 // A draft of an open puzzle
 export const isDrafted = (pattern) => browser.until(`${pattern}.test(window.drafts())`);
 

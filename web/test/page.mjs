@@ -129,7 +129,7 @@ export async function forget() {
       request.onsuccess = () => resolve(true);
       request.onerror = reject;
     });
-    Promise.all(['xw-editor', 'xw-editor-clues'].map(deleting)).then(resolve, reject);
+    Promise.all(['xw-editor', 'xw-editor-clues', 'xw-editor-history'].map(deleting)).then(resolve, reject);
   })`);
 }
 

@@ -8,9 +8,10 @@ import { Count } from './count.mjs';
 import { pageModules } from './page-modules.mjs';
 
 const {
-  anagramsOf, brightened, changeBeside, closeWords, colourIn, engineText, enumerationsOf, hasItalics, hiddenIn, isReference, joinPersonal, lengthsOfSpelling, linksOf, namedLights, nearDeadEnd,
-  numbersOf, partsOfText, referenceTo, spelledLights, spelledLink, spokenOf, toggledItalics, withScores, withoutItalics,
-} = await pageModules('changed', 'colours', 'cryptic', 'enumeration', 'kin', 'links', 'marks', 'near', 'record', 'spoken', 'word-list');
+  anagramsOf, brightened, PLAIN, changeBeside, closeWords, clueWords, colourIn, engineText, enumerationsOf, exolveOf, hasItalics, hiddenIn, isLanguage, isReference, joinPersonal, languagesFor, lengthsOfSpelling, linksOf,
+  namedLights, nearDeadEnd,
+  numbersOf, partedBy, partsOfText, readExolve, referenceTo, spelledLights, spelledLink, spokenOf, toggledItalics, withScores, withoutItalics,
+} = await pageModules('changed', 'clue-words', 'colours', 'cryptic', 'enumeration', 'exolve', 'kin', 'language', 'links', 'marks', 'near', 'record', 'spoken', 'word-list');
 
 const light = (number, direction, cells) => ({ name: `${number} ${direction}`, number: String(number), direction, cells, count: 1 });
 
@@ -93,6 +94,47 @@ const CASES = {
     same(lengths(['crossreferences;50'], { personal: 'cross references;70 # theme\nstone;5' }), { CROSSREFERENCES: '5,10' });
   },
 
+  'parts of answers by the lengths of clues'() {
+    const parts = (clue, answer) => partedBy(clue, answer).join(' ');
+    same(['Dessert (3,5)', 'Dessert (3-5)', 'Dessert', 'Dessert (8)', 'Dessert (4,5)', 'Dessert (2 wds.)'].map((clue) => parts(clue, 'ICECREAM')), ['ICE CREAM', 'ICE CREAM', '', 'ICECREAM', '', '']);
+    same(parts("Of the clock (1'5)", 'OCLOCK'), 'O CLOCK');
+  },
+
+  'words of answers in clues'() {
+    // lights with answers and clues, of which the named ones go on in others
+    const told = (answers, heads = {}) => {
+      const lights = Object.keys(answers).map((name) => light(...name.split(' '), []));
+      const named = (name) => lights.find((one) => one.name === name);
+      const editor = {
+        board: { lights }, textOf: (field) => answers[field.replace('clue ', '')][1] ?? '', answerOf: ({ name }) => answers[name][0],
+        cluedWith: (one) => [one, ...(heads[one.name] ?? []).map(named)],
+      };
+      return clueWords(editor).map(({ light: { name }, word, in: other }) => `${name}: ${word} in ${other.name}`);
+    };
+    const alone = (answer, clue) => told({ '1 across': [answer, clue] });
+    same(alone('STONE', 'A stone, or two STONES'), ['1 across: STONE in 1 across']);
+    // whole words alone, with any signs around them, and none under four letters
+    same(alone('STONE', 'Stones and headstones'), []);
+    same(alone('STONE', "“Stone's” throw: STONE"), ['1 across: STONE in 1 across']);
+    same(alone('THE', 'The article'), []);
+    same(alone('ROLE', '<i>Rôle</i> of an actor'), ['1 across: ROLE in 1 across']);
+    same(alone('OEUVRE', 'Painter’s œuvre'), ['1 across: OEUVRE in 1 across']);
+    // a light that is not filled has no answer
+    same(alone('ST.NE', 'Stone'), []);
+    // words of an answer, by the lengths at the end of its clue; words side by side that spell it are told as one
+    same(alone('ICECREAM', 'Frozen cream (3,5)'), ['1 across: CREAM in 1 across']);
+    same(alone('ICECREAM', 'Frozen cream'), []);
+    same(alone('ICECREAM', 'Ice-cream, or ice and cream (3,5)'), ['1 across: ICE CREAM in 1 across']);
+    same(alone('ICECREAM', 'Ice, cream!'), ['1 across: ICE CREAM in 1 across']);
+    // words of other answers, the first light of two that have one, and none that leads to a light
+    same(told({ '1 across': ['STONE', 'Mine'], '1 down': ['MINE', 'Dig for a stone, with cream'], '2 down': ['ICECREAM', 'Cone filler (3,5)'], '3 down': ['CREAM', ''] }),
+      ['1 across: MINE in 1 down', '1 down: STONE in 1 across', '1 down: CREAM in 2 down']);
+    same(told({ '1 across': ['DOWN', 'See 2 Down'], '2 down': ['ACROSS', 'Opposite of 1-Across or 12 across'], '3 down': ['FEATHER', 'Bit of down'] }), ['3 down: DOWN in 1 across']);
+    // a clue of several lights has the answer of all
+    same(told({ '1 across': ['GREAT', 'Great barns'], '2 across': ['BARNS', 'See 1'] }, { '1 across': ['2 across'] }), ['1 across: GREAT BARNS in 1 across']);
+    same(told({ '1 across': ['GREAT', 'Old barns'], '2 across': ['BARNS', 'See 1'] }, { '1 across': ['2 across'] }), ['1 across: BARNS in 1 across']);
+  },
+
   'anagrams and hidden words'() {
     const words = ['NOTE', 'TONE', 'ETON', 'ON', 'TE', 'NO', 'ET', 'STONES', 'PLATE', 'NORTH', 'TEN', 'ORB', 'LISTEN', 'ORGAN'];
     same(anagramsOf('NOTE', words, 9), ['TONE', 'ETON', 'ON TE', 'ET ON', 'ET NO']);
@@ -102,6 +144,24 @@ const CASES = {
     same(hiddenIn('TENOR', words, 9).every((found) => found.replace(/[a-z ]/g, '') === 'TENOR'), true);
     same(hiddenIn('TENOR', words, 9).includes('lisTEN ORgan'), true);
     same(hiddenIn('TENOR', words, 9).includes('plaTE NORth'), true);
+  },
+
+  'the language of a puzzle'() {
+    same(['en', 'en-GB', 'sr-Latn-RS', 'EN'].map(isLanguage), [true, true, true, true]);
+    same(['', 'e', 'english', 'en_GB', 'en-', 'en GB', '"><b', 'en-GB\n'].map(isLanguage), Array(8).fill(false));
+    const named = (language) => languagesFor(language).find(({ code }) => code === language)?.name;
+    same([named('en-GB'), named('ca'), named('')], ['British English (en-GB)', 'Catalan (ca)', undefined]);
+    same(languagesFor('ca').length, languagesFor('en-GB').length + 1);
+    // Exolve has one with its script
+    const text = (language) => `exolve-begin\n  exolve-language: ${language}\n  exolve-width: 2\n  exolve-height: 1\n  exolve-grid:\n    AB\nexolve-end\n`;
+    const read = (language) => {
+      const given = readExolve(text(language));
+      return [given.recordWith([]).originals, given.dropped];
+    };
+    same([read('fr Latin'), read(''), read('<b> Latin')], [[[['language', 'fr']], []], [[], []], [[], ['the language']]]);
+    const board = { width: 1, height: 1, cells: [{ letter: 'A', block: false }], lights: [] };
+    const written = (language) => exolveOf(board, () => '', undefined, { ...PLAIN, language }).split('\n').filter((line) => line.includes('language'));
+    same([written('fr'), written('')], [['  exolve-language: fr Latin'], []]);
   },
 
   'what is spoken of a light'() {
@@ -130,6 +190,9 @@ const CASES = {
     same(changed([['clue 1 1 across', '<i>A</i>']]), { tab: 'clues', text: 'the clue of 1 1 across' });
     // it is in the grid
     same(changed([['colour 1 1', 'ffe680']]), null);
+    same(changed([['language', 'en-GB']]), { tab: 'puzzle', text: 'the language' });
+    same(changed([['note 1 1 across', 'wordplay'], ['clue 1 1 across', '<i>A</i>']]), { tab: 'clues', text: '1 1 across' });
+    same(changed([['note 1 1 across', 'wordplay'], ['clue 2 1 across', '<i>A</i>']]), { tab: 'clues', text: '2 clues and notes' });
   },
 };
 

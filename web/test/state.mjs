@@ -7,7 +7,7 @@ import { deepStrictEqual } from 'node:assert/strict';
 import { Count } from './count.mjs';
 import { pageModules } from './page-modules.mjs';
 
-const { EditorState, only } = await pageModules('state');
+const { EditorState, changedBy, differenceOf, keptSteps, only, packedHistory } = await pageModules('history', 'state');
 
 // A state, and what it tells of some parts: what changed, and what was there before.
 function listening(...names) {
@@ -16,7 +16,39 @@ function listening(...names) {
   return { state, told };
 }
 
+// Steps of a puzzle that enter letters one after another, the last one first in pencil.
+const place = (cursor) => ({ cursor, direction: 'across' });
+const stepsOf = (word) => Array.from({ length: word.length + 1 }, (_, count) => ({
+  puzzle: 'p', record: `size 5 5\n${[...word.slice(0, count)].map((letter, at) => `set 1 ${at + 1} ${letter}\n`).join('')}text title Farm\n`,
+  pencil: count === word.length ? [`1 ${count}`] : [], originals: [['title', 'Farm \u2192']], written: [], ...place(count), from: place(Math.max(0, count - 1)),
+}));
+
 const CASES = {
+  'the history as the browser keeps it'() {
+    deepStrictEqual([differenceOf('abcd', 'abcd'), differenceOf('abcd', 'axd'), differenceOf('aa', 'aaa'), differenceOf('abab', 'ab'), differenceOf('', 'x'), differenceOf('x', '')],
+      [null, [1, 2, 'x'], [2, 0, 'a'], [2, 2, ''], [0, 0, 'x'], [0, 1, '']]);
+    const texts = ['', 'a', 'aa', 'aba', 'ab\nab', 'banana', 'ana', '\u{1d11e}a', '\u{1d11f}a'];
+    for (const text of texts) for (const other of texts) deepStrictEqual(changedBy(text, differenceOf(text, other)), other);
+    const steps = stepsOf('SHEEP');
+    for (let at = 0; at < steps.length; at++) {
+      // those after now are in a pile too: the next one is on top
+      const history = { past: steps.slice(0, at), now: steps[at], future: steps.slice(at + 1).reverse() };
+      deepStrictEqual(keptSteps(structuredClone(packedHistory(history))), history);
+    }
+    // a letter is little beside a whole step
+    const { length } = JSON.stringify(packedHistory({ past: steps.slice(0, 5), now: steps[5], future: [] }).past);
+    if (length > 5 * 100) throw new Error(`five letters take ${length} characters`);
+    deepStrictEqual([keptSteps(undefined), keptSteps({ ...packedHistory({ past: [], now: steps[0], future: [] }), form: 2 })], [null, null]);
+  },
+
+  'the steps nearest to now are kept where there are many, or large ones'() {
+    const steps = stepsOf('S'.repeat(400));
+    const of = (past, now) => keptSteps(packedHistory({ past, now, future: [] })).past;
+    deepStrictEqual(of(steps.slice(0, 400), steps[400]), steps.slice(100, 400));
+    const large = ['a', 'b', 'c', 'd', 'e'].map((letter, at) => ({ ...steps[0], record: letter.repeat(100000 + at) }));
+    deepStrictEqual(of(large.slice(0, 4), large[4]), large.slice(2, 4));
+  },
+
   'a change is told with what was there before'() {
     const { state, told } = listening('cursor');
     state.change({ cursor: 5, direction: 'down' });

@@ -54,7 +54,7 @@ const CASES = {
       pencil: ['1 1', '12 3'], written: [['clue 1 1 across', 'CAT']],
       originals: [
         ['title', 'A \u2192 <b>'], ['notes', 'x'], ['clue 1 12 down', HOSTILE], ['note 1 1 across', HOSTILE], ['cell 1 1', 'HEART'], ['colour 2 3', 'ffe680'],
-        ['link 1 1 across', '1 3 down, 3 1 across'],
+        ['link 1 1 across', '1 3 down, 3 1 across'], ['language', 'en-GB'],
       ],
     };
     same(besideOf(whole), { ...whole, dropped: [] });

@@ -4,6 +4,7 @@ import { join } from 'node:path';
 import { Xw } from '../../dist/xw.js';
 import { begin, menu, openFile, openRecord, print, saved } from '../doing.mjs';
 import { hold, holdFill, isDrafted, isHeld } from '../holding.mjs';
+import { pageScript } from '../page-modules.mjs';
 import { LIST, PAGE, browser, expect, module, page, picture, ready, reload, room, runAlone } from '../page.mjs';
 
 // A row of four cells with a word.
@@ -398,7 +399,39 @@ export const CASES = {
     expect(!(await browser.value("document.querySelector('#clue-list textarea').value.includes('\\n')")), 'the clue has several lines');
     for (const [width, height] of [[1400, 900], [1000, 800], [390, 844]]) {
       await browser.view(width, height);
-      await heightIs("offsetWidth > 0.55 * document.getElementById('clue-list').clientWidth");
+      await heightIs("offsetWidth > 0.55 * document.querySelector('.clue-part').clientWidth");
+    }
+    await browser.view(1400, 900);
+  },
+
+  async 'the clues across and down side by side, and on a phone below each other'() {
+    await begin(1);
+    await browser.press('F3');
+    const columns = () => browser.value(`[...document.querySelectorAll('.clue-part')].map((part) => {
+      const { left, right, top, bottom } = part.getBoundingClientRect();
+      return { left, right, top, bottom, title: part.firstChild.textContent, isCut: part.scrollWidth > part.clientWidth };
+    })`);
+    for (const [width, height] of [[1280, 720], [1280, 800], [1280, 1024], [1920, 1080], [768, 1024]]) {
+      await browser.view(width, height);
+      const [across, down] = await columns();
+      expect(across.title === 'Across' && down.title === 'Down' && across.top === down.top && across.right <= down.left && down.right <= width, `${width} × ${height}: ${JSON.stringify([across, down])}`);
+      expect(!across.isCut && !down.isCut && down.bottom < height, `${width} × ${height}: a column is cut`);
+      await picture(`clues-${width}-${height}`);
+    }
+    // the clue of the other light of the cell is in sight too
+    await browser.view(1280, 800);
+    await browser.click('#cell-15-15');
+    const isInSight = (name) => browser.until(`(() => {
+      const row = document.querySelector('.clue.${name}');
+      const [inner, outer] = [row.getBoundingClientRect(), row.parentElement.getBoundingClientRect()];
+      return inner.top >= outer.top && inner.bottom <= outer.bottom + 1;
+    })()`);
+    await isInSight('here');
+    await isInSight('crossing');
+    for (const [width, height] of [[390, 844], [844, 390]]) {
+      await browser.view(width, height);
+      const [across, down] = await columns();
+      expect(across.left === down.left && across.bottom <= down.top, `${width} × ${height}: ${JSON.stringify([across, down])}`);
     }
     await browser.view(1400, 900);
   },
@@ -416,18 +449,75 @@ export const CASES = {
     await openRecord(rowOf('OATS'));
     await browser.press('F3');
     await enterWord('odds');
-    await browser.until("document.querySelector('.offers')?.textContent === 'Clues for ODDS before: Chances' && !document.querySelector('.offers').hidden");
+    const isOffered = (isOpen) => browser.until(`(() => {
+      const offers = document.querySelector('.offers:not([hidden]) details');
+      return offers?.open === ${isOpen} && offers.firstChild.textContent === 'Clues for ODDS before: 1, in 1 puzzle' && /^Chancesuntitled, .*20\\d\\d/.test(offers.lastChild.textContent);
+    })()`);
+    await isOffered(true);
     await picture('old-clues');
     await browser.until("!/Chances/.test(window.drafts())");
     await browser.click('.offers button');
     await clueIs('Chances');
-    await browser.until("document.querySelector('.offers').hidden");
+    // folded, where a clue is there; what this puzzle has is none of them
+    await isOffered(false);
     // it has its word once it is kept
     await isDrafted(/"ODDS"/);
     await staleIs('');
     await enterWord('oats');
     await staleIs('Written for ODDS: Keep Drop');
     await browser.until("document.querySelector('.offers').hidden");
+  },
+
+  async 'the bank of old clues saved, cleared and read again'() {
+    const bank = (count) => browser.until(`document.getElementById('bank-summary').textContent.startsWith('${count} with their words, in this browser alone')`);
+    const saving = () => saved('old-clues.csv', () => browser.click('#bank-export')).then((bytes) => bytes.toString().slice(1));
+    await openRecord(`${rowOf('EELS')}text title Sea\ntext clue 1 1 across Slippery fish\n`);
+    await browser.press('F4');
+    await browser.until("/^[0-9]+ clues? with/.test(document.getElementById('bank-summary').textContent)");
+    // what is cleared is gone for good, after a question
+    await browser.click('#bank-clear');
+    await browser.click('#bank-dialog [value=cancel]');
+    const before = await saving();
+    expect(before.includes('"EELS","Slippery fish","Sea","20'), before);
+    await browser.click('#bank-clear');
+    await picture('clear-old-clues');
+    await browser.click('#bank-take');
+    await page.statusIs(/^the old clues are cleared$/, 'good');
+    await bank('0 clues');
+    expect(await browser.value("document.getElementById('bank-export').disabled && document.getElementById('bank-clear').disabled"), 'nothing can be saved');
+    // a table is read after a question too, and what is left out is named
+    writeFileSync(join(room, 'bank.csv'), `${before}BANS,Forbids,Law,2025-03-04\r\nBANS,,Law,\r\n`);
+    await browser.choose('#bank-file', join(room, 'bank.csv'));
+    await browser.until("document.getElementById('bank-dialog').open && / Left out: a row without an answer or a clue.$/.test(document.getElementById('bank-told').textContent)");
+    await browser.click('#bank-take');
+    await page.statusIs(/^bank.csv: [0-9]+ clues added to the old clues; left out: a row without an answer or a clue$/);
+    const after = await saving();
+    expect(before.split('\r\n').every((line) => after.includes(line)) && after.includes('"BANS","Forbids","Law","2025-03-04T00:00:00.000Z","table Law"'), after);
+    // a file that is none is refused by name
+    writeFileSync(join(room, 'bank.csv'), 'cat;60\n');
+    await browser.choose('#bank-file', join(room, 'bank.csv'));
+    await page.statusIs(/^bank.csv: its first line names no columns Answer and Clue$/, 'bad');
+    // and what was read is shown below the clue of its word
+    await openRecord(rowOf('BANS'));
+    await browser.press('F3');
+    await browser.until("/^Clues for BANS before: 1, in 1 puzzleForbidsLaw, .*2025/.test(document.querySelector('.offers:not([hidden])')?.textContent)");
+  },
+
+  async 'the bank of clues keeps the first date of a clue, and no more than it may'() {
+    await browser.value(`(() => { ${await pageScript('store', 'keep')}; window.store = store; })()`);
+    const left = await browser.value(`(async () => {
+      const { clearClues, everyClue, keepClues } = window.store;
+      const clue = (clue, at, title = '') => ({ word: 'ODDS', clue, puzzle: 'p', title, at });
+      await clearClues();
+      await keepClues([clue('Chances', 5)]);
+      await keepClues([clue('Chances', 9, 'Farm'), clue('Ratio', 0), clue('Ends', 7)]);
+      await keepClues([clue('Ratio', 3)]);
+      const all = await everyClue();
+      await keepClues(Array.from({ length: 20 }, (_, at) => clue(String(at), 100 + at)), 20);
+      return [all.map(({ clue, at, title }) => [clue, at, title].join(' ')).join(), (await everyClue()).map(({ clue }) => clue).sort().join()];
+    })()`);
+    expect(left[0] === 'Chances 5 Farm,Ends 7 ,Ratio 3 ', left[0]);
+    expect(left[1] === Array.from({ length: 19 }, (_, at) => String(at + 1)).sort().join(), left[1]);
   },
 
   async 'lengths at the end of clues'() {
@@ -603,6 +693,78 @@ export const CASES = {
     expect((await value('title')) === '', 'the title stays after undo');
   },
 
+  async 'the language of a puzzle, for the spelling'() {
+    await openRecord(rowOf('BAAS'));
+    const isIn = (language) => browser.until(`document.getElementById('clue-list').lang === '${language}' && document.getElementById('title').lang === '${language}' && document.getElementById('language').value === '${language}'`);
+    await isIn('');
+    expect(await browser.value("document.querySelector('#clue-list textarea').spellcheck && document.getElementById('notes').spellcheck"), 'the spelling is not checked');
+    await browser.press('F4');
+    await browser.value("document.getElementById('language').value = 'en-GB', document.getElementById('language').dispatchEvent(new Event('change', { bubbles: true }))");
+    await isIn('en-GB');
+    await isDrafted(/"language","en-GB"/);
+    await browser.click('#cell-1-1');
+    await browser.press('Control+z');
+    await page.statusIs(/^undone: the language$/i);
+    await isIn('');
+    await browser.press('Control+y');
+    await isIn('en-GB');
+    // files that have it, and one that has not
+    await saved('crossword.exolve', () => menu('save-exolve'));
+    await page.statusIs(/^saved: crossword.exolve$/);
+    await saved('crossword.ipuz', () => menu('save-ipuz'));
+    await page.statusIs(/^saved: crossword.ipuz, without the language$/);
+    await saved('crossword.xw', () => menu('save-session'));
+    for (const name of ['crossword.exolve', 'crossword.xw']) {
+      await begin(6);
+      await isIn('');
+      await openFile(join(room, name));
+      await page.statusIs(/is open; undo/);
+      await isIn('en-GB');
+    }
+  },
+
+  async 'clues from a table'() {
+    await openRecord(`${rowOf('BAAS')}text title Farm\ntext clue 1 1 across Sheep\n`);
+    await browser.press('F3');
+    const csv = (await saved('farm.csv', () => menu('clues-csv'))).toString();
+    expect(csv === '\ufeff"Number","Direction","Answer","Clue"\r\n"1","Across","BAAS","Sheep"\r\n', csv);
+    await page.statusIs(/^saved: farm.csv$/, 'good');
+    // what a table changes is shown first, and cancelled
+    const table = join(room, 'table.csv');
+    writeFileSync(table, '\ufeffNumber,Direction,Answer,Clue,Note\r\n1,Across,BAAS,"\'=Sheep, ""loud""\nsounds",to check\r\n7,Down,OATS,Feed,\r\n');
+    await browser.drop(table);
+    await browser.until("document.getElementById('table-dialog').open && document.getElementById('table-told').textContent === 'table.csv: 1 clue and 1 note will change; 1 row is left out.'");
+    const shown = await browser.value("[...document.querySelectorAll('#table-changes tr')].map((row) => [...row.children].map(({ textContent }) => textContent).join('|')).join('; ')");
+    expect(shown === '|Now|In the file; 1 Across|Sheep|=Sheep, "loud" sounds; 1 Across, note||to check', shown);
+    expect((await browser.value("document.getElementById('table-others').textContent")) === 'Line 4: there is no 7 Down, and no light has OATS', 'another row is left out');
+    await picture('clues-from-table');
+    await browser.click('#table-dialog [value=cancel]');
+    await page.statusIs(/^table.csv: the clues stay as they are$/, 'bad');
+    await clueIs('Sheep');
+    // and taken over in one step
+    await menu('clues-from');
+    await openFile(table);
+    await browser.click('#table-dialog [value=take]');
+    await page.statusIs(/^table.csv: 1 clue and 1 note taken over; undo takes this back$/, 'good');
+    await clueIs('=Sheep, "loud" sounds');
+    await browser.until("document.querySelector('.clue-more .note').value === 'to check'");
+    await browser.click('#cell-1-1');
+    await browser.press('Control+z');
+    await clueIs('Sheep');
+    await browser.until("document.querySelector('.clue-more .note').value === ''");
+    await browser.press('Control+y');
+    await clueIs('=Sheep, "loud" sounds');
+    const again = (await saved('farm.csv', () => menu('clues-csv'))).toString();
+    expect(again === '\ufeff"Number","Direction","Answer","Clue","Note"\r\n"1","Across","BAAS","\'=Sheep, ""loud"" sounds","to check"\r\n', again);
+    await page.statusIs(/^saved: farm.csv, with a private note$/);
+    // what is no table of clues is refused by name
+    writeFileSync(table, 'Number,Clue\n1,"Sheep');
+    await menu('clues-from');
+    await openFile(table);
+    await page.statusIs(/^table.csv: line 2 has a quote that opens or closes no field$/, 'bad');
+    await clueIs('=Sheep, "loud" sounds');
+  },
+
   async 'warnings while the grid changes'() {
     await begin(1);
     await browser.click('#tab-words');
@@ -652,6 +814,14 @@ export const CASES = {
     await openRecord(`size 4 7\n${[2, 4, 6].flatMap((row) => [1, 2, 3, 4].map((column) => `block ${row} ${column}`)).join('\n')}\nblock 1 4\nblock 3 4\nblock 7 4\n${spell(1, 'ERE')}\n${spell(3, 'ERR')}\n${spell(5, 'ODDS')}\n${spell(7, 'ODD')}\n`);
     await warned(/ODDS and ODD have one root/);
     expect(!(await browser.value("/ERE and ERR/.test(document.getElementById('checks').textContent)")), 'ERE and ERR have one root');
+    // a clue that has a word of an answer, which a click shows
+    await openRecord(`size 5 3\n${[1, 2, 3, 4, 5].map((column) => `block 2 ${column}`).join('\n')}\n${spell(1, 'STONE')}\n${spell(3, 'SLATE')}\ntext clue 1 1 across Slate or marble\ntext clue 3 1 across Tiles (5)\n`);
+    await warned(/^⚠ the clue of 1 Across has SLATE, which is in 2 Across$/);
+    await browser.click('#checks .warning button[data-tab="clue"]');
+    await browser.until("document.activeElement.dataset.light === '1 across'");
+    await browser.insert('Pebble');
+    await browser.press('F4');
+    await browser.until("!/which is in/.test(document.getElementById('checks').textContent)");
     await openRecord(`size 15 15\n`);
     await browser.until("!document.querySelector('#checks .warning')");
     // the patterns keep the rules

@@ -2,11 +2,11 @@
 import { mkdirSync, readdirSync, rmSync, writeFileSync } from 'node:fs';
 import { join } from 'node:path';
 import { Xw, toBytes } from '../../dist/xw.js';
-import { begin, hush, menu, openFile, openRecord, print, saved } from '../doing.mjs';
+import { begin, faultsShown, hush, menu, openAnyway, openFile, openRecord, print, saved } from '../doing.mjs';
 import { isDrafted } from '../holding.mjs';
 import { browser, expect, module, page, picture, pictures, reload, room, runAlone } from '../page.mjs';
 import { pageModules, pageScript } from '../page-modules.mjs';
-import { puzOf } from '../puz.mjs';
+import { lockedPuzOf, puzOf } from '../puz.mjs';
 import { textsFrom } from '../texts.mjs';
 import { zipOf } from '../zip.mjs';
 
@@ -39,7 +39,7 @@ async function isHarmless(name) {
   await browser.click('#library-dialog [value=close]');
 }
 
-// Files with such texts in each place that a format has, and what is said of them.
+// Files with such texts in each place that a format has, and what is said of them, or what is asked.
 function hostileFiles() {
   const text = HOSTILE;
   const xml = text.replace(/[&<>"]/g, (one) => `&#${one.charCodeAt(0)};`);
@@ -64,15 +64,15 @@ function hostileFiles() {
   const texts = [text, text, text, text, text].map((one) => Buffer.from(one));
   const rebus = [['GRBS', Buffer.from([1, 0])], ['RTBL', Buffer.from(` 0:${text.replace(/[;:]/g, '')};`)]];
   const lines = ['<ACROSS PUZZLE V2>', '<TITLE>', text, '<AUTHOR>', text, '<COPYRIGHT>', text, '<SIZE>', '2x1', '<GRID>', '1B', '<REBUS>', `1:${text.replace(/[;:]/g, '')}:A`, '<ACROSS>', text, '<DOWN>', '<NOTEPAD>', text];
-  const strange = (name) => new RegExp(`^${name}: row 1, column \\d has “`);
+  const strange = (name) => [new RegExp(`^${name} is open, with 1 repair[;,]`), /^row 1, column \d has “"><img src="?x.*…” for a letter: left empty$/];
   return [
     ['session.xw', session, new RegExp(`^session.xw is open, but without ${left}; undo`)],
     ['styles.ipuz', JSON.stringify({ ...styled, clues }), /^styles.ipuz is open, but without/],
-    ['letters.ipuz', JSON.stringify({ ...styled, solution: [['C', text, 'T']] }), strange('letters.ipuz')],
+    ['letters.ipuz', JSON.stringify({ ...styled, solution: [['C', text, 'T']] }), ...strange('letters.ipuz')],
     ['clues.ipuz', JSON.stringify({ ...styled, clues: { Across: 5 } }), /^clues.ipuz: it is not as its format has it$/],
-    ['texts.jpz', jpz('B'), /^texts.jpz is open, but without/], ['colours.jpz', jpz('B', ` background-color="${xml}"`), /^colours.jpz is open, but without/], ['letters.jpz', jpz(xml), strange('letters.jpz')],
-    ['texts.exolve', exolve('AB'), /^texts.exolve is open, but without/], ['letters.exolve', exolve(`A ${text.replace(/\s/g, '')}`), /^letters.exolve: row 1/],
-    ['texts.qxw', qxw('A'), /^texts.qxw is open/], ['letters.qxw', qxw(text), strange('letters.qxw')],
+    ['texts.jpz', jpz('B'), /^texts.jpz is open, but without/], ['colours.jpz', jpz('B', ` background-color="${xml}"`), /^colours.jpz is open, but without/], ['letters.jpz', jpz(xml), ...strange('letters.jpz')],
+    ['texts.exolve', exolve('AB'), /^texts.exolve is open, but without/], ['letters.exolve', exolve(`A ${text.replace(/\s/g, '')}`), /^letters.exolve is open, with 1 repair/, /^row 1, column 2 has “"><img/],
+    ['texts.qxw', qxw('A'), /^texts.qxw is open/], ['letters.qxw', qxw(text), ...strange('letters.qxw')],
     ['texts.puz', puzOf({ version: '2.0\0', width: 2, height: 1, solution: 'AB', texts }), /^texts.puz is open/],
     ['rebus.puz', puzOf({ version: '1.3\0', width: 2, height: 1, solution: 'AB', texts, sections: rebus }), /^rebus.puz is open, but without the rebus in row 1/],
     ['texts.txt', lines.join('\n'), /^texts.txt is open, but without the rebus in row 1/],
@@ -86,9 +86,14 @@ function hostileFiles() {
 export const CASES = {
   async 'files of a stranger run nothing, and become no elements'() {
     await begin(6);
-    for (const [name, bytes, said] of hostileFiles()) {
+    for (const [name, bytes, said, asked] of hostileFiles()) {
       writeFileSync(join(room, name), bytes);
       await openFile(join(room, name));
+      if (asked) {
+        const faults = await faultsShown();
+        expect(faults.length === 1 && asked.test(faults[0]), `${name}: the page asks: ${faults}`);
+        await openAnyway();
+      }
       if (said) await page.statusIs(said);
       else {
         await browser.until("document.getElementById('zip-dialog').open");
@@ -225,6 +230,32 @@ export const CASES = {
     await page.statusIs(/^none.zip is a zip without a file that can be read/, 'bad');
   },
 
+  async 'puzzles in mails'() {
+    const made = (solution) => puzOf({ version: '1.3\0', width: 3, height: 1, solution, texts: ['', '', '', 'Pet', ''].map((one) => Buffer.from(one)) });
+    const attached = (name, bytes) => ['--b', `Content-Type: application/octet-stream; name="${name}"`, 'Content-Transfer-Encoding: base64', '', Buffer.from(bytes).toString('base64').replace(/(.{76})/g, '$1\r\n')];
+    const mail = (...files) => [
+      'From: a@example.org', 'Subject: Puzzles', 'MIME-Version: 1.0', 'Content-Type: multipart/mixed; boundary="b"', '', '--b', 'Content-Type: text/plain', '', 'Here they are.', ...files.flat(), '--b--', '',
+    ].join('\r\n');
+    writeFileSync(join(room, 'one.eml'), mail(attached('cat.puz', made('CAT'))));
+    writeFileSync(join(room, 'two.eml'), mail(attached('cat.puz', made('CAT')), attached('dog.puz', made('DOG'))));
+    writeFileSync(join(room, 'zip.eml'), mail(attached('both.zip', zipOf([['cow.puz', made('COW')], ['more/dog.puz', made('DOG')]]))));
+    const opening = async (file, names, answer, said, row) => {
+      await begin(6);
+      await openFile(join(room, file));
+      if (names) {
+        await browser.until("document.getElementById('zip-dialog').open && /has 2 files. Open which/.test(document.getElementById('zip-told').textContent)");
+        expect((await browser.value("[...document.querySelectorAll('#zip-files button')].map(({ textContent }) => textContent).join()")) === names, 'other files are named');
+        await browser.click(`#zip-dialog [value="${answer}"]`);
+      }
+      await page.statusIs(said);
+      expect(!row || (await page.rows()).join() === row, `the grid is ${await page.rows()}`);
+    };
+    await opening('one.eml', '', '', /^cat.puz is open; undo/, 'CAT');
+    await opening('two.eml', 'cat.puz,dog.puz', '1', /^dog.puz is open; undo/, 'DOG');
+    await opening('two.eml', 'cat.puz,dog.puz', 'cancel', /^two.eml is not opened$/);
+    await opening('zip.eml', 'cow.puz,more/dog.puz', '0', /^cow.puz is open; undo/, 'COW');
+  },
+
   async 'a .puz opened and saved again'() {
     const xw = Xw.open(module, { record: 'size 4 4\ntext title Round trip\n' });
     for (let row = 1; row <= 4; row++) for (let column = 1; column <= 4; column++) xw.line(`set ${row} ${column} ${'ABCDEFGHIJKLMNOP'[4 * (row - 1) + column - 1]}`);
@@ -240,10 +271,101 @@ export const CASES = {
     expect(await page.has('2-2', 'circled'), 'the circle is lost');
     const again = await saved('round-trip.puz', () => browser.press('Control+s'));
     expect(again.equals(bytes), 'the bytes differ');
+    await begin(6);
     writeFileSync(path, bytes.fill(0, 0, 2));
     await openFile(path);
-    await page.statusIs(/checksum/);
-    expect((await page.row(1)) === 'ABCD', 'a file that is refused has changed the grid');
+    expect((await faultsShown()).join() === 'the checksum of the whole file is wrong', 'something else is wrong');
+    await openAnyway();
+    await page.statusIs(/^given.puz is open, with 1 repair; undo/, 'good');
+    expect((await page.row(1)) === 'ABCD' && (await page.has('2-2', 'circled')), 'the file is opened in part');
+  },
+
+  async 'files with faults, opened anyway or not'() {
+    const xml = `<crossword-compiler xmlns="http://crossword.info/xml/crossword-compiler"><rectangular-puzzle xmlns="http://crossword.info/xml/rectangular-puzzle"><crossword>
+      <grid width="3" height="1"><cell x="1" y="1" solution="C" number="1"/><cell x="2" y="1" solution="7"/><cell x="3" y="1" solution="T"/><cell x="4" y="1" solution="S"/></grid>
+      <word id="1" x="1-3" y="1"/><clues><title>Across</title><clue word="1" number="1">Pet</clue><clue word="1" number="1">Pets</clue></clues></crossword></rectangular-puzzle></crossword-compiler>`;
+    const ipuz = { version: 'http://ipuz.org/v2', kind: ['http://ipuz.org/crossword#1'], dimensions: { width: 3, height: 1 }, puzzle: [[1, 0]], solution: [['C', '\u2665', 'T']], clues: { Across: [[1, 'Pets']] } };
+    const symbol = (mark) => `row 1, column 2 has “${mark}” for a letter: left empty`;
+    const files = {
+      'faults.puz': [puzOf({ version: '1.3\0', width: 3, height: 1, solution: 'C7T', texts: ['', '', '', 'Pets', 'More', ''].map((one) => Buffer.from(one)) }).fill(0, 0, 2), [
+        symbol('7'), 'the checksum of the whole file is wrong', 'a clue too many: “More” is left out',
+      ]],
+      'faults.ipuz': [JSON.stringify(ipuz), ['row 1 has 1 cell too few: they are left empty', symbol('\u2665')]],
+      'faults.jpz': [xml, [symbol('7'), 'a cell lies outside the grid, in row 1, column 4: it is left out', 'a clue has the place of another one: “Pet” is left out']],
+    };
+    for (const [name, [bytes, wanted]] of Object.entries(files)) {
+      await begin(6);
+      const before = await page.rows();
+      writeFileSync(join(room, name), bytes);
+      await openFile(join(room, name));
+      const faults = await faultsShown();
+      expect(faults.join('; ') === wanted.join('; '), `${name}: the page says: ${faults.join('; ')}`);
+      await picture(`faults-${name.replace('.', '-')}`);
+      await browser.press('Escape');
+      await page.statusIs(new RegExp(`^${name} is not opened$`), 'bad');
+      expect((await page.rows()).join() === before.join(), `${name} changes the grid`);
+      await openFile(join(room, name));
+      await faultsShown();
+      await openAnyway();
+      await page.statusIs(new RegExp(`^${name} is open, with ${wanted.length} repairs; undo`), 'good');
+      expect((await page.rows()).join() === 'C.T', `the grid is ${await page.rows()}`);
+      await browser.press('F3');
+      await browser.until("document.querySelector('#clue-list textarea').value === 'Pets'");
+      await browser.click('#tab-words');
+      await browser.press('Control+z');
+      await browser.until(`document.querySelectorAll('#grid .row').length === ${before.length}`);
+    }
+  },
+
+  async 'a scrambled .puz, by its key, by a search and without letters'() {
+    const texts = ['', '', '', 'Firm', 'Also', 'Two', 'Ends', ''].map((one) => Buffer.from(one));
+    const bytes = lockedPuzOf({ version: '1.3\0', width: 3, height: 3, solution: 'COTA.OTIE', texts, key: '2718' });
+    writeFileSync(join(room, 'locked.puz'), bytes);
+    const asked = async (pattern) => {
+      await browser.until(`document.getElementById('key-dialog').open && ${pattern}.test(document.getElementById('key-told').textContent)`);
+      expect(await browser.value("document.activeElement.id === 'key'"), 'the field of the key has not the focus');
+    };
+    const opening = async (rows, pattern, tone = 'good') => {
+      await page.statusIs(pattern, tone);
+      expect((await page.rows()).join() === rows, `the grid is ${await page.rows()}`);
+      await browser.press('F3');
+      await browser.until("[...document.querySelectorAll('#clue-list textarea')].map(({ value }) => value).join() === 'Firm,Ends,Also,Two'");
+      await begin(6);
+      await openFile(join(room, 'locked.puz'));
+      await asked(/The solution of locked.puz is scrambled/);
+    };
+    await begin(6);
+    const before = (await page.rows()).join();
+    await openFile(join(room, 'locked.puz'));
+    await asked(/The solution of locked.puz is scrambled/);
+    await picture('key');
+    await browser.press('Escape');
+    await page.statusIs(/^locked.puz is not opened$/, 'bad');
+    expect((await page.rows()).join() === before, 'the grid has changed');
+    await openFile(join(room, 'locked.puz'));
+    await asked(/is scrambled/);
+    await browser.type('2719');
+    await browser.press('Enter');
+    await asked(/^2719 is not the key of locked.puz/);
+    await browser.type('2718');
+    await browser.press('Enter');
+    await opening('COT,A#O,TIE', /^locked.puz is open, unscrambled by the key 2718; undo/);
+    await browser.click('#key-search');
+    await opening('COT,A#O,TIE', /^locked.puz is open, unscrambled by the key 2718(, the likeliest of \d+ that fit)?; undo/);
+    await browser.click('#key-dialog [value=empty]');
+    await opening('...,.#.,...', /^locked.puz is open, but without its solution, which is scrambled; undo/, 'bad');
+    await browser.click('#key-dialog [value=cancel]');
+    // another checksum of the solution, which no key fits, and a wrong one of the file
+    writeFileSync(join(room, 'spoilt.puz'), bytes.fill(0, 0, 2).fill(bytes[0x1e] ^ 8, 0x1e, 0x1f));
+    await openFile(join(room, 'spoilt.puz'));
+    await asked(/is scrambled/);
+    await browser.click('#key-search');
+    await asked(/^None of the 9,999 keys fits spoilt.puz/);
+    expect(await browser.value("document.getElementById('key-search').disabled"), 'the search can be had again');
+    await browser.click('#key-dialog [value=empty]');
+    expect((await faultsShown()).join() === 'the checksum of the whole file is wrong', 'something else is wrong');
+    await openAnyway();
+    await page.statusIs(/^spoilt.puz is open, but without its solution, which is scrambled, with 1 repair; undo/, 'bad');
   },
 
   async 'the finished puzzles of examples/puzzles'() {
@@ -341,14 +463,14 @@ export const CASES = {
       'none.puz': '', 'none.txt': '', 'none.xw': '', 'blank.txt': '\n\n \n', 'notes.xw': '# xw session 1\n\n# no more\n', 'prose.txt': prose,
       'some.puz': 'cat\ncot\n', 'numbers.csv': '1,2\n3,4\n', 'folder.txt': null,
       'sudoku.ipuz': JSON.stringify({ version: 'http://ipuz.org/v2', kind: ['http://ipuz.org/sudoku#1'], dimensions: { width: 2, height: 1 }, puzzle: [[1, 2]] }),
-      'rebus.ipuz': JSON.stringify({ version: 'http://ipuz.org/v2', kind: ['http://ipuz.org/crossword#1'], dimensions: { width: 2, height: 1 }, puzzle: [[1, 2]], solution: [['\u2665', 'C']] }),
+      'short.puz': puzOf({ version: '1.3\0', width: 2, height: 1, solution: 'AB', texts: ['', '', '', 'Clue', ''].map((one) => Buffer.from(one)) }).subarray(0, 40),
       'paper.pdf': '%PDF-1.4\n1 0 obj\n<< /Type /Catalog /Pages 2 0 R >>\nendobj\n2 0 obj\n<< /Type /Pages /Kids [] /Count 0 >>\nendobj\ntrailer\n<< /Root 1 0 R >>\nstartxref\n9\n%%EOF\n',
       'picture.png': PICTURE, 'picture.puz': PICTURE, 'noise.puz': Buffer.from('ACROSS\0\0\0'), 'mail.puz': `From: a@example.org\nSubject: A crossword\nMIME-Version: 1.0\n\n${'\0'.repeat(40)}`,
     };
     const said = {
       'some.puz': 'some.puz: this is no .puz file; it looks like a word list, so give it a name that ends with .txt', 'noise.puz': 'noise.puz: this is no .puz file',
       'paper.pdf': 'paper.pdf is a document (PDF), not a puzzle: nothing is opened', 'picture.puz': 'picture.puz is a picture (PNG), not a puzzle: nothing is opened',
-      'mail.puz': 'mail.puz looks like a mail, not a puzzle: save its attachment, and open that',
+      'short.puz': 'short.puz: the file ends too early', 'mail.puz': 'mail.puz is a mail without a file that can be opened: nothing is opened',
     };
     for (const [name, bytes] of Object.entries(files)) {
       if (bytes === null) mkdirSync(join(room, name));
@@ -432,8 +554,8 @@ export const CASES = {
     const across = Object.fromEntries(saves.clues.Across);
     expect(across[1] === 'Firm =\u2192' && Object.values(across).includes('=1+1 (1,1)'), JSON.stringify(saves.clues));
     const csv = (await saved('bars-circles.csv', () => menu('clues-csv'))).toString();
-    expect(csv.startsWith('\ufeff"Number","Direction","Clue","Length","Answer"\r\n') && csv.includes('"Firm =\u2192","(2)","CO"') && csv.includes(`"'=1+1","(1,1)"`), csv);
-    expect(csv.includes('"A \u201cquoted\u201d, listed clue","(1-1)","AT"'), csv);
+    expect(csv.startsWith('\ufeff"Number","Direction","Answer","Clue"\r\n"1","Across","CO","Firm =\u2192"\r\n') && csv.includes(`,"'=1+1 (1,1)"\r\n`), csv);
+    expect(csv.includes('"AT","A \u201cquoted\u201d, listed clue (1-1)"'), csv);
     const html = (await saved('bars-circles.html', () => menu('clues-html'))).toString();
     expect(html.includes('<h1>Bars &amp; circles</h1>') && html.includes('<td>Firm =\u2192</td><td>(2)</td><td>CO</td>'), html);
   },
@@ -499,7 +621,7 @@ export const CASES = {
       }
     }
     await saved('crossword.csv', () => menu('clues-csv'));
-    await page.statusIs(/^saved: crossword.csv, without the italics of a clue and a private note$/);
+    await page.statusIs(/^saved: crossword.csv, with a private note$/);
     await openFile(join(room, 'crossword.jpz'));
     await page.statusIs(/^crossword.jpz is open; undo/);
     await browser.until("document.querySelectorAll('.cell.tinted').length === 5 && document.querySelector('#clue-list textarea').value === '<i>Firm</i> (3)'");
@@ -559,10 +681,12 @@ export const CASES = {
       await browser.until(`[...document.querySelectorAll('#clue-list textarea')].map(({ value }) => value).join('|') === '${first}|Ends|Also|Two'`);
     };
     const text = `exolve-begin\n exolve-title: Three\n exolve-width: 3\n exolve-height: 3\n exolve-grid:\n  COT\n  A.O@\n  TIE
- exolve-across:\n  1 Firm <i>\u2665</i> &amp; (3)\n  3 Ends\n exolve-down:\n  1 Also\n  2 Two\n exolve-colour: red a1\nexolve-end\n`;
+ exolve-across:\n  1 Firm <i>\u2665</i> &amp; (3) <b>c</b> +<br>ot\n  3 Ends\n exolve-down:\n  1 Also\n  2 Two\n exolve-colour: red a1\nexolve-end\n`;
     writeFileSync(join(room, 'given.exolve'), text);
     await isOpen('given.exolve', /^given.exolve is open, but without the section exolve-colour; undo/);
     expect(await page.has('2-3', 'circled'), 'the circle is lost');
+    await browser.value("document.querySelector('#clue-list textarea').focus()");
+    await browser.until("document.querySelector('.clue-more .note')?.value === 'c + ot'");
     await saved('three.exolve', () => menu('save-exolve'));
     await isOpen('three.exolve', /^three.exolve is open; undo/);
     const texts = ['Three \u2192 four', '', '', 'Firm \u2665 & (3)', 'Also', 'Two', 'Ends', ''].map((one) => Buffer.from(one));
@@ -609,7 +733,7 @@ export const CASES = {
     const ipuz = JSON.parse((await saved('sweet.ipuz', () => menu('save-ipuz'))).toString());
     expect(ipuz.solution[0].join() === 'S,W,E,E,T,HEART', JSON.stringify(ipuz.solution));
     const csv = (await saved('sweet.csv', () => menu('clues-csv'))).toString();
-    expect(csv.includes('"(10)","SWEETHEART"') && csv.includes('"(6)","HEARTS"'), csv);
+    expect(csv.includes('"Across","SWEETHEART",') && csv.includes('"Down","HEARTS",'), csv);
     await menu('print');
     await browser.until("[...document.querySelectorAll('#preview .solution text')].some(({ textContent }) => textContent === 'HEART')");
     await browser.press('Escape');

@@ -2,7 +2,7 @@
 import { writeFileSync } from 'node:fs';
 import { join } from 'node:path';
 import { begin, menu, openFile, saved } from '../doing.mjs';
-import { isDrafted, isStored, stored } from '../holding.mjs';
+import { areStepsKept, isDrafted, isStored, stored } from '../holding.mjs';
 import { PAGE, browser, expect, forget, fresh, page, picture, pictures, ready, reload, room, runAlone } from '../page.mjs';
 
 const DENIED = `
@@ -22,6 +22,67 @@ export const CASES = {
     await ready();
     expect((await page.row(1)).startsWith('TONE'), 'the letters are lost');
     expect((await browser.value("document.getElementById('title').value")) === 'Kept', 'the title is lost');
+  },
+
+  async 'undo and redo after a reload'() {
+    await fresh();
+    await begin(6);
+    await browser.type('cot');
+    await page.factsAre(/· 3 of/);
+    await browser.press('F3');
+    await browser.insert('Small bed');
+    await browser.press('Enter');
+    await areStepsKept([4, 0]);
+    await reload();
+    expect(!(await browser.value("document.getElementById('undo').disabled")) && (await browser.value("document.getElementById('redo').disabled")), 'undo is not there, or redo is');
+    // first the clue, then a letter, to where the cursor was
+    await browser.press('Control+z');
+    await page.statusIs(/^undone: the clue of 1 Across$/i);
+    await browser.click('#cell-3-3');
+    await browser.press('Control+z');
+    await page.factsAre(/· 2 of/);
+    await page.cursorAt('1-4');
+    await areStepsKept([2, 2]);
+    // and forth, and back to the first one
+    await reload();
+    await browser.press('Control+y');
+    await page.factsAre(/· 3 of/);
+    await browser.press('Control+y');
+    await page.statusIs(/^done again: the clue of 1 Across$/i);
+    for (let left = 4; left > 0; left--) await browser.press('Control+z');
+    await page.factsAre(/· 0 of/);
+    await browser.until("document.getElementById('undo').disabled");
+    // the steps go with the puzzle that is left
+    await begin(1);
+    await browser.type('t');
+    await areStepsKept([1, 0]);
+  },
+
+  async 'a step that the page could not keep any more'() {
+    await fresh();
+    await begin(6);
+    await browser.type('co');
+    await areStepsKept([2, 0]);
+    // the draft and the puzzle are kept, and the steps are not
+    await browser.value(`(() => {
+      const { put } = IDBObjectStore.prototype;
+      IDBObjectStore.prototype.put = function (...words) {
+        if (this.name === 'history') throw new DOMException('no room', 'QuotaExceededError');
+        return put.apply(this, words);
+      };
+    })()`);
+    await browser.type('t');
+    await isDrafted(/set 1 4 T/);
+    await isStored('set 1 4 T');
+    await reload();
+    await page.factsAre(/· 3 of/);
+    await browser.press('Control+z');
+    await page.factsAre(/· 2 of/);
+    await browser.press('Control+z');
+    await page.factsAre(/· 1 of/);
+    await browser.press('Control+y');
+    await browser.press('Control+y');
+    await page.factsAre(/· 3 of/);
   },
 
   async 'a reload in the middle of a word'() {

@@ -285,6 +285,26 @@ export const CASES = {
     return told;
   },
 
+  async 'a first fill that does not wait for the raising'() {
+    await openGraded();
+    await begin(1);
+    await hold('best');
+    await browser.press('Control+f');
+    await isHeld();
+    // no slice of the raising has an answer yet, and the fill is there
+    const rows = await page.rows();
+    expect(rows.every((row) => !row.includes('.')), `the grid is ${rows}`);
+    await page.statusIs(/^filled; its worst word is raised … Esc ends this$/);
+    await browser.until('document.getElementById("figures-text").textContent.startsWith("worst ")');
+    const worst = Number(/worst (\d+)/.exec(await browser.value('document.getElementById("figures-text").textContent'))[1]);
+    await browser.value('window.release()');
+    // the raising goes on from it
+    const told = await page.statusIs(/^filled: worst \d+/);
+    expect(Number(/worst (\d+)/.exec(told)[1]) >= worst, `it was ${worst} at first: ${told}`);
+    await menu('built-in');
+    await page.factsAre(/built-in list/);
+  },
+
   async 'a raising that ends'() {
     await openGraded();
     const startRaising = async () => {
@@ -335,6 +355,142 @@ export const CASES = {
     await reload();
     expect((await page.rows()).join() === rows.join(), 'the fill is lost');
     await page.factsAre(/graded.txt/);
+  },
+
+  async 'a fill that is improved until no fill is better, or it is stopped'() {
+    writeFileSync(join(room, 'squares.txt'), 'ab;90\ncd;80\nac;70\nbd;60\nef;75\ngh;85\neg;65\nfh;95\n');
+    await openFile(join(room, 'squares.txt'));
+    await page.factsAre(/squares.txt, 8 words/);
+    await beginBlank(2, 2);
+    // an empty grid is filled first
+    await browser.click('#improve');
+    await page.statusIs(/^filled: worst 65, mean 80; no fill is better; all but [13] (Across|Down) have 75 or more$/);
+    expect(['EF,GH', 'EG,FH'].includes((await page.rows()).join()), `the grid is ${await page.rows()}`);
+    const isOn = (pressed) => browser.until(`document.querySelector('#improve[aria-pressed=${pressed}]') && document.getElementById('stop').hidden === ${!pressed}`);
+    await isOn(false);
+    await browser.press('Control+z');
+    await page.factsAre(/· 0 of/);
+    // a raising that is to end by time goes on
+    await openGraded();
+    await begin(1);
+    await hold('best');
+    await browser.press('Control+f');
+    await isHeld();
+    await browser.click('#improve');
+    await page.statusIs(/^filled; its worst word is raised until no fill is better, or Esc stops it$/);
+    await isOn(true);
+    // a line in the tab says how far it is, and messages stay free
+    await browser.value('window.release()');
+    await browser.until("/^worst \\d+, mean \\d+; .*looking for \\d+ or more.*; \\d+ s$/.test(document.getElementById('improve-told').textContent)");
+    await picture('improving');
+    // a clue is kept meanwhile
+    await browser.press('F3');
+    await browser.type('Kept');
+    await isDrafted(/text clue 1 1 across Kept/);
+    await isOn(true);
+    await browser.press('Escape');
+    await browser.click('#tab-words');
+    // an edit ends it
+    await browser.click('#cell-1-1');
+    await browser.press('Space');
+    await isOn(false);
+    await browser.press('Control+z');
+    await page.factsAre(/filled/);
+    await hold('best');
+    await browser.click('#improve');
+    await isHeld();
+    await isOn(true);
+    await browser.click('#improve');
+    await page.statusIs(/^stopped: worst \d+/);
+    await isOn(false);
+    await browser.value('window.release()');
+    await reload();
+    await menu('built-in');
+    await page.factsAre(/built-in list/);
+    await browser.until("document.getElementById('improve-row').hidden");
+  },
+
+  async 'a fill that is improved until none is under a score'() {
+    writeFileSync(join(room, 'squares.txt'), 'ab;90\ncd;80\nac;70\nbd;60\nef;75\ngh;85\neg;65\nfh;95\n');
+    await openFile(join(room, 'squares.txt'));
+    await page.factsAre(/squares.txt, 8 words/);
+    await beginBlank(2, 2);
+    const aim = (score) => browser.value(`document.getElementById('target').value = '${score}', document.getElementById('target').dispatchEvent(new Event('change'))`);
+    await aim(61);
+    await browser.click('#improve');
+    // the other fill has the worst word BD, of 60
+    await page.statusIs(/^none is under 61: worst 65, mean 80/);
+    expect(['EF,GH', 'EG,FH'].includes((await page.rows()).join()), `the grid is ${await page.rows()}`);
+    // it is kept, and one that cannot be met ends where no fill is better
+    await reload();
+    await browser.until("document.getElementById('target').value === '61'");
+    await aim(70);
+    await browser.click('#improve');
+    await page.statusIs(/^filled: worst 65, mean 80; no fill is better/);
+    // one that is lowered ends what is under way
+    await openGraded();
+    await browser.until("document.getElementById('target').value === ''");
+    await begin(1);
+    await aim(100);
+    await hold('best');
+    await browser.click('#improve');
+    await isHeld();
+    await page.statusIs(/^filled; its worst word is raised until none is under 100, or Esc stops it$/);
+    await aim(0);
+    await page.statusIs(/^none is under 0: worst \d+/);
+    await browser.value('window.release()');
+    await reload();
+    await menu('built-in');
+    await page.factsAre(/built-in list/);
+  },
+
+  async 'the weakest words, and one that is mended'() {
+    writeFileSync(join(room, 'weak.txt'), 'cat;40\ncot;60\ntoe;75\ntie;70\n');
+    await openFile(join(room, 'weak.txt'));
+    await page.factsAre(/weak.txt, 4 words/);
+    // CAT crosses TOE, whose other letters are locked
+    await openRecord('size 3 3\nblock 2 1\nblock 2 2\nblock 3 1\nblock 3 2\nset 1 1 C\nset 1 2 A\nset 1 3 T\nset 2 3 O\nset 3 3 E\n');
+    await browser.click('#weakest summary');
+    const rows = () => browser.value("[...document.querySelectorAll('#weakest-list li')].map((row) => [...row.children].map((part) => [...(part.children.length ? part.children : [part])].map(({ textContent }) => textContent).join(' ')).join('|'))");
+    const areRows = (...wanted) => browser.until(`[...document.querySelectorAll('#weakest-list .word')].map((word) => word.textContent).join() === '${wanted.join()}'`);
+    await areRows('CAT401 Across', 'TOE752 Down');
+    expect((await rows()).join() === 'CAT 40 1 Across|locked|Mend,TOE 75 2 Down|locked|Mend', `the rows are ${await rows()}`);
+    expect((await page.count('#weakest-list [data-mend]:disabled')) === 2, 'a locked word can be mended');
+    await browser.click('#cell-1-1');
+    await browser.press('+');
+    await browser.until("document.querySelectorAll('#weakest-list [data-mend]:not(:disabled)').length === 2");
+    expect((await rows()).join() === 'CAT 40 1 Across||Mend,TOE 75 2 Down|2 locked letters|Mend', `the rows are ${await rows()}`);
+    await browser.click('#weakest-list li:nth-child(2) .word');
+    await browser.until("document.getElementById('light-letters').textContent === 'TOE'");
+    // the offer is shown, and changes nothing
+    await browser.click('#weakest-list li:first-child [data-mend]');
+    await page.statusIs(/^better words are found around 1 Across/);
+    await browser.until("document.getElementById('mend-told').textContent === 'around 1 Across: worst 40, mean 58, 1 under 50 now; worst 60, mean 68 with 1 other word'");
+    await picture('mended');
+    expect((await page.rows()).join() === 'CAT,##O,##E', `the grid is ${await page.rows()}`);
+    await browser.click('#mend-leave');
+    await browser.until("document.getElementById('mend-offer').hidden");
+    await browser.click('#weakest-list li:first-child [data-mend]');
+    await browser.until("!document.getElementById('mend-offer').hidden");
+    await browser.click('#mend-use');
+    await page.statusIs(/^mended around 1 Across/);
+    expect((await page.rows()).join() === 'COT,##O,##E', `the grid is ${await page.rows()}`);
+    await areRows('COT601 Across', 'TOE752 Down');
+    // it is proved where nothing is better
+    await browser.click('#weakest-list li:first-child [data-mend]');
+    await page.statusIs(/^no fill around 1 Across is better, with the rest as it is$/);
+    // one step takes it back
+    await browser.press('Control+z');
+    await areRows('CAT401 Across', 'TOE752 Down');
+    // an offer is for the grid as it was
+    await browser.click('#weakest-list li:first-child [data-mend]');
+    await browser.until("!document.getElementById('mend-offer').hidden");
+    await browser.press('Control+z');
+    await browser.until("document.getElementById('mend-offer').hidden");
+    await browser.click('#weakest summary');
+    await menu('built-in');
+    await page.factsAre(/built-in list/);
+    await browser.until("document.getElementById('weakest').hidden");
   },
 
   async 'workers that load a list ahead'() {

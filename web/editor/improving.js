@@ -1,0 +1,31 @@
+// A fill that is improved until no fill is better, or no word is under a score: the button for it, and how far it is.
+import { MOST, scoreOf } from './grades.js';
+import { put } from './page.js';
+import { termed } from './terms.js';
+
+// A time in seconds, as it is said.
+export const timeText = (seconds) => (seconds < 60 ? `${seconds} s` : `${Math.floor(seconds / 60)} min ${seconds % 60} s`);
+
+// How far a raising is, as in “worst 62, mean 81; no fill is better than 84; looking for 63 or more; 6 s”. `worst` says how good the words are that stand in
+// the grid, and `best` is the best score of the lists.
+export function progressText({ least, bound, isPart, seconds }, { worst, best }) {
+  const proved = bound <= MOST ? `no fill is better than ${scoreOf(bound, best) - 1}` : '';
+  const wanted = `looking for ${scoreOf(least, best)} or more${isPart ? ' for the others' : ''}`;
+  return [worst, proved, wanted, timeText(seconds)].filter(Boolean).join('; ');
+}
+
+export class ImprovingView {
+  #elements;
+
+  // `elements` are the row, the button and the text. Words without scores have no better fills.
+  constructor(editor, elements) {
+    this.#elements = elements;
+    editor.on(['list'], () => put(elements.row, 'hidden', !editor.list.scored));
+  }
+
+  show(isImproving, text = '') {
+    const { button, told } = this.#elements;
+    button.setAttribute('aria-pressed', String(isImproving));
+    put(told, 'textContent', isImproving ? termed(text) : '');
+  }
+}

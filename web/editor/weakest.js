@@ -1,0 +1,99 @@
+// The weakest words of the grid: each with its score, its light and what holds it, and the search for better words around it, whose offer is shown before it
+// replaces anything.
+import { fillCard } from './fills.js';
+import { say } from './messages.js';
+import { put } from './page.js';
+import { withoutTexts } from './record.js';
+import { termed } from './terms.js';
+import { holderText, offerText, weakestOf } from './weak-words.js';
+import { titleOf } from './words.js';
+
+export class WeakestView {
+  /** @type {import('./editor.js').Editor} */
+  #editor;
+  #elements;
+  /** @type {import('./mending.js').Offer | null} */
+  #offer = null;
+  #scores = new Map();
+
+  // `elements` are the box, the list, and the box of an offer with its text, its place and its buttons. `actions`: `go` goes to a light, `mend` looks for
+  // better words around one, `forced` has the lights that are proved to hold one, `use` puts letters into the grid, and `toGrid` goes back to it.
+  constructor(editor, elements, actions) {
+    this.#editor = editor;
+    this.#elements = elements;
+    this.actions = actions;
+    elements.box.addEventListener('toggle', () => this.#show());
+    elements.list.addEventListener('click', ({ target }) => this.#chosen(target.closest('button')));
+    elements.use.addEventListener('click', () => this.#use());
+    elements.leave.addEventListener('click', () => {
+      this.offer(null);
+      actions.toGrid();
+    });
+    editor.on(['step', 'board'], () => this.#stepped());
+  }
+
+  // Shows other scores, by the names of lights; those without one have no score.
+  show(scores) {
+    this.#scores = scores;
+    put(this.#elements.box, 'hidden', !scores.size);
+    this.#show();
+  }
+
+  #show() {
+    const { box, list } = this.#elements;
+    if (!box.open || box.hidden) return;
+    const focused = list.contains(document.activeElement) ? /** @type {HTMLElement} */ (document.activeElement).dataset : null;
+    const rows = weakestOf(this.#editor.board, this.#scores).map((one) => this.#row(one));
+    list.replaceChildren(...rows);
+    // the row that has the keys may have another place
+    if (focused) (list.querySelector(`[data-light="${focused.light}"]${focused.mend ? '[data-mend]' : ''}`) ?? list.querySelector('button'))?.focus();
+  }
+
+  #row({ light, score }) {
+    const { board, pencil } = this.#editor;
+    const made = (name, given) => Object.assign(document.createElement(name), given);
+    const row = made('li');
+    const word = made('button', { type: 'button', className: 'word', title: `Go to ${titleOf(light)}` });
+    word.append(made('b', { textContent: board.spell(light) }), made('span', { textContent: String(score) }), made('span', { textContent: titleOf(light) }));
+    const held = holderText(board, pencil, light, this.actions.forced(light));
+    const mend = made('button', { type: 'button', textContent: 'Mend', disabled: held === 'locked', title: termed('Looks for better words around this light, and changes nothing before you choose them') });
+    mend.setAttribute('aria-label', `Mend ${board.spell(light)}, ${titleOf(light)}`);
+    for (const button of [word, mend]) button.dataset.light = light.name;
+    mend.dataset.mend = 'mend';
+    row.append(word, made('small', { textContent: held }), mend);
+    return row;
+  }
+
+  #chosen(button) {
+    const light = button && this.#editor.board.byName.get(button.dataset.light);
+    if (!light) return;
+    if (button.dataset.mend) this.actions.mend(light);
+    else this.actions.go(light);
+  }
+
+  // Shows what is offered in place of the words around a light, or nothing. The keys go to it from the list.
+  offer(offer) {
+    this.#offer = offer;
+    const { offered, told, place, list, use } = this.#elements;
+    put(offered, 'hidden', !offer);
+    if (!offer) return place.replaceChildren();
+    told.textContent = offerText(offer);
+    const card = fillCard(this.#editor.board, offer.letters, offerText(offer));
+    card.addEventListener('click', () => this.#use());
+    place.replaceChildren(card);
+    return list.contains(document.activeElement) ? use.focus() : undefined;
+  }
+
+  // An offer is for the grid as it was.
+  #stepped() {
+    if (this.#offer && withoutTexts(this.#editor.record) !== this.#offer.record) this.offer(null);
+  }
+
+  async #use() {
+    const offer = this.#offer;
+    if (!offer) return;
+    if ((await this.actions.use(offer.letters)) !== null) return;
+    say(`mended ${offerText(offer)}; undo takes it back`, 'good');
+    this.actions.toGrid();
+  }
+}
