@@ -334,3 +334,25 @@ class Build:
                 raise Stopped(f"stopped; {self.progress()[0]} crates are proved and kept") from None
             os.utime(self.target, ns=(began, began))
             print(f"xw: built in {self.progress()[1]}", file=sys.stderr)
+
+    def prove_below(self):
+        """Proves the crates below the root that are due."""
+        self.crates.remove(self.root)
+        OUT.mkdir(parents=True, exist_ok=True)
+        with open(OUT / "lock", "w") as lock:
+            fcntl.flock(lock, fcntl.LOCK_EX)
+            kit(), self.find_due()
+            self.prove_all()
+
+
+def check(crate, options):
+    """Checks a crate over what the build has proved, and keeps its proofs for the next check. Returns the status of the prover, which prints
+    what it finds."""
+    if crate not in uses():
+        raise Failed(f"crates.txt has no crate {crate}")
+    Build(crate, MADE / f"{crate}.done").prove_below()
+    kept = OUT / "checks" / crate
+    kept.mkdir(parents=True, exist_ok=True)
+    jobs = [] if "--jobs" in options else ["--jobs", str(free_lanes())]
+    words = [*prover_words("check", crate), *jobs, "--incremental", str(kept), *options]
+    return subprocess.run(words, cwd=TOP / "crates" / crate).returncode

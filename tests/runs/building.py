@@ -23,6 +23,7 @@ PROVER = """#!/bin/sh
 [ ! -e wrong ] || { echo "this crate is wrong"; exit 1; }
 [ ! -e full ] || { echo "cannot write: No space left on device"; exit 2; }
 [ ! -e other ] || { echo "Usage: rattle build [OPTIONS]"; exit 2; }
+[ "$1" != check ] || { while [ $# -gt 3 ]; do shift; done; echo "checked $(basename "$PWD") with $*"; exit; }
 while [ -e held ]; do echo waiting >begun; sleep 0.1; done
 until [ "$1" = -o ]; do shift; done
 mkdir -p "$(dirname "$2")"
@@ -203,6 +204,19 @@ def stops(room, program):
     compare("the next build", lines_without_times(ended.stderr), [BEGIN, "xw: xw proved, 2 of 2; TIME", "xw: built in TIME"])
 
 
+def checks_a_crate(room, program):
+    """A check proves the crates below that have changed, and ends with the status of the prover."""
+    ended = call(room, "check", "xw", "--jobs", "1", "--only", "xw::main", capture_output=True)
+    compare("status", ended.returncode, ACCEPTED)
+    compare("output", ended.stdout, b"checked xw with 1 --only xw::main\n")
+    compare("messages", lines_without_times(ended.stderr), ["xw: low proved, 1 of 1; TIME"])
+    (room / "top/crates/xw/wrong").touch()
+    ended = call(room, "check", "xw", capture_output=True)
+    compare("a wrong crate", (ended.returncode, ended.stdout, ended.stderr), (1, b"this crate is wrong\n", b""))
+    ended = call(room, "check", "high", capture_output=True)
+    compare("no crate", (ended.returncode, ended.stderr), (FAILED, b"xw: crates.txt has no crate high\n"))
+
+
 def explains(room, program):
     for words in (["--help"], ["program", "--help"]):
         ended = call(room, *words, capture_output=True)
@@ -268,6 +282,7 @@ CASES = {
         "another kit": builds_with_another_kit,
         "no rt": keeps_proofs_without_rt,
         "a build that is stopped": stops,
+        "a check of a crate": checks_a_crate,
         "help": explains,
         "install": installs,
         "install, with a mask": installs_for_everyone,
