@@ -21,7 +21,7 @@ import { isRebus, keptRebus } from './rebus.js';
 import { bodyOf } from './record.js';
 import { counted } from './repairs.js';
 import { termed } from './terms.js';
-import { asVersion1, letterRows, recordOfRows } from './text-grids.js';
+import { asVersion1, isVersion1, letterRows, readText, recordOfRows } from './text-grids.js';
 import { isScrambled } from './unscramble.js';
 import { listText } from './word-list.js';
 import { titleOf } from './words.js';
@@ -41,7 +41,7 @@ const MOST_BYTES = 1 << 27;
 // The readers of formats, each of which makes a Given of bytes, and the writers of texts.
 const READERS = {
   ipuz: (bytes) => readIpuz(new TextDecoder().decode(bytes)),
-  jpz: (bytes) => readJpz(new DOMParser().parseFromString(listText(bytes), 'text/xml')),
+  jpz: (bytes) => readJpz(listText(bytes)),
   exolve: (bytes) => readExolve(listText(bytes)),
   qxw: (bytes) => readQxw(listText(bytes)),
   deck: (bytes) => readDeck(listText(bytes)),
@@ -134,8 +134,8 @@ export class Files {
     try {
       read = await this.#soundPuzzle(bytes);
     } catch (fault) {
-      if (!fault.status || !isPuz(bytes)) throw fault;
-      return await this.#openGiven(name, puzDespite(fault, bytes), { fault });
+      if (!fault.status) throw fault;
+      return await this.#openGiven(name, puzzleDespite(fault, bytes), { fault });
     }
     const { dropped, ...puzzle } = read;
     await this.#editor.replace(puzzle);
@@ -427,13 +427,16 @@ function givenBy(reader, bytes) {
   }
 }
 
-// What can be read of a .puz that is refused for a fault. If it has not even a grid, it stays refused.
-function puzDespite(fault, bytes) {
+// What can be read of a .puz or a text file that is refused for a fault. If it has not even a grid, it stays refused.
+function puzzleDespite(fault, bytes) {
   try {
-    return readPuz(bytes);
+    if (isPuz(bytes)) return readPuz(bytes);
+    const text = listText(bytes);
+    if (isVersion1(text)) return readText(text);
   } catch {
-    throw fault;
+    // the first fault says more
   }
+  throw fault;
 }
 
 // What is left out of a file.

@@ -21,6 +21,9 @@ export class FileFault extends Error {
   status = 'File';
 }
 
+// The width and the height of rows, some of which may be short.
+export const sizeOfRows = (rows) => [rows.reduce((most, row) => Math.max(most, row.length), 0), rows.length];
+
 const isSide = (side) => Number.isInteger(side) && side >= 1 && side <= 255;
 
 export class Given {
@@ -101,6 +104,16 @@ export class Given {
   /** @param {{ at?: string | null, number?: string | number, direction: Direction, text: string, links?: string[] }} clue */
   clue({ at = null, number = '', direction, text, links = [] }) {
     if (text) this.clues.push({ at, number: String(number), direction, text, links });
+  }
+
+  // Takes clues in the order of the lights that they are for, and says which are too many and how many are too few. `kind` says which clues they are.
+  /**
+   * @param {FirstCell[]} lights
+   * @param {string[]} texts
+   */
+  cluesFor(lights, texts, kind = 'clue') {
+    lights.slice(0, texts.length).forEach(({ row, column, direction }, at) => this.clue({ at: `${row} ${column}`, direction, text: texts[at] }));
+    this.repairs.counts(lights.length, texts, kind);
   }
 
   /** @param {GivenNote} note */
