@@ -3,7 +3,7 @@ import { rebusText } from './dropped.js';
 import { Given, sizeOfRows } from './given.js';
 import { keptRebus } from './rebus.js';
 import { recordOf } from './patterns.js';
-import { nearestText } from './record.js';
+import { nearestText, placeOf } from './record.js';
 import { NO_SIZE } from './repairs.js';
 
 const MOST_SIDE = 255;
@@ -59,6 +59,17 @@ export const isVersion1 = (head) => /^\s*<across puzzle>/i.test(head);
 
 // The puzzle of a text, with what is wrong in it. Throws a FileFault if it has no grid.
 export const readText = (text) => new TextGiven(partsOf(text.replaceAll('\0', '')), text.includes('\0'));
+
+// The same of version 2.
+export function readText2(text) {
+  const { text: plain, lines, originals, dropped } = asVersion1(text);
+  const given = readText(plain);
+  const placeIn = (spelled) => /** @type {[number, number]} */ (placeOf(spelled.replace(/^(circle|cell) /, '')));
+  for (const line of lines) if (line.startsWith('circle ')) given.circle(...placeIn(line));
+  originals.forEach(([field, entry]) => given.entry(...placeIn(field), entry));
+  dropped.forEach((phrase) => given.drops(phrase));
+  return given;
+}
 
 class TextGiven extends Given {
   #parts;

@@ -7,7 +7,7 @@ import { pageModules } from './page-modules.mjs';
 import { lockedPuzOf, puzOf } from './puz.mjs';
 import { expect, openedOf, refused, same } from './reading.mjs';
 
-const { closedJson, closedXml, readExolve, readIpuz, readPuz, readQxw, readText, solutionBy, withoutLetters } = await pageModules(
+const { closedJson, closedXml, readExolve, readIpuz, readPuz, readQxw, readText, readText2, solutionBy, withoutLetters } = await pageModules(
   'cut', 'exolve', 'ipuz', 'puz', 'qxw', 'text-grids', 'unscramble',
 );
 
@@ -144,6 +144,9 @@ const CASES = {
     same(of({ across: [] }).repairs, ['2 clues across too few: the last words have none']);
     for (const size of [[], ['3 by 3']]) same(of({ size }), { ...WHOLE, repairs: ['the file gives no size: that of its rows is taken'] });
     same(repaired(readText(text().replace('Firm', 'Fi\0rm'))), { ...WHOLE, repairs: ['NULs are left out of its texts'] });
+    // in version 2, with a cell of several letters and a circle
+    const later = repaired(readText2(text({ size: ['3x3', '<REBUS>', 'MARK;', '1:HEART:H'], grid: ['C1T', 'a.7', 'TIE'] }).replace('PUZZLE>', 'PUZZLE V2>')));
+    same(later, { ...WHOLE, rows: 'C[HEART]T,A#.,TIE', circles: '2 1', repairs: ['row 2, column 3 has “7” for a letter: left empty'] });
     expect(/size from 1/.test(refused(() => readText(text({ size: [], grid: [] })))) && /size from 1/.test(refused(() => readText(text({ size: ['0x3'] })))), 'no grid');
   },
 
