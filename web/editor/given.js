@@ -60,9 +60,13 @@ export class Given {
 
   // Whether a cell lies in the grid. One that does not is told, and is to be left out.
   admits(row, column) {
-    const isInside = Number.isInteger(row) && Number.isInteger(column) && row >= 1 && column >= 1 && row <= this.height && column <= this.width;
-    if (!isInside) this.repairs.add(`a cell lies outside the grid, in row ${row}, column ${column}: it is left out`);
-    return isInside;
+    const has = this.#has(row, column);
+    if (!has) this.repairs.add(`a cell lies outside the grid, in row ${row}, column ${column}: it is left out`);
+    return has;
+  }
+
+  #has(row, column) {
+    return Number.isInteger(row) && Number.isInteger(column) && row >= 1 && column >= 1 && row <= this.height && column <= this.width;
   }
 
   block(row, column) {
@@ -74,7 +78,7 @@ export class Given {
   }
 
   circle(row, column) {
-    this.#circles.add(`${row} ${column}`);
+    if (this.#has(row, column)) this.#circles.add(`${row} ${column}`);
   }
 
   colour(row, column, colour) {
@@ -91,7 +95,7 @@ export class Given {
 
   // What is in a cell: a letter, or several. A cell with something else stays empty.
   entry(row, column, given) {
-    const entry = this.repairs.lettersOf(row, column, given);
+    const entry = this.#has(row, column) ? this.repairs.lettersOf(row, column, given) : '';
     if (!entry) return;
     this.#letters.set(`${row} ${column}`, entry.slice(0, 1));
     if (entry.length > 1) this.#rebus.push([cellField(`${row} ${column}`), entry]);

@@ -147,6 +147,8 @@ const CASES = {
     // in version 2, with a cell of several letters and a circle
     const later = repaired(readText2(text({ size: ['3x3', '<REBUS>', 'MARK;', '1:HEART:H'], grid: ['C1T', 'a.7', 'TIE'] }).replace('PUZZLE>', 'PUZZLE V2>')));
     same(later, { ...WHOLE, rows: 'C[HEART]T,A#.,TIE', circles: '2 1', repairs: ['row 2, column 3 has “7” for a letter: left empty'] });
+    const wide = repaired(readText2(text({ size: ['3x3', '<REBUS>', 'MARK;', '1:HEART:H'], grid: ['COT1', 'A.Oa', 'TIE'] }).replace('PUZZLE>', 'PUZZLE V2>')));
+    same(wide, { ...WHOLE, repairs: [1, 2].map((row) => `row ${row} has 1 cell too many: the last are left out`) });
     expect(/size from 1/.test(refused(() => readText(text({ size: [], grid: [] })))) && /size from 1/.test(refused(() => readText(text({ size: ['0x3'] })))), 'no grid');
   },
 
