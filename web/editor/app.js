@@ -233,7 +233,7 @@ const MOST_REPAIRS = 200;
 // Shows what is wrong in a file and what is made of it, and promises `open` if it is opened so.
 function askAnyway(name, repairs) {
   const more = repairs.length - MOST_REPAIRS;
-  $('repairs-told').textContent = `${name} has faults. If you open it anyway, this is what is made of them:`;
+  $('repairs-told').textContent = `${name} has faults. They are these, with what is made of each:`;
   const shown = [...repairs.slice(0, MOST_REPAIRS), ...(more > 0 ? [`and ${more} more`] : [])];
   $('repairs').replaceChildren(...shown.map((textContent) => Object.assign(document.createElement('li'), { textContent })));
   return askDialog($('repairs-dialog'));

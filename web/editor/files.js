@@ -11,9 +11,9 @@ import { ipuzOf, readIpuz } from './ipuz.js';
 import { jpzOf, readJpz } from './jpz.js';
 import { solutionOf } from './locked.js';
 import { lossesOf } from './losses.js';
-import { SESSION_HEAD, foreignKind, hasCommands, isListText, isMailed, isMeant, isPuz, kindOf } from './kinds.js';
-import { attachedTo } from './mail.js';
+import { SESSION_HEAD, foreignKind, hasCommands, isListText, isPuz, kindOf } from './kinds.js';
 import { refusalText, refuseAsIs as refuse, sayAsIs as say } from './messages.js';
+import { unpacked } from './packed.js';
 import { readPuz } from './puz.js';
 import { rebusOf, withRebus } from './puz-sections.js';
 import { asVersion13, originalsOf } from './puz-versions.js';
@@ -22,27 +22,24 @@ import { isRebus, keptRebus } from './rebus.js';
 import { bodyOf } from './record.js';
 import { counted } from './repairs.js';
 import { termed } from './terms.js';
-import { asVersion1, letterRows, recordOfRows } from './text-grids.js';
+import { asVersion1, isVersion1, isVersion2, letterRows, readText, readText2, recordOfRows } from './text-grids.js';
 import { isScrambled } from './unscramble.js';
 import { listText } from './word-list.js';
 import { titleOf } from './words.js';
 import { staleClues } from './written.js';
-import { filesIn, isZip, unzipped } from './zip.js';
 
 // Notes of sessions, which the program passes over.
 const PENCIL = '# pencil ';
 const ORIGINALS = '# originals ';
 const WRITTEN = '# written ';
 
-// how deep zips and mails are opened in one another
-const MOST_PACKED = 3;
 // the most bytes of a file that is opened; larger ones are none of those that the page knows
 const MOST_BYTES = 1 << 27;
 
 // The readers of formats, each of which makes a Given of bytes, and the writers of texts.
 const READERS = {
   ipuz: (bytes) => readIpuz(new TextDecoder().decode(bytes)),
-  jpz: (bytes) => readJpz(new DOMParser().parseFromString(listText(bytes), 'text/xml')),
+  jpz: (bytes) => readJpz(listText(bytes)),
   exolve: (bytes) => readExolve(listText(bytes)),
   qxw: (bytes) => readQxw(listText(bytes)),
   deck: (bytes) => readDeck(listText(bytes)),
@@ -113,11 +110,14 @@ export class Files {
     return true;
   }
 
-  async #openText2(name, bytes) {
+  #openText2(name, bytes) {
+    return this.#openSound(name, bytes, () => this.#soundText2(bytes));
+  }
+
+  async #soundText2(bytes) {
     const { text, lines, originals, dropped } = asVersion1(listText(bytes));
     const read = await this.#editor.engine.call('read', { puzzle: toBytes(text) });
-    await this.#editor.replace({ record: [read.trimEnd(), ...lines, ''].join('\n'), originals });
-    return this.#opened(name, dropped);
+    return { record: [read.trimEnd(), ...lines, ''].join('\n'), originals, dropped };
   }
 
   // Opens rows of letters as what the user says they are.
@@ -131,18 +131,21 @@ export class Files {
   }
 
   // Opens a .puz or a text file.
-  async #openPuzzle(name, bytes) {
-    if (isPuz(bytes) && isScrambled(bytes)) return this.#openScrambled(name, bytes);
-    let read;
+  #openPuzzle(name, bytes) {
+    return isPuz(bytes) && isScrambled(bytes) ? this.#openScrambled(name, bytes) : this.#openSound(name, bytes, () => this.#soundPuzzle(bytes));
+  }
+
+  // Opens what the engine makes of a file, or if it refuses the file for a fault, what can be read of it.
+  async #openSound(name, bytes, read) {
+    let puzzle;
     try {
-      read = await this.#soundPuzzle(bytes);
+      puzzle = await read();
     } catch (fault) {
-      if (!fault.status || !isPuz(bytes)) throw fault;
-      return await this.#openGiven(name, puzDespite(fault, bytes), { fault });
+      if (!fault.status) throw fault;
+      return await this.#openGiven(name, puzzleDespite(fault, bytes), { fault });
     }
-    const { dropped, ...puzzle } = read;
     await this.#editor.replace(puzzle);
-    return this.#opened(name, dropped);
+    return this.#opened(name, puzzle.dropped);
   }
 
   // Opens a .puz with a scrambled solution, with its letters or without them.
@@ -214,46 +217,11 @@ export class Files {
       return null;
     }
     try {
-      return await this.#unpacked({ name: file.name, bytes: new Uint8Array(await file.arrayBuffer()) });
-    } catch {
-      refuse(`${file.name} cannot be read`);
+      return await unpacked({ name: file.name, bytes: new Uint8Array(await file.arrayBuffer()) }, MOST_BYTES, this.actions.askFile);
+    } catch (fault) {
+      refuse(fault.status === 'Packed' ? fault.message : `${file.name} cannot be read`);
       return null;
     }
-  }
-
-  // What a file has that only packs others, which may do so too.
-  async #unpacked(content, depth = 0) {
-    const { name, bytes } = content;
-    const isPacked = depth < MOST_PACKED && (isZip(bytes) || isMailed(bytes));
-    if (!isPacked) return content;
-    const within = await (isZip(bytes) ? this.#inZip(name, filesIn(bytes)) : this.#inMail(name, attachedTo(bytes).filter(isMeant)));
-    return within && this.#unpacked(within, depth + 1);
-  }
-
-  // The one file of a zip, or of several the one that the user chooses. A zip that only packs a puzzle, as .jpz files are, keeps its name.
-  async #inZip(zip, files) {
-    if (!files.length) return this.#refuseWhole(`${zip} is a zip without a file that can be read: nothing is opened`);
-    const file = await this.#oneOf(zip, files);
-    if (!file) return null;
-    const bytes = await unzipped(file, MOST_BYTES);
-    const name = file.name.replace(/^.*\//, '');
-    if (!bytes) return this.#refuseWhole(`${zip}: ${name} is damaged, or too large to be a puzzle, a session or a word list: nothing is opened`);
-    return { name: files.length > 1 || /\.zip$/i.test(zip) ? name : zip, bytes };
-  }
-
-  // The one file of a mail, or of several the one that the user chooses.
-  async #inMail(mail, files) {
-    return files.length ? this.#oneOf(mail, files) : this.#refuseWhole(`${mail} is a mail without a file that can be opened: nothing is opened`);
-  }
-
-  async #oneOf(holder, files) {
-    const chosen = files.length > 1 ? await this.actions.askFile(holder, files.map(({ name }) => name)) : 0;
-    return files[chosen ?? -1] ?? this.#refuseWhole(`${holder} is not opened`);
-  }
-
-  #refuseWhole(text) {
-    refuse(text);
-    return null;
   }
 
   // Only the grid and the texts of a session are tried without the list, since words of the list are not known there.
@@ -446,13 +414,17 @@ function givenBy(reader, bytes) {
   }
 }
 
-// What can be read of a .puz that is refused for a fault. If it has not even a grid, it stays refused.
-function puzDespite(fault, bytes) {
+// What can be read of a .puz or a text file that is refused for a fault. If it has not even a grid, it stays refused.
+function puzzleDespite(fault, bytes) {
   try {
-    return readPuz(bytes);
+    if (isPuz(bytes)) return readPuz(bytes);
+    const text = listText(bytes);
+    if (isVersion1(text)) return readText(text);
+    if (isVersion2(text)) return readText2(text);
   } catch {
-    throw fault;
+    // the first fault says more
   }
+  throw fault;
 }
 
 // What is left out of a file.

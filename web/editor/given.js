@@ -22,6 +22,9 @@ export class FileFault extends Error {
   status = 'File';
 }
 
+// The width and the height of rows, some of which may be short.
+export const sizeOfRows = (rows) => [rows.reduce((most, row) => Math.max(most, row.length), 0), rows.length];
+
 const isSide = (side) => Number.isInteger(side) && side >= 1 && side <= 255;
 
 export class Given {
@@ -59,9 +62,13 @@ export class Given {
 
   // Whether a cell lies in the grid. One that does not is told, and is to be left out.
   admits(row, column) {
-    const isInside = Number.isInteger(row) && Number.isInteger(column) && row >= 1 && column >= 1 && row <= this.height && column <= this.width;
-    if (!isInside) this.repairs.add(`a cell lies outside the grid, in row ${row}, column ${column}: it is left out`);
-    return isInside;
+    const has = this.#has(row, column);
+    if (!has) this.repairs.add(`a cell lies outside the grid, in row ${row}, column ${column}: it is left out`);
+    return has;
+  }
+
+  #has(row, column) {
+    return Number.isInteger(row) && Number.isInteger(column) && row >= 1 && column >= 1 && row <= this.height && column <= this.width;
   }
 
   block(row, column) {
@@ -73,7 +80,7 @@ export class Given {
   }
 
   circle(row, column) {
-    this.#circles.add(`${row} ${column}`);
+    if (this.#has(row, column)) this.#circles.add(`${row} ${column}`);
   }
 
   colour(row, column, colour) {
@@ -90,7 +97,7 @@ export class Given {
 
   // What is in a cell: a letter, or several. A cell with something else stays empty.
   entry(row, column, given) {
-    const entry = this.repairs.lettersOf(row, column, given);
+    const entry = this.#has(row, column) ? this.repairs.lettersOf(row, column, given) : '';
     if (!entry) return;
     this.#letters.set(`${row} ${column}`, entry.slice(0, 1));
     if (entry.length > 1) this.#rebus.push([cellField(`${row} ${column}`), entry]);
@@ -109,6 +116,16 @@ export class Given {
   /** @param {{ at?: string | null, number?: string | number, direction: Direction, text: string, links?: string[] }} clue */
   clue({ at = null, number = '', direction, text, links = [] }) {
     if (text) this.clues.push({ at, number: String(number), direction, text, links });
+  }
+
+  // Takes clues in the order of the lights that they are for, and says which are too many and how many are too few. `kind` says which clues they are.
+  /**
+   * @param {FirstCell[]} lights
+   * @param {string[]} texts
+   */
+  cluesFor(lights, texts, kind = 'clue') {
+    lights.slice(0, texts.length).forEach(({ row, column, direction }, at) => this.clue({ at: `${row} ${column}`, direction, text: texts[at] }));
+    this.repairs.counts(lights.length, texts, kind);
   }
 
   /** @param {GivenNote} note */

@@ -1,10 +1,12 @@
 // Crosswords as .ipuz, version 2 (http://ipuz.org): grids with blocks, bars and circles, letters, texts and clues.
 import { PALETTE, colourIn } from './colours.js';
+import { closedJson } from './cut.js';
 import { shortened } from './dropped.js';
 import { hasEnumeration } from './enumeration.js';
-import { FIELDS, FileFault, Given, markedOf, plainOf } from './given.js';
+import { FIELDS, FileFault, Given, markedOf, plainOf, sizeOfRows } from './given.js';
 import { PLAIN } from './links.js';
 import { htmlText, markedUp } from './marks.js';
+import { CUT, NO_SIZE } from './repairs.js';
 
 const VERSION = 'http://ipuz.org/v2';
 const KIND = 'http://ipuz.org/crossword#1';
@@ -41,10 +43,11 @@ function clueOf(light, clue, { heads, headOf }) {
 
 // The puzzle of a file. Throws a FileFault.
 export function readIpuz(text) {
-  const file = parsed(text);
-  const { width, height } = file.dimensions ?? {};
-  const given = new Given(width, height);
+  const { file, isCut } = parsed(text);
+  const given = new Given(...sizeOf(file));
   if (!areRows(file.puzzle)) throw new FileFault('the rows are not of the size that the file gives');
+  if (isCut) given.repairs.add(CUT);
+  if (!file.dimensions) given.repairs.add(NO_SIZE);
   const numbered = takeGrid(given, { ...file, puzzle: given.repairs.fitted(file.puzzle, given, 0) });
   tellSolution(given, file.solution);
   for (const field of FIELDS) if (file[field]) given.text(field, plainOf(file[field]));
@@ -68,16 +71,26 @@ function tellSolution({ width, height, repairs }, solution) {
   if (areRows(solution) && (solution.length > height || solution.some((row) => row.length > width))) repairs.add('the solution is larger than the grid: letters outside are left out');
 }
 
+// The width and the height, or those of the rows where a file gives none.
+const sizeOf = ({ dimensions, puzzle }) => (dimensions || !areRows(puzzle) ? [dimensions?.width, dimensions?.height] : sizeOfRows(puzzle));
+
+// What a file spells, or as much of it as there is.
 function parsed(text) {
-  let file;
-  try {
-    file = JSON.parse(text.trim().replace(/^ipuz\s*\(([^]*)\)\s*;?$/, '$1'));
-  } catch {
-    throw new FileFault('it is no JSON');
-  }
-  const kinds = [file.kind].flat().map(String);
+  const spelled = text.trim().replace(/^ipuz\s*\(/, '').replace(/\)\s*;?$/, '');
+  const whole = jsonOf(spelled);
+  const file = whole ?? jsonOf(closedJson(spelled) ?? '');
+  if (file === undefined) throw new FileFault('it is no JSON');
+  const kinds = [file?.kind].flat().map(String);
   if (!kinds.some((kind) => kind.includes('ipuz.org/crossword'))) throw new FileFault('it is no crossword');
-  return file;
+  return { file, isCut: whole === undefined };
+}
+
+function jsonOf(text) {
+  try {
+    return JSON.parse(text);
+  } catch {
+    return undefined;
+  }
 }
 
 // What a style may have of colours.

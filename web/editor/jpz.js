@@ -1,9 +1,11 @@
 // Crosswords in the XML of Crossword Compiler, which .jpz files have too: a `rectangular-puzzle` with a grid, words and clues.
 import { colourIn } from './colours.js';
+import { closedXml } from './cut.js';
 import { hasEnumeration } from './enumeration.js';
 import { FileFault, Given, markedIn } from './given.js';
 import { PLAIN } from './links.js';
 import { markedUp } from './marks.js';
+import { CUT } from './repairs.js';
 
 /** @typedef {import('./answers.js').Direction} Direction */
 
@@ -51,11 +53,23 @@ const childrenOf = (element, name) => [...(element?.children ?? [])].filter((chi
 const childOf = (element, name) => childrenOf(element, name)[0];
 const textIn = (element) => (element?.textContent ?? '').trim();
 
-// The puzzle of a document. Throws a FileFault.
+const parsed = (text) => new DOMParser().parseFromString(text, 'text/xml');
+const isDamaged = (document) => document.getElementsByTagName('parsererror').length > 0;
+
+// The puzzle of a text, or as much of it as there is. Throws a FileFault.
+export function readJpz(text) {
+  const whole = parsed(text);
+  if (!isDamaged(whole)) return readDocument(whole);
+  const cut = parsed(closedXml(text) ?? '');
+  if (isDamaged(cut)) throw new FileFault('it is no XML');
+  const given = readDocument(cut);
+  given.repairs.add(CUT);
+  return given;
+}
+
 /** @param {Document} document */
-export function readJpz(document) {
+function readDocument(document) {
   const root = document.documentElement;
-  if (document.getElementsByTagName('parsererror').length) throw new FileFault('it is no XML');
   const puzzle = root.localName === 'rectangular-puzzle' ? root : childOf(root, 'rectangular-puzzle');
   const crossword = childOf(puzzle, 'crossword');
   const grid = childOf(crossword, 'grid');

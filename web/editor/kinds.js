@@ -7,7 +7,7 @@ import { isJpz } from './jpz.js';
 import { isMail } from './mail.js';
 import { isPuzzlesFile } from './puzzles-file.js';
 import { isQxw } from './qxw.js';
-import { isVersion2, letterRows } from './text-grids.js';
+import { isVersion1, isVersion2, letterRows } from './text-grids.js';
 import { isWordList, listText } from './word-list.js';
 import { isZip } from './zip.js';
 
@@ -66,7 +66,7 @@ export function foreignKind(bytes) {
 
 // What the bytes of a file say that it is; null if they do not tell.
 function kindIn(head, bytes) {
-  if (isPuz(bytes) || /^\s*<across puzzle>/i.test(head)) return 'puzzle';
+  if (isPuz(bytes) || isVersion1(head)) return 'puzzle';
   // a mail may have any other in it
   if (isMailed(bytes)) return 'mail';
   if (isVersion2(head)) return 'text2';

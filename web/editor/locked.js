@@ -18,14 +18,17 @@ export async function solutionOf(name, bytes, { ask, searching, words }) {
     const { answer, key } = await ask(told, maySearch);
     if (answer === 'empty') return { solution: withoutLetters(bytes), found: '' };
     if (answer !== 'open' && answer !== 'search') return null;
-    const keys = answer === 'open' ? [key] : (searching(), await keysOf(bytes, turn));
+    if (answer === 'search') searching();
+    const keys = answer === 'open' ? [key] : await keysOf(bytes, turn);
     const best = await likeliest(bytes, keys, words);
     const solution = solutionBy(bytes, best);
     if (solution) return { solution, found: `, unscrambled by the key ${best}${keys.length > 1 ? `, the likeliest of ${keys.length} that fit` : ''}` };
     maySearch = maySearch && answer === 'open';
-    told = answer === 'open' ? `${key || 'Nothing'} is not the key of ${name}.` : `None of the ${KEY_COUNT.toLocaleString('en')} keys fits ${name}: its solution, or the checksum of it, is damaged.`;
+    told = answer === 'open' ? wrongKey(name, key) : `None of the ${KEY_COUNT.toLocaleString('en')} keys fits ${name}: its solution, or the checksum of it, is damaged.`;
   }
 }
+
+const wrongKey = (name, key) => (/^\d{4}$/.test(key) ? `${key} is not the key of ${name}.` : `The key of ${name} has four digits.`);
 
 // The key whose solution has the most words of the lists; '' of none.
 async function likeliest(bytes, keys, words) {

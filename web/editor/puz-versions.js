@@ -18,7 +18,8 @@ const OTHERS = ['1.2', '1.4', '2.0'];
 /** @returns {{ bytes: Uint8Array, texts: string[] }} */
 export function asVersion13(bytes) {
   const version = toText(bytes.subarray(VERSION, VERSION + 3));
-  if (!OTHERS.includes(version)) return { bytes, texts: [] };
+  // the byte behind it, which may be a letter, says nothing
+  if (!OTHERS.includes(version) && (version !== '1.3' || !bytes[VERSION + 3])) return { bytes, texts: [] };
   const plain = Uint8Array.from(bytes);
   plain.set(toBytes('1.3\0'), VERSION);
   const parts = partsOf(plain);

@@ -73,14 +73,15 @@ class PuzGiven extends Given {
   }
 
   #tellHeader() {
-    if (!VERSIONS.includes(this.#version)) this.repairs.add(`the version “${shownText(this.#version)}” is not known: it is read as ${this.#isLate ? '2.0' : '1.3'}`);
+    const version = this.#version;
+    if (!VERSIONS.includes(version)) this.repairs.add(`the version “${shownText(version)}” is not known: it is read as ${this.#isLate ? '2.0' : '1.3'}`);
     const tag = this.#bytes[TAG] + 256 * this.#bytes[TAG + 1];
     if (tag && !isScrambled(this.#bytes)) this.repairs.add(`the solution is called incomplete (tag ${tag}): it is taken as it is`);
   }
 
   // Takes the cells that the file has of its grid.
   #takeCells(marks) {
-    if (marks.length < this.width * this.height) this.repairs.add(`the file ends within its grid: what is missing is left empty`);
+    if (marks.length < this.width * this.height) this.repairs.add('the file ends within its grid: what is missing is left empty');
     // a solution that is left out has none of its letters
     const isLeftOut = this.#plain !== this.#bytes && marks.every((mark) => [BLOCK, HIDDEN, EMPTY].includes(mark));
     const kept = isLeftOut ? [] : rebusOf(this.#plain, this.#sections).filter(({ entry }) => isRebus(entry));
@@ -114,10 +115,7 @@ class PuzGiven extends Given {
     const { clues, notes } = this.#parted(lights.length);
     const [title, author, copyright, ...spelled] = [...this.#texts.slice(0, BEFORE), ...clues].map((text) => this.#decoded(text));
     for (const [field, text] of Object.entries({ title, author, copyright, notes: this.#decoded(notes) })) this.text(field, text);
-    spelled.slice(0, lights.length).forEach((text, at) => this.clue({ at: `${lights[at].row} ${lights[at].column}`, direction: lights[at].direction, text }));
-    for (const text of spelled.slice(lights.length)) this.repairs.add(`a clue too many: “${shownText(text)}” is left out`);
-    const lacking = lights.length - clues.length;
-    if (lacking > 0) this.repairs.add(`${counted(lacking, 'clue')} too few: the last ${lacking === 1 ? 'word has' : 'words have'} none`);
+    this.cluesFor(lights, spelled);
   }
 
   #decoded(bytes = new Uint8Array()) {
@@ -129,7 +127,7 @@ class PuzGiven extends Given {
     const [texts, declared] = [this.#texts, this.#declared];
     const found = texts.length - TEXTS;
     const wanted = declared === lightCount || found !== lightCount ? declared : found;
-    const hasNotes = !this.#isCut && (found >= wanted || this.#sections.size > 0 || texts.at(-1)?.length === 0);
+    const hasNotes = !this.#isCut && found >= 0 && (found >= wanted || this.#sections.size > 0 || texts.at(-1).length === 0);
     const count = Math.max(0, Math.min(wanted, hasNotes ? found : texts.length - BEFORE));
     this.#tellTexts(count, hasNotes);
     return { clues: texts.slice(BEFORE, BEFORE + count), notes: hasNotes ? texts[BEFORE + count] : undefined };
@@ -144,8 +142,8 @@ class PuzGiven extends Given {
     for (const part of whole) if (sums.has(part)) this.repairs.add(`the checksum of the ${part} is wrong`);
     if (hasNotes && count !== declared) this.repairs.add(`the header tells of ${counted(declared, 'clue')}: the file has ${count}`);
     if (hasNotes) return;
-    const told = this.#isCut ? `within a text: “${shownText(this.#decoded(texts.at(-1)))}” is kept as far as it goes` : texts.length ? 'before its last texts' : 'before its texts';
-    this.repairs.add(`the file ends ${told}`);
+    if (this.#isCut) this.repairs.add(`the file ends within a text: “${shownText(this.#decoded(texts.at(-1)))}” is kept as far as it goes`);
+    else this.repairs.add(`the file ends before its ${texts.length ? 'last ' : ''}texts`);
   }
 }
 

@@ -5,9 +5,13 @@ import { unaccented } from './word-list.js';
 // A text of a file as a line shows it: short, and with codes for what cannot be seen.
 export const shownText = (text) => shortened(text).replace(/[\x00-\x1f\x7f-\x9f]/g, (one) => `\\x${one.charCodeAt(0).toString(16).padStart(2, '0')}`);
 
+// what is said of a file that ends too early, and of one without the size of its grid
+export const CUT = 'the file ends too early: what is there is taken';
+export const NO_SIZE = 'the file gives no size: that of its rows is taken';
+
 const isEntry = (entry) => /^[A-Z]+$/.test(entry);
 
-export const counted = (count, one) => `${count} ${one}${count === 1 ? '' : 's'}`;
+export const counted = (count, one) => `${count} ${count === 1 ? one : one.replace(/^\w+/, '$&s')}`;
 
 export class Repairs {
   /** @type {string[]} */
@@ -29,6 +33,13 @@ export class Repairs {
     const letters = isEntry(plain) ? plain : '';
     this.add(`row ${row}, column ${column} has “${shownText(String(given))}” for a letter: ${letters ? `read as ${shortened(letters)}` : 'left empty'}`);
     return letters;
+  }
+
+  // What is said of clues where there are so many lights for them.
+  counts(lightCount, texts, kind) {
+    const lacking = lightCount - texts.length;
+    if (lacking > 0) this.add(`${counted(lacking, kind)} too few: the last ${lacking === 1 ? 'word has' : 'words have'} none`);
+    for (const text of texts.slice(lightCount)) this.add(`a ${kind} too many: “${shownText(text)}” is left out`);
   }
 
   // As many rows and cells as a grid has, of those that a file has. A missing cell has `empty` in its place.

@@ -1,10 +1,14 @@
 // Grids in text files that the engine does not read: the text format of Across Lite in version 2, and rows of letters.
 import { rebusText } from './dropped.js';
+import { Given, sizeOfRows } from './given.js';
 import { keptRebus } from './rebus.js';
 import { recordOf } from './patterns.js';
-import { nearestText } from './record.js';
+import { nearestText, placeOf } from './record.js';
+import { NO_SIZE } from './repairs.js';
 
 const MOST_SIDE = 255;
+// the mark of an empty cell
+const EMPTY = '-';
 
 // Text of Across Lite, version 2.
 
@@ -47,6 +51,52 @@ export function asVersion1(text) {
   const { near, count } = nearestText(['<ACROSS PUZZLE>', ...lines.slice(0, parts.NOTEPAD.length ? undefined : -1)].join('\n'));
   const { originals, lines: first, others } = keptRebus(rebus);
   return { text: near, lines: [...circles.map((cell) => `circle ${cell}`), ...first], originals, dropped: [...rebusText(others), ...(count ? ['characters that a text file cannot have'] : [])] };
+}
+
+// Text of Across Lite, version 1, that the engine refuses.
+
+export const isVersion1 = (head) => /^\s*<across puzzle>/i.test(head);
+
+// The puzzle of a text, with what is wrong in it. Throws a FileFault if it has no grid.
+export const readText = (text) => new TextGiven(partsOf(text.replaceAll('\0', '')), text.includes('\0'));
+
+// The same of version 2.
+export function readText2(text) {
+  const { text: plain, lines, originals, dropped } = asVersion1(text);
+  const given = readText(plain);
+  const placeIn = (spelled) => /** @type {[number, number]} */ (placeOf(spelled.replace(/^(circle|cell) /, '')));
+  for (const line of lines) if (line.startsWith('circle ')) given.circle(...placeIn(line));
+  originals.forEach(([field, entry]) => given.entry(...placeIn(field), entry));
+  dropped.forEach((phrase) => given.drops(phrase));
+  return given;
+}
+
+class TextGiven extends Given {
+  #parts;
+
+  constructor(parts, hadNuls) {
+    const size = /^(\d{1,3})\s*x\s*(\d{1,3})$/i.exec(parts.SIZE[0] ?? '')?.slice(1).map(Number);
+    const [width, height] = size ?? sizeOfRows(parts.GRID);
+    super(width, height);
+    this.#parts = parts;
+    if (hadNuls) this.repairs.add('NULs are left out of its texts');
+    if (!size) this.repairs.add(NO_SIZE);
+    const rows = this.repairs.fitted(parts.GRID.map((row) => [...row]), this, EMPTY);
+    rows.forEach((marks, above) => marks.forEach((mark, before) => this.#takeCell(above + 1, before + 1, mark)));
+    for (const field of ['title', 'author', 'copyright']) this.text(field, parts[field.toUpperCase()].join(' '));
+    this.text('notes', parts.NOTEPAD.join('\n'));
+  }
+
+  #takeCell(row, column, mark) {
+    if (mark === '.') this.block(row, column);
+    else if (mark !== EMPTY) this.entry(row, column, mark);
+  }
+
+  /** @param {import('./given.js').FirstCell[]} lights */
+  recordWith(lights) {
+    for (const wanted of ['across', 'down']) this.cluesFor(lights.filter(({ direction }) => direction === wanted), this.#parts[wanted.toUpperCase()], `clue ${wanted}`);
+    return super.recordWith(lights);
+  }
 }
 
 // Rows of letters.

@@ -76,7 +76,7 @@ const CASES = {
       'the colour of a cell', 'a shape that is no circle', 'a cell that is left out, which is a block now',
       'the explanation', 'the letters of a solver', 'zones of the grid', 'the clues of Zones',
     ]);
-    expect(/no JSON/.test(refused(() => readIpuz('{'))), 'half a file');
+    expect(['{"a" 1}', '', '{"a": [1}'].every((text) => /no JSON/.test(refused(() => readIpuz(text)))), 'no JSON');
     expect(/no crossword/.test(refused(() => readIpuz(JSON.stringify({ ...IPUZ, kind: 'http://ipuz.org/sudoku#1' })))), 'a sudoku');
     expect(/size from 1/.test(refused(() => readIpuz(JSON.stringify({ ...IPUZ, dimensions: { width: 256, height: 1 } })))), 'a wide grid');
     expect(/rows/.test(refused(() => readIpuz(JSON.stringify({ ...IPUZ, dimensions: { width: 2, height: 1 }, puzzle: [0] })))), 'no row');
@@ -171,7 +171,7 @@ const CASES = {
     const texts = (encoding, ...all) => all.map((text) => Buffer.from(text, encoding));
     const wanted = { rows: 'CAT,O#O', right: '', below: '', circles: '', clues: { '1 across': 'Pet', '1 down': 'Firm', '2 down': 'Also' } };
     const old = texts('latin1', 'T\u00eftle', '', '\u00a9', 'Pet', 'Firm', 'Also', 'A note');
-    for (const version of ['1.2\0', '1.2c', '1.3\0', '1.4\0']) {
+    for (const version of ['1.2\0', '1.2c', '1.3\0', '1.3a', '1.4\0']) {
       const { dropped, board, textOf, entries, ...told } = openedPuz(puzOf({ ...puzzle, version, texts: old }));
       same(told, { ...wanted, texts: ['T\u00eftle', '', '\u00a9', 'A note'] });
       same(dropped, []);

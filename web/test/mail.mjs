@@ -2,12 +2,13 @@
 // of MIME (RFC 2045 to 2047, 2183 and 2231).
 //
 //   node web/test/mail.mjs
-import { deepStrictEqual as same } from 'node:assert/strict';
+import { deepStrictEqual as same, rejects } from 'node:assert/strict';
 import { Count } from './count.mjs';
 import { pageModules } from './page-modules.mjs';
 import { puzOf } from './puz.mjs';
+import { zipOf } from './zip.mjs';
 
-const { attachedTo, isMeant, kindOf } = await pageModules('kinds', 'mail');
+const { attachedTo, isMeant, kindOf, unpacked } = await pageModules('kinds', 'mail', 'packed');
 
 const PUZ = puzOf({ version: '1.3\0', width: 2, height: 1, solution: 'AB', texts: ['', '', '', 'Clue', ''].map((one) => Buffer.from(one)) });
 const EXOLVE = 'exolve-begin\n  exolve-width: 1\nexolve-end\n';
@@ -89,6 +90,32 @@ const CASES = {
     let deep = TEXT;
     for (let depth = 0; depth < 300; depth++) deep = multipart(`b${depth}`, [deep]);
     same(meantIn(mailOf(deep)), []);
+  },
+
+  async 'zips and mails in one another, and which file of several'() {
+    const of = async (name, bytes, ...answers) => {
+      const asked = [];
+      const ask = async (holder, names) => {
+        asked.push([holder, ...names]);
+        return answers.shift() ?? null;
+      };
+      const content = await unpacked({ name, bytes }, 1 << 20, ask);
+      return [content.name, Buffer.from(content.bytes).toString('latin1'), ...asked];
+    };
+    const two = zipOf([['a/one.puz', PUZ], ['two.txt', 'cat']], 0);
+    const mail = mailOf(multipart('b', [attached('filename=all.zip', two), attached('filename=three.puz', PUZ)]));
+    same(await of('one.puz', PUZ), ['one.puz', puz]);
+    same(await of('all.zip', two, 1), ['two.txt', 'cat', ['all.zip', 'a/one.puz', 'two.txt']]);
+    same(await of('a.eml', mail, 1), ['three.puz', puz, ['a.eml', 'all.zip', 'three.puz']]);
+    same(await of('a.zip', zipOf([['b/a.eml', Buffer.from(mail).toString('latin1')]], 0), 0, 0), ['one.puz', puz, ['a.eml', 'all.zip', 'three.puz'], ['all.zip', 'a/one.puz', 'two.txt']]);
+    // so deep and no deeper, and none
+    let deep = zipOf([['one.puz', PUZ]], 0);
+    for (let depth = 0; depth < 3; depth++) deep = zipOf([['in.zip', Buffer.from(deep)]], 0);
+    same((await of('a.zip', deep))[0], 'in.zip');
+    await rejects(of('all.zip', two), { status: 'Packed', message: 'all.zip is not opened' });
+    await rejects(of('a.eml', mail, 0), { status: 'Packed', message: 'all.zip is not opened' });
+    await rejects(of('a.eml', mailOf(TEXT)), { status: 'Packed', message: 'a.eml is a mail without a file that can be opened: nothing is opened' });
+    await rejects(of('a.zip', zipOf([['one.puz', 'x'.repeat(1 << 21)]])), { status: 'Packed', message: 'a.zip: one.puz is damaged, or too large to be a puzzle, a session or a word list: nothing is opened' });
   },
 };
 

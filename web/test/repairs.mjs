@@ -7,7 +7,9 @@ import { pageModules } from './page-modules.mjs';
 import { lockedPuzOf, puzOf } from './puz.mjs';
 import { expect, openedOf, refused, same } from './reading.mjs';
 
-const { readExolve, readIpuz, readPuz, readQxw, solutionBy, withoutLetters } = await pageModules('exolve', 'ipuz', 'puz', 'qxw', 'unscramble');
+const { closedJson, closedXml, readExolve, readIpuz, readPuz, readQxw, readText, readText2, solutionBy, withoutLetters } = await pageModules(
+  'cut', 'exolve', 'ipuz', 'puz', 'qxw', 'text-grids', 'unscramble',
+);
 
 const bytesOf = (...texts) => texts.map((text) => Buffer.from(text, 'latin1'));
 // the lights are 1 across, 1 down, 2 down and 3 across, in this order
@@ -127,6 +129,29 @@ const CASES = {
     expect(opened > 200, `${opened} are opened`);
   },
 
+  'text of Across Lite: symbols, rows of another length, and clues too few or too many'() {
+    const text = ({ size = ['3x3'], grid = ['COT', 'A.O', 'TIE'], across = ['Firm', 'Ends'], down = ['Also', 'Two'] } = {}) => [
+      '<ACROSS PUZZLE>', '<TITLE>', 'Title', '<AUTHOR>', '<COPYRIGHT>', '<SIZE>', ...size, '<GRID>', ...grid, '<ACROSS>', ...across, '<DOWN>', ...down, '<NOTEPAD>', 'A note', '',
+    ].join('\r\n');
+    const of = (wrong) => repaired(readText(text(wrong)));
+    same(of(), { ...WHOLE, repairs: [] });
+    same(of({ grid: ['C7T', 'A.O-', 'TI'] }), { ...WHOLE, rows: 'C.T,A#O,TI.', repairs: [
+      'row 2 has 1 cell too many: the last are left out', 'row 3 has 1 cell too few: they are left empty', 'row 1, column 2 has “7” for a letter: left empty',
+    ] });
+    same(of({ across: ['Firm'], down: ['Also', 'Two', 'More'] }), {
+      ...WHOLE, clues: { '1 across': 'Firm', '1 down': 'Also', '2 down': 'Two' }, repairs: ['1 clue across too few: the last word has none', 'a clue down too many: “More” is left out'],
+    });
+    same(of({ across: [] }).repairs, ['2 clues across too few: the last words have none']);
+    for (const size of [[], ['3 by 3']]) same(of({ size }), { ...WHOLE, repairs: ['the file gives no size: that of its rows is taken'] });
+    same(repaired(readText(text().replace('Firm', 'Fi\0rm'))), { ...WHOLE, repairs: ['NULs are left out of its texts'] });
+    // in version 2, with a cell of several letters and a circle
+    const later = repaired(readText2(text({ size: ['3x3', '<REBUS>', 'MARK;', '1:HEART:H'], grid: ['C1T', 'a.7', 'TIE'] }).replace('PUZZLE>', 'PUZZLE V2>')));
+    same(later, { ...WHOLE, rows: 'C[HEART]T,A#.,TIE', circles: '2 1', repairs: ['row 2, column 3 has “7” for a letter: left empty'] });
+    const wide = repaired(readText2(text({ size: ['3x3', '<REBUS>', 'MARK;', '1:HEART:H'], grid: ['COT1', 'A.Oa', 'TIE'] }).replace('PUZZLE>', 'PUZZLE V2>')));
+    same(wide, { ...WHOLE, repairs: [1, 2].map((row) => `row ${row} has 1 cell too many: the last are left out`) });
+    expect(/size from 1/.test(refused(() => readText(text({ size: [], grid: [] })))) && /size from 1/.test(refused(() => readText(text({ size: ['0x3'] })))), 'no grid');
+  },
+
   '.ipuz: symbols, rows of another length, and two clues for one place'() {
     const file = {
       version: 'http://ipuz.org/v2', kind: ['http://ipuz.org/crossword#1'], dimensions: { width: 3, height: 3 }, puzzle: [[1, 0, 2], [0, '#', 0, 0], [3, 0]],
@@ -144,6 +169,33 @@ const CASES = {
       ['...,...,...', ['the grid has 2 rows too few: they are left empty']], ['...,...,...', ['the grid has 1 row too many: the last are left out']],
     ]);
     expect(/rows/.test(refused(() => rowsOf('none'))) && /rows/.test(refused(() => rowsOf(['none', 'none', 'none']))), 'rows that are none');
+  },
+
+  '.ipuz: a file that is cut, or gives no size'() {
+    const file = {
+      version: 'http://ipuz.org/v2', kind: ['http://ipuz.org/crossword#1'], title: 'A "b" [c', dimensions: { width: 3, height: 3 }, puzzle: [[1, 0, 2], [0, '#', 0], [3, 0, 0]],
+      solution: [['C', 'O', 'T'], ['A', '#', 'O'], ['T', 'I', 'E']], clues: { Across: [[1, 'Firm'], [3, 'Ends']], Down: [[1, 'Also'], [2, 'Two']] },
+    };
+    const text = JSON.stringify(file);
+    const cutAt = (part) => repaired(readIpuz(text.slice(0, text.indexOf(part))));
+    const cut = 'the file ends too early: what is there is taken';
+    const [{ rows, clues, texts, repairs }, half, early] = [cutAt('wo"]'), cutAt('"I"'), cutAt(',0],[3,0,0]')];
+    same([rows, clues, texts[0], repairs], ['COT,A#O,TIE', { '1 across': 'Firm', '3 across': 'Ends', '1 down': 'Also' }, 'A "b" [c', [cut]]);
+    same([half.rows, half.clues, half.repairs], ['COT,A#O,T..', {}, [cut]]);
+    same([early.rows, early.repairs], ['...,...,...', [cut, 'the grid has 1 row too few: they are left empty', 'row 2 has 2 cells too few: they are left empty']]);
+    same(repaired(readIpuz(`ipuz(${text.slice(0, -1)}`)).repairs, [cut]);
+    expect(/no crossword/.test(refused(() => cutAt('"kind"'))) && /size/.test(refused(() => cutAt('"dimensions"'))), 'what is there is no grid');
+    const bare = repaired(readIpuz(JSON.stringify({ ...file, dimensions: undefined })));
+    same([bare.rows, bare.repairs], ['COT,A#O,TIE', ['the file gives no size: that of its rows is taken']]);
+  },
+
+  'the begin of what is cut'() {
+    const cut = { '{"a":[1,2': '{"a":[1]}', '{"a":[1,{"b":2},3': '{"a":[1,{"b":2}]}', '{"a":"x,]","b': '{"a":"x,]"}', '{"a":"\\\\",1': '{"a":"\\\\"}', '[': '[]', '[1,"a\\"': '[1]' };
+    for (const [text, whole] of Object.entries(cut)) same(closedJson(text), whole);
+    for (const text of ['', '1', '[1]', '[1}', '{"a":1}', ']']) same(closedJson(text), null);
+    const xml = { '<a><b c="1"/><d>e f': '<a><b c="1"/><d>e f</d></a>', '<a><b>1</b><c x="': '<a><b>1</b></a>', '<a>b &am': '<a>b </a>', '<a>b &amp; c</': '<a>b &amp; c</a>', '<?xml version="1.0"?><x:a>': '<?xml version="1.0"?><x:a></x:a>' };
+    for (const [text, whole] of Object.entries(xml)) same(closedXml(text), whole);
+    for (const text of ['', 'text', '<a/>', '<a><b></a>', '</a>']) same(closedXml(text), null);
   },
 
   'Exolve and Qxw: symbols, and cells outside the grid'() {

@@ -72,7 +72,7 @@ const CASES = {
     const solution = GRID.solution;
     same(await answering(bytes, [['open', '2718']]), { asked: [FIRST], solution, found: ', unscrambled by the key 2718' });
     same(await answering(bytes, [['open', '2719'], ['open', ''], ['open', '2718']]), {
-      asked: [FIRST, ['2719 is not the key of a.puz.', true], ['Nothing is not the key of a.puz.', true]], solution, found: ', unscrambled by the key 2718',
+      asked: [FIRST, ['2719 is not the key of a.puz.', true], ['The key of a.puz has four digits.', true]], solution, found: ', unscrambled by the key 2718',
     });
     same(await answering(bytes, [['empty']]), { asked: [FIRST], solution: '-'.repeat(15), found: '' });
     same(await answering(bytes, [['cancel']]), { asked: [FIRST], solution: undefined, found: undefined });

@@ -7,6 +7,7 @@ import { mkdirSync, mkdtempSync, rmSync, writeFileSync } from 'node:fs';
 import { tmpdir } from 'node:os';
 import { join } from 'node:path';
 import { Browser } from './browser.mjs';
+import { puzOf } from './puz.mjs';
 
 const SIZES = [[360, 740], [768, 1024], [1280, 800], [1920, 1080]];
 const COLOURS = [['light', 'none'], ['dark', 'none'], ['light', 'active']];
@@ -35,7 +36,16 @@ const SCREENS = {
   print: () => menu('print'),
   lists: () => browser.value(`${$('tab-puzzle')}.click(), ${$('personal-edit')}.click()`),
   help: () => menu('help'),
+  faults: () => opening('faults.puz', { texts: ['', '', '', 'Pet', 'A clue too many', ''], sections: [['GEXT', Buffer.from([0])]] }, 'repairs-dialog'),
+  key: () => opening('locked.puz', { texts: ['', '', '', 'Pet', ''], tag: 4 }, 'key-dialog'),
 };
+
+// Opens a .puz that the page asks something about.
+async function opening(name, { texts, ...more }, dialog) {
+  writeFileSync(join(room, name), puzOf({ version: '1.3\0', width: 3, height: 1, solution: 'C7T', texts: texts.map((text) => Buffer.from(text)), ...more }));
+  await browser.choose('#picker', join(room, name));
+  await browser.until(`${$(dialog)}.open`);
+}
 
 // A puzzle in work: some words, a corner that is filled, clues, circles and colours, over a list with scores.
 async function begin() {

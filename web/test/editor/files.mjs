@@ -143,7 +143,7 @@ export const CASES = {
     });
     const faults = await browser.value(`(() => {
       const { exolveOf, ipuzOf, jpzOf, readExolve, readIpuz, readJpz } = window.formats;
-      const FORMATS = [[ipuzOf, readIpuz], [jpzOf, (text) => readJpz(new DOMParser().parseFromString(text, 'text/xml'))], [exolveOf, readExolve]];
+      const FORMATS = [[ipuzOf, readIpuz], [jpzOf, readJpz], [exolveOf, readExolve]];
       const cell = (column) => ({ coordinates: '1 ' + column, letter: 'A', block: false, circle: false, number: column === 1 ? '1' : '', right: false, below: false });
       const board = { width: 2, height: 1, cells: [cell(1), cell(2)], lights: [{ name: '1 across', number: '1', direction: 'across', cells: [0, 1] }], columnOf: (at) => at + 1, rowOf: () => 1 };
       const again = (texts, [write, read]) => {
@@ -290,10 +290,12 @@ export const CASES = {
       'faults.puz': [puzOf({ version: '1.3\0', width: 3, height: 1, solution: 'C7T', texts: ['', '', '', 'Pets', 'More', ''].map((one) => Buffer.from(one)) }).fill(0, 0, 2), [
         symbol('7'), 'the checksum of the whole file is wrong', 'a clue too many: “More” is left out',
       ]],
+      'faults.txt': ['<ACROSS PUZZLE>\n<TITLE>\n<AUTHOR>\n<COPYRIGHT>\n<SIZE>\n3x1\n<GRID>\nC7T\n<ACROSS>\nPets\nMore\n<DOWN>\n', [symbol('7'), 'a clue across too many: “More” is left out']],
       'faults.ipuz': [JSON.stringify(ipuz), ['row 1 has 1 cell too few: they are left empty', symbol('\u2665')]],
+      'cut.jpz': [xml.slice(0, xml.indexOf('ets</clue>')).replace('"7"', '""').replace(/<cell x="4".*?>/, ''), ['the file ends too early: what is there is taken', 'a clue has the place of another one: “Pet” is left out'], 'P'],
       'faults.jpz': [xml, [symbol('7'), 'a cell lies outside the grid, in row 1, column 4: it is left out', 'a clue has the place of another one: “Pet” is left out']],
     };
-    for (const [name, [bytes, wanted]] of Object.entries(files)) {
+    for (const [name, [bytes, wanted, clue = 'Pets']] of Object.entries(files)) {
       await begin(6);
       const before = await page.rows();
       writeFileSync(join(room, name), bytes);
@@ -310,7 +312,7 @@ export const CASES = {
       await page.statusIs(new RegExp(`^${name} is open, with ${wanted.length} repairs; undo`), 'good');
       expect((await page.rows()).join() === 'C.T', `the grid is ${await page.rows()}`);
       await browser.press('F3');
-      await browser.until("document.querySelector('#clue-list textarea').value === 'Pets'");
+      await browser.until(`document.querySelector('#clue-list textarea').value === '${clue}'`);
       await browser.click('#tab-words');
       await browser.press('Control+z');
       await browser.until(`document.querySelectorAll('#grid .row').length === ${before.length}`);
