@@ -51,15 +51,15 @@ export class OldClues {
 
   // Shows those of a light, behind its row: folded if the light has a clue for its word. Shows none with null.
   async show(light, row) {
-    const { board, written } = this.#editor;
+    const { board, written, puzzle } = this.#editor;
     const word = light && board.isEntered(light) ? board.spell(light) : '';
     const isDue = word && (!board.hasClue(light) || staleWord(board, light, written));
-    const shown = word && [light.name, word, isDue].join();
+    const shown = word && [puzzle, light.name, word, isDue].join();
     if (shown === this.#shown) return;
     this.#shown = shown;
     this.root.hidden = true;
     const entries = word ? await this.former(word, this.#editor.textOf(`clue ${light.name}`)) : [];
-    if (shown !== this.#shown || !entries.length) return;
+    if (shown !== this.#shown || !entries.length || !row) return;
     this.root.replaceChildren(this.#list(light, entries, Boolean(isDue)));
     row.after(this.root);
     this.root.hidden = false;

@@ -62,6 +62,17 @@ const histories = `() => new Promise((resolve) => {
 })`;
 // Waits until these are the histories: for each puzzle how many steps can be undone, and how many done again.
 export const areStepsKept = (...counts) => browser.until(`(${histories})().then((all) => JSON.stringify(all.map(({ past, future }) => [past.length, future.length])) === '${JSON.stringify(counts)}')`);
+// Waits until the bank of old clues has a clue.
+export const isInBank = (clue) => browser.until(`new Promise((resolve) => {
+  const request = indexedDB.open('xw-editor-clues');
+  request.onsuccess = () => {
+    const all = request.result.transaction('clues').objectStore('clues').getAll();
+    all.onsuccess = () => {
+      request.result.close();
+      resolve(all.result.some((one) => one.clue === '${clue}'));
+    };
+  };
+})`);
 // A draft of an open puzzle
 export const isDrafted = (pattern) => browser.until(`${pattern}.test(window.drafts())`);
 

@@ -3,7 +3,7 @@ import { writeFileSync } from 'node:fs';
 import { join } from 'node:path';
 import { Xw } from '../../dist/xw.js';
 import { begin, menu, openFile, openRecord, print, saved } from '../doing.mjs';
-import { hold, holdFill, isDrafted, isHeld } from '../holding.mjs';
+import { hold, holdFill, isDrafted, isHeld, isInBank } from '../holding.mjs';
 import { pageScript } from '../page-modules.mjs';
 import { LIST, PAGE, browser, expect, module, page, picture, ready, reload, room, runAlone } from '../page.mjs';
 
@@ -472,8 +472,9 @@ export const CASES = {
     const bank = (count) => browser.until(`document.getElementById('bank-summary').textContent.startsWith('${count} with their words, in this browser alone')`);
     const saving = () => saved('old-clues.csv', () => browser.click('#bank-export')).then((bytes) => bytes.toString().slice(1));
     await openRecord(`${rowOf('EELS')}text title Sea\ntext clue 1 1 across Slippery fish\n`);
+    await isInBank('Slippery fish');
     await browser.press('F4');
-    await browser.until("/^[0-9]+ clues? with/.test(document.getElementById('bank-summary').textContent)");
+    await browser.until("/^[1-9][0-9]* clues? with/.test(document.getElementById('bank-summary').textContent)");
     // what is cleared is gone for good, after a question
     await browser.click('#bank-clear');
     await browser.click('#bank-dialog [value=cancel]');
