@@ -1,9 +1,10 @@
 // The weakest words of the grid: each with its score, its light and what holds it, and the search for better words around it, whose offer is shown before it
 // replaces anything.
 import { fillCard } from './fills.js';
+import { figuresText } from './grades.js';
+import { gridOf } from './mending.js';
 import { say } from './messages.js';
 import { put } from './page.js';
-import { withoutTexts } from './record.js';
 import { termed } from './terms.js';
 import { holderText, offerText, weakestOf } from './weak-words.js';
 import { titleOf } from './words.js';
@@ -78,7 +79,7 @@ export class WeakestView {
     put(offered, 'hidden', !offer);
     if (!offer) return place.replaceChildren();
     told.textContent = offerText(offer);
-    const card = fillCard(this.#editor.board, offer.letters, offerText(offer));
+    const card = fillCard(this.#editor.board, offer.letters, figuresText(offer.after));
     card.addEventListener('click', () => this.#use());
     place.replaceChildren(card);
     return list.contains(document.activeElement) ? use.focus() : undefined;
@@ -86,7 +87,7 @@ export class WeakestView {
 
   // An offer is for the grid as it was.
   #stepped() {
-    if (this.#offer && withoutTexts(this.#editor.record) !== this.#offer.record) this.offer(null);
+    if (this.#offer && gridOf(this.#editor) !== this.#offer.grid) this.offer(null);
   }
 
   async #use() {
