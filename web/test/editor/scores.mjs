@@ -385,10 +385,14 @@ export const CASES = {
     await picture('improving');
     // a clue is kept meanwhile
     await browser.press('F3');
-    await browser.type('Kept');
+    await browser.until("document.activeElement.matches('#clue-list textarea')");
+    await browser.insert('Kept');
     await isDrafted(/text clue 1 1 across Kept/);
     await isOn(true);
+    // Esc leaves the text first
     await browser.press('Escape');
+    await page.statusIs(/kept; Esc again takes it back/);
+    await isOn(true);
     await browser.click('#tab-words');
     // an edit ends it
     await browser.click('#cell-1-1');
