@@ -483,10 +483,12 @@ export const CASES = {
     // it is proved where nothing is better
     await browser.click('#weakest-list li:first-child [data-mend]');
     await page.statusIs(/^no fill around 1 Across is better, with the rest as it is$/);
+    await browser.until("document.querySelector('#weakest-list small').textContent === 'nothing better is around it: proved'");
     // one step takes it back
     await browser.press('Control+z');
     await areRows('CAT401 Across', 'TOE752 Down');
-    // an offer is for the grid as it was
+    // both are for the grid as it was
+    await browser.until("document.querySelector('#weakest-list small').textContent === ''");
     await browser.click('#weakest-list li:first-child [data-mend]');
     await browser.until("!document.getElementById('mend-offer').hidden");
     await browser.press('Control+z');
