@@ -251,9 +251,12 @@ const CASES = {
     answered(race, 1, limit(80));
     same([race.bound, race.proved], [80, 51]);
     same(answered(race, 1, filled(75, 460)), 'better');
+    // the others may have the grade that a worker found before, which is none of its own in this stage
+    race.hold({ names: ['4 down'], forced: [], grade: 75, sum: 400 });
+    same([race.catchesUp(1), leastOf(race, 1)], [true, 76]);
     // where all others have the best grade no more is wanted
     race.hold({ names: ['3 down'], forced: [], grade: Infinity, sum: 0 });
-    same([race.grade, race.isMet, race.held.length], [100, true, 2]);
+    same([race.grade, race.isMet, race.held.length], [100, true, 3]);
   },
 
   'a race ends at its target'() {
