@@ -85,6 +85,7 @@ class Session {
     },
   };
 
+  ahead = [];
   // the lights that are chosen, and the lines of the first fill that the session finds
   chosen = new Set();
   first = [];
@@ -114,6 +115,8 @@ class Session {
 
   async edit(lines, { only = null, pencil = null } = {}) {
     await null;
+    // what is done ahead of it
+    this.ahead.splice(0).forEach((action) => action());
     if (only !== null && only !== this.record) return 'Changed';
     this.#enter(lines);
     if (pencil) this.pencil = pencil;
@@ -383,10 +386,10 @@ const CASES = {
     await workers.call(1);
     same([session.row(1), session.texts], ['COT', ['text clue 1 1 across Pet']]);
     // a clue that comes while a better fill is on its way
+    session.ahead.push(() => session.write('Bed'));
     (await workers.call(1)).answer(found('TAR', 80));
-    session.write('Bed');
     await workers.call(2);
-    same(session.row(1), 'TAR');
+    same([session.row(1), session.texts], ['TAR', ['text clue 1 1 across Bed']]);
     await session.edit(['set 1 1 B']);
     const { isStopped, isChanged } = await ended;
     same([isStopped, isChanged, session.row(1)], [false, true, 'BAR']);
