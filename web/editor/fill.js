@@ -271,11 +271,15 @@ export class Filler {
     say(`better words are looked for around ${titleOf(there)} … Esc ends this`, 'busy');
     const mending = this.#mender.run(there, ++this.#seed);
     this.show({ isRaising: true });
-    const told = await mending;
+    const told = await mending.catch((fault) => {
+      if (!fault.status) throw fault;
+      return null;
+    });
     if (this.isRunning || this.isRaising) return null;
     this.show(null);
     this.#rest();
-    this.#tellMended(there, told);
+    if (told) this.#tellMended(there, told);
+    else refuse('the search failed; the grid is kept');
     return told;
   }
 
