@@ -167,7 +167,7 @@ const weakest = new WeakestView(
     box: $('weakest'), list: $('weakest-list'), offered: $('mend-offer'), told: $('mend-told'), place: $('mend-fill'), use: $('mend-use'), leave: $('mend-leave'),
   },
   {
-    go: (light) => goTo(light), mend: (light) => mayEdit() && filler.mend(light).catch(unforeseen), forced: (light) => figures.forcedAt(light), use: (letters) => useMended(letters), toGrid,
+    go: (light) => goTo(light), mend: async (light) => (mayEdit() ? filler.mend(light).catch(unforeseen) : null), forced: (light) => figures.forcedAt(light), use: (letters) => useMended(letters), toGrid,
   },
 );
 const improving = new ImprovingView(editor, { row: $('improve-row'), button: $('improve'), told: $('improve-told') });

@@ -258,24 +258,29 @@ export class Filler {
     this.show({ isRaising: true, text: this.figures.worst });
   }
 
-  // Looks for better words around a light, and offers them.
+  // Looks for better words around a light, and offers them. Returns what was found, or null if something else came between.
   async mend(light) {
-    if (this.isRunning) return;
+    if (this.isRunning) return null;
     this.#endRaising();
     this.offer(null);
     [this.#isStopped, this.#isEndless] = [false, false];
     // a raising that ends may have a fill on its way into the grid
     await this.#editor.inOrder(() => {});
     const there = this.#editor.board.byName.get(light.name);
-    if (this.isRunning || this.isRaising || this.#isStopped || !there) return;
+    if (this.isRunning || this.isRaising || this.#isStopped || !there) return null;
     say(`better words are looked for around ${titleOf(there)} … Esc ends this`, 'busy');
     const mending = this.#mender.run(there, ++this.#seed);
     this.show({ isRaising: true });
-    const told = await mending;
-    if (this.isRunning || this.isRaising) return;
+    const told = await mending.catch((fault) => {
+      if (!fault.status) throw fault;
+      return null;
+    });
+    if (this.isRunning || this.isRaising) return null;
     this.show(null);
     this.#rest();
-    this.#tellMended(there, told);
+    if (told) this.#tellMended(there, told);
+    else refuse('the search failed; the grid is kept');
+    return told;
   }
 
   #tellMended(light, { offer, isProved, isChanged, isLocked }) {

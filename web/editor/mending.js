@@ -17,9 +17,10 @@ const RINGS = 2;
 /** @typedef {import('./race.js').Told} Told */
 // The cells that are emptied, by coordinates, and the entered lights that have one of them.
 /** @typedef {{ cells: string[], lights: Light[] }} Part */
-// `letters` are those of the whole grid, by coordinates, and `changed` counts the words that are others; the figures are those of the words of the part.
+// `letters` are those of the whole grid, by coordinates, and `changed` counts the words that are others; the figures are those of the words of the part. `grid` is
+// what the offer is for.
 /**
- * @typedef {{ light: Light, letters: Map<string, string>, changed: number, before: ReturnType<typeof figuresOf>, after: ReturnType<typeof figuresOf>, record: string }} Offer
+ * @typedef {{ light: Light, letters: Map<string, string>, changed: number, before: ReturnType<typeof figuresOf>, after: ReturnType<typeof figuresOf>, grid: string }} Offer
  */
 
 // The part of the grid that mending a light empties: the letters in pencil of the light, of those that cross it, and of those that cross these; but not those of
@@ -61,6 +62,9 @@ export function partsAround(board, pencil, light, gradeIn) {
   return parts.filter(isOpenIn);
 }
 
+// The grid with its words and what is in pencil, as a text; without the texts of the puzzle.
+export const gridOf = ({ record, pencil }) => [withoutTexts(record), ...pencil].join();
+
 export class Mender {
   /** @type {import('./editor.js').Editor} */
   #editor;
@@ -84,14 +88,9 @@ export class Mender {
     this.#run = null;
   }
 
-  // The grid with its words and the pencil, without the texts.
-  get #grid() {
-    return [withoutTexts(this.#editor.record), ...this.#editor.pencil].join();
-  }
-
   // Another edit than one of texts ends it, and there is nothing to offer.
   #stepped() {
-    if (this.#run && this.#run.grid !== this.#grid) this.stop();
+    if (this.#run && this.#run.grid !== gridOf(this.#editor)) this.stop();
   }
 
   // Looks for better words around a light. Returns the offer, or null; and whether it is proved that there are none, the grid was changed meanwhile, and
@@ -103,8 +102,8 @@ export class Mender {
    */
   async run(light, seed) {
     const { pencil, board } = this.#editor;
-    const run = { grid: this.#grid, isOver: false };
-    const isChanged = () => run.grid !== this.#grid;
+    const run = { grid: gridOf(this.#editor), isOver: false };
+    const isChanged = () => run.grid !== gridOf(this.#editor);
     this.#run = run;
     try {
       const grades = await this.#gradesOf(board.lights.filter((one) => board.isEntered(one)));
@@ -168,13 +167,13 @@ export class Mender {
   // What is offered: the letters, and how good the words of the part are before and after. Null if a letter elsewhere is another one.
   /** @returns {Promise<Offer | null>} */
   async #offer(light, { lights, cells }, lines) {
-    const { board, engine, list, record } = this.#editor;
-    const letters = new Map(lines.map(letterIn));
+    const { board, engine, list } = this.#editor;
+    const [letters, grid] = [new Map(lines.map(letterIn)), gridOf(this.#editor)];
     if (board.cells.some(({ letter, coordinates }) => letter && !cells.includes(coordinates) && letters.get(coordinates) !== letter)) return null;
     const [before, after] = [lights.map((one) => board.spell(one)), lights.map((one) => one.cells.map((index) => letters.get(board.cells[index].coordinates)).join(''))];
     const scores = await engine.call('grades', { words: [...before, ...after] });
     return {
-      light, letters, record: withoutTexts(record), changed: after.filter((word, at) => word !== before[at]).length,
+      light, letters, grid, changed: after.filter((word, at) => word !== before[at]).length,
       before: figuresOf(scores.slice(0, before.length), list.weak), after: figuresOf(scores.slice(before.length), list.weak),
     };
   }

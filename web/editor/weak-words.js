@@ -39,6 +39,9 @@ export function holderText(board, pencil, light, forced) {
   return ink.length ? `${ink.length} locked ${ink.length === 1 ? 'letter' : 'letters'}` : '';
 }
 
+// What is said of a light whose word was to be mended, and for which nothing better was found.
+export const unmendedText = ({ isProved }) => (isProved ? 'nothing better is around it: proved' : 'nothing better was found around it');
+
 // What is said of an offer, as in “around 14 Down: worst 40, mean 61 now; worst 62, mean 70 with 9 other words”.
 export const offerText = ({ light, before, after, changed }) =>
   `around ${titleOf(light)}: ${figuresText(before)} now; ${figuresText(after)} with ${changed} other ${changed === 1 ? 'word' : 'words'}`;

@@ -1,11 +1,12 @@
 // The weakest words of the grid: each with its score, its light and what holds it, and the search for better words around it, whose offer is shown before it
 // replaces anything.
 import { fillCard } from './fills.js';
+import { figuresText } from './grades.js';
+import { gridOf } from './mending.js';
 import { say } from './messages.js';
 import { put } from './page.js';
-import { withoutTexts } from './record.js';
 import { termed } from './terms.js';
-import { holderText, offerText, weakestOf } from './weak-words.js';
+import { holderText, offerText, unmendedText, weakestOf } from './weak-words.js';
 import { titleOf } from './words.js';
 
 export class WeakestView {
@@ -15,9 +16,12 @@ export class WeakestView {
   /** @type {import('./mending.js').Offer | null} */
   #offer = null;
   #scores = new Map();
+  // what is said of lights around which nothing better was found, by their names, and the grid for which it is said
+  /** @type {Map<string, { grid: string, text: string }>} */
+  #unmended = new Map();
 
   // `elements` are the box, the list, and the box of an offer with its text, its place and its buttons. `actions`: `go` goes to a light, `mend` looks for
-  // better words around one, `forced` has the lights that are proved to hold one, `use` puts letters into the grid, and `toGrid` goes back to it.
+  // better words around one and promises what it found, `forced` has the lights that are proved to hold one, `use` puts letters into the grid, and `toGrid` goes back to it.
   constructor(editor, elements, actions) {
     this.#editor = editor;
     this.#elements = elements;
@@ -56,19 +60,28 @@ export class WeakestView {
     const word = made('button', { type: 'button', className: 'word', title: `Go to ${titleOf(light)}` });
     word.append(made('b', { textContent: board.spell(light) }), made('span', { textContent: String(score) }), made('span', { textContent: titleOf(light) }));
     const held = holderText(board, pencil, light, this.actions.forced(light));
+    const unmended = this.#unmended.get(light.name);
+    const told = [held, unmended?.grid === gridOf(this.#editor) ? unmended.text : ''].filter(Boolean).join('; ');
     const mend = made('button', { type: 'button', textContent: 'Mend', disabled: held === 'locked', title: termed('Looks for better words around this light, and changes nothing before you choose them') });
     mend.setAttribute('aria-label', `Mend ${board.spell(light)}, ${titleOf(light)}`);
     for (const button of [word, mend]) button.dataset.light = light.name;
     mend.dataset.mend = 'mend';
-    row.append(word, made('small', { textContent: held }), mend);
+    row.append(word, made('small', { textContent: told }), mend);
     return row;
   }
 
   #chosen(button) {
     const light = button && this.#editor.board.byName.get(button.dataset.light);
     if (!light) return;
-    if (button.dataset.mend) this.actions.mend(light);
+    if (button.dataset.mend) this.#mend(light);
     else this.actions.go(light);
+  }
+
+  async #mend(light) {
+    const told = await this.actions.mend(light);
+    if (!told || told.offer || told.isChanged || told.isLocked) return;
+    this.#unmended.set(light.name, { grid: gridOf(this.#editor), text: unmendedText(told) });
+    this.#show();
   }
 
   // Shows what is offered in place of the words around a light, or nothing. The keys go to it from the list.
@@ -78,7 +91,7 @@ export class WeakestView {
     put(offered, 'hidden', !offer);
     if (!offer) return place.replaceChildren();
     told.textContent = offerText(offer);
-    const card = fillCard(this.#editor.board, offer.letters, offerText(offer));
+    const card = fillCard(this.#editor.board, offer.letters, figuresText(offer.after));
     card.addEventListener('click', () => this.#use());
     place.replaceChildren(card);
     return list.contains(document.activeElement) ? use.focus() : undefined;
@@ -86,14 +99,14 @@ export class WeakestView {
 
   // An offer is for the grid as it was.
   #stepped() {
-    if (this.#offer && withoutTexts(this.#editor.record) !== this.#offer.record) this.offer(null);
+    if (this.#offer && gridOf(this.#editor) !== this.#offer.grid) this.offer(null);
   }
 
   async #use() {
     const offer = this.#offer;
     if (!offer) return;
     if ((await this.actions.use(offer.letters)) !== null) return;
-    say(`mended ${offerText(offer)}; undo takes it back`, 'good');
+    say(`mended around ${titleOf(offer.light)}: ${figuresText(offer.after)}, in place of ${figuresText(offer.before)}; undo takes it back`, 'good');
     this.actions.toGrid();
   }
 }

@@ -8,9 +8,21 @@ import { deepStrictEqual as same } from 'node:assert/strict';
 import { Count } from './count.mjs';
 import { pageModules } from './page-modules.mjs';
 
+// what messages need of a browser
+Object.assign(globalThis, { navigator: globalThis.navigator ?? { platform: '' }, document: { createElement: () => element() } });
+
 const {
-  Board, Lists, MOST_IDLE, Mender, Race, Raiser, gradeFrom, holderText, offerText, partAround, partsAround, progressText, timeText, weakestOf,
-} = await pageModules('race', 'raising', 'improving', 'grades', 'lists', 'board', 'mending', 'weak-words');
+  Board, Filler, Lists, MOST_IDLE, Mender, Race, Raiser, gradeFrom, holderText, offerText, partAround, partsAround, progressText, timeText, useMessages, weakestOf,
+} = await pageModules('race', 'raising', 'improving', 'grades', 'lists', 'board', 'mending', 'weak-words', 'fill', 'messages');
+
+// An element that takes what a message does to it.
+function element() {
+  return { dataset: {}, append() {}, prepend() {}, toggleAttribute() {}, classList: { toggle() {} }, firstElementChild: null, childElementCount: 0 };
+}
+
+// The messages, in order.
+const said = [];
+useMessages({ line: Object.defineProperty(element(), 'textContent', { set: (text) => said.push(text) }), toast: element(), history: element(), warnings: element() });
 
 const SEEDS = 1000003;
 
@@ -64,7 +76,23 @@ class Session {
     this.pencil = pencilOf(board, ...ink);
   }
 
-  engine = { call: async (name, { words }) => words.map((word) => this.grades[word] ?? null) };
+  engine = {
+    call: async (name, { words, lines }) => {
+      if (name === 'grades') return words.map((word) => this.grades[word] ?? null);
+      // a search of the session
+      this.#enter(this.first);
+      return { answers: [{ lines: ['filled'], refusal: null }], lines };
+    },
+  };
+
+  ahead = [];
+  // the lights that are chosen, and the lines of the first fill that the session finds
+  chosen = new Set();
+  first = [];
+
+  get state() {
+    return { record: this.record };
+  }
 
   get record() {
     return recordOf(this.board, this.texts);
@@ -78,13 +106,20 @@ class Session {
 
   ask = async () => this.board.lights.map((light) => ({ name: light.name, grade: this.grades[this.board.spell(light)] }));
 
-  async edit(lines, { only = null } = {}) {
-    await null;
-    if (only !== null && only !== this.record) return 'Changed';
+  #enter(lines) {
     for (const line of lines) {
       const [, row, column, letter = ''] = line.split(' ');
       this.board.at(`${row} ${column}`).letter = letter;
     }
+  }
+
+  async edit(lines, { only = null, pencil = null } = {}) {
+    await null;
+    // what is done ahead of it
+    this.ahead.splice(0).forEach((action) => action());
+    if (only !== null && only !== this.record) return 'Changed';
+    this.#enter(lines);
+    if (pencil) this.pencil = pencil;
     if (only !== null) this.entered.push(this.row(1));
     this.#tell();
     return null;
@@ -155,6 +190,17 @@ function mending({ most = 1, ink = [] } = {}) {
   return { session, workers, mender, ended: mender.run(session.board.byName.get('1 across'), 7) };
 }
 
+// The fills of an empty light of three letters: the session finds CAT first.
+function filling({ list = {} } = {}) {
+  const [session, workers, shown] = [new Session(boardOf('...'), { CAT: 10, COT: 30, TAR: 80 }), new Workers(1), []];
+  Object.assign(session, { first: lettersOf('CAT'), list: { ...session.list, target: null, sources: [], ...list } });
+  Object.assign(workers, { rest() {}, warm() {} });
+  const figures = { worst: '', boundOf: () => 101, prove: async ({ bound }) => `no fill has ${bound}` };
+  const filler = new Filler(session, workers, { add() {} }, { show: (progress) => shown.push(progress), explain() {}, figures, offer() {} });
+  said.length = 0;
+  return { session, workers, filler, shown };
+}
+
 // A raising of the word CAT, which has grade 10, until no word is better.
 function improving({ most = 1, ...given } = {}) {
   const [session, workers, tried] = [new Session(boardOf('CAT'), { CAT: 10, COT: 30, TAR: 80 }), new Workers(most), []];
@@ -208,9 +254,12 @@ const CASES = {
     answered(race, 1, limit(80));
     same([race.bound, race.proved], [80, 51]);
     same(answered(race, 1, filled(75, 460)), 'better');
+    // the others may have the grade that a worker found before, which is none of its own in this stage
+    race.hold({ names: ['4 down'], forced: [], grade: 75, sum: 400 });
+    same([race.catchesUp(1), leastOf(race, 1)], [true, 76]);
     // where all others have the best grade no more is wanted
     race.hold({ names: ['3 down'], forced: [], grade: Infinity, sum: 0 });
-    same([race.grade, race.isMet, race.held.length], [100, true, 2]);
+    same([race.grade, race.isMet, race.held.length], [100, true, 3]);
   },
 
   'a race ends at its target'() {
@@ -337,10 +386,10 @@ const CASES = {
     await workers.call(1);
     same([session.row(1), session.texts], ['COT', ['text clue 1 1 across Pet']]);
     // a clue that comes while a better fill is on its way
+    session.ahead.push(() => session.write('Bed'));
     (await workers.call(1)).answer(found('TAR', 80));
-    session.write('Bed');
     await workers.call(2);
-    same(session.row(1), 'TAR');
+    same([session.row(1), session.texts], ['TAR', ['text clue 1 1 across Bed']]);
     await session.edit(['set 1 1 B']);
     const { isStopped, isChanged } = await ended;
     same([isStopped, isChanged, session.row(1)], [false, true, 'BAR']);
@@ -366,6 +415,48 @@ const CASES = {
     same([raiser.isRunning, (await workers.call(2)).at], [true, workers.asked[1].at]);
     workers.asked[2].fail(fault);
     same((await ended).isStopped, false);
+  },
+
+  async 'the first fill does not wait for its raising, which goes on from it'() {
+    const { session, workers, filler } = filling();
+    const ended = filler.run(false);
+    const { sent } = await workers.call(0);
+    // no slice has an answer yet
+    same([session.row(1), [...session.pencil], filler.isRunning, filler.isRaising, filler.isImproving], ['CAT', ['1 1', '1 2', '1 3'], false, true, false]);
+    same([sent.least, workers.begun], [11, 'size 3 1\nset 1 1 C\nset 1 2 A\nset 1 3 T\nclear 1 1\nclear 1 2\nclear 1 3\n']);
+    workers.asked[0].answer(found('TAR', 80, 81));
+    await ended;
+    same([session.row(1), said.at(-1)], ['TAR', 'filled: no fill has 81']);
+  },
+
+  async 'Keep improving fills, raises, and stops'() {
+    const { session, workers, filler, shown } = filling();
+    const ended = filler.improve();
+    await workers.call(0);
+    same([session.row(1), filler.isImproving, said.at(-1)], ['CAT', true, 'filled; its worst word is raised until no fill is better, or Esc stops it']);
+    same(shown.at(-1).isRaising, true);
+    filler.improve();
+    await ended;
+    same([filler.isImproving, said.at(-1), shown.at(-1), session.row(1)], [false, 'stopped: no fill has 101', null, 'CAT']);
+    // again, from the fill that is there, until none is under a score
+    session.list = { ...session.list, target: 30 };
+    const again = filler.improve();
+    await workers.call(1);
+    same(said.at(-1), 'filled; its worst word is raised until none is under 30, or Esc stops it');
+    workers.asked[1].answer(found('COT', 30));
+    await again;
+    same([session.row(1), said.at(-1)], ['COT', 'none is under 30: no fill has 101']);
+  },
+
+  async 'Keep improving takes over a raising that would end by time'() {
+    const { workers, filler } = filling();
+    const ended = filler.run(false);
+    await workers.call(0);
+    filler.improve();
+    same([filler.isImproving, said.at(-1)], [true, 'filled; its worst word is raised until no fill is better, or Esc stops it']);
+    filler.stop();
+    await ended;
+    same(said.at(-1), 'stopped: no fill has 101');
   },
 
   'what is emptied around a light'() {

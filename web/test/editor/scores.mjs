@@ -385,10 +385,14 @@ export const CASES = {
     await picture('improving');
     // a clue is kept meanwhile
     await browser.press('F3');
-    await browser.type('Kept');
+    await browser.until("document.activeElement.matches('#clue-list textarea')");
+    await browser.insert('Kept');
     await isDrafted(/text clue 1 1 across Kept/);
     await isOn(true);
+    // Esc leaves the text first
     await browser.press('Escape');
+    await page.statusIs(/kept; Esc again takes it back/);
+    await isOn(true);
     await browser.click('#tab-words');
     // an edit ends it
     await browser.click('#cell-1-1');
@@ -479,10 +483,12 @@ export const CASES = {
     // it is proved where nothing is better
     await browser.click('#weakest-list li:first-child [data-mend]');
     await page.statusIs(/^no fill around 1 Across is better, with the rest as it is$/);
+    await browser.until("document.querySelector('#weakest-list small').textContent === 'nothing better is around it: proved'");
     // one step takes it back
     await browser.press('Control+z');
     await areRows('CAT401 Across', 'TOE752 Down');
-    // an offer is for the grid as it was
+    // both are for the grid as it was
+    await browser.until("document.querySelector('#weakest-list small').textContent === ''");
     await browser.click('#weakest-list li:first-child [data-mend]');
     await browser.until("!document.getElementById('mend-offer').hidden");
     await browser.press('Control+z');
