@@ -385,24 +385,29 @@ export class Editor extends EditorState {
     return this.#move(() => this.#future, () => this.#past, (state) => state);
   }
 
-  // Returns the two steps, or null if there is none to go to.
+  // Returns the two steps, or null if there is none to go to. The history is that of the one or of the other at any time.
   #move(from, to, placeOf) {
     return this.inOrder(async () => {
-      const [before, state] = [this.#now, from().pop()];
+      const state = from().at(-1);
       if (!state) return null;
       this.#stroke = null;
-      const place = placeOf(state) ?? state;
-      to().push(before);
-      await this.#take(state, place);
+      let before = this.#now;
+      await this.#take(state, placeOf(state) ?? state, () => {
+        before = this.#now;
+        to().push(before);
+        from().pop();
+      });
       return { before, now: this.#now };
     });
   }
 
-  async #take(state, place) {
+  // Goes to a state. `arriving` is called when it is there.
+  async #take(state, place, arriving = () => {}) {
     this.hold({ pencil: new Set(state.pencil), originals: new Map(state.originals), written: new Map(state.written) });
     // the board that is here may not have that cell
     await this.#goTo(state.record, place);
     this.hold({ puzzle: state.puzzle, edited: null });
+    arriving();
     this.#arrive({ ...state, record: this.record });
   }
 

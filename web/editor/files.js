@@ -97,7 +97,7 @@ export class Files {
       if (!fault.status) throw fault;
       // the engine takes what is no .puz file for a text file
       const status = (fault.status === 'Header' || fault.status === 'NulByte') && /\.puz$/i.test(name) ? 'Magic' : fault.status;
-      const hint = isListText(bytes) ? '; it looks like a word list, so give it a name that ends with .txt' : '';
+      const hint = kind !== 'clues' && isListText(bytes) ? '; it looks like a word list, so give it a name that ends with .txt' : '';
       return this.#refuse(`${name}: ${status === 'File' ? fault.message : refusalText(status)}${hint}`);
     }
   }

@@ -562,7 +562,7 @@ export const CASES = {
     await browser.click('#clue-lengths');
     await page.statusIs(/^1 clue has a length now$/);
     await valuesAre('plain (3)', 'phrase (2,3)', 'sum (1,9)');
-    await browser.until("document.getElementById('clue-lengths').disabled && document.querySelectorAll('.clue:nth-of-type(1) .length:disabled').length === 1");
+    await browser.until("document.getElementById('clue-lengths').disabled && document.querySelectorAll('.clue-part:first-child .clue:nth-of-type(1) .length:disabled').length === 1");
     await browser.until("/the clue of 5 Across says \\(1,9\\) and it has 5 letters|the clue of \\d+ Across says \\(1,9\\)/.test(document.getElementById('rules').textContent)");
     await browser.click('#cell-2-2');
     await browser.press('Control+z');
@@ -742,7 +742,8 @@ export const CASES = {
     await browser.click('#table-dialog [value=cancel]');
     await page.statusIs(/^table.csv: the clues stay as they are$/, 'bad');
     await clueIs('Sheep');
-    // and taken over in one step
+    // and taken over in one step. The browser's own dialog would stand in the way
+    await browser.value("document.getElementById('picker').click = () => {}, 0");
     await menu('clues-from');
     await openFile(table);
     await browser.click('#table-dialog [value=take]');
@@ -763,6 +764,11 @@ export const CASES = {
     await menu('clues-from');
     await openFile(table);
     await page.statusIs(/^table.csv: line 2 has a quote that opens or closes no field$/, 'bad');
+    writeFileSync(table, 'sheep\nlamb\ngoats\n');
+    await menu('clues-from');
+    await openFile(table);
+    await page.statusIs(/^table.csv: its first line names no columns Number \(or Answer\) and Clue$/, 'bad');
+    await browser.value("delete document.getElementById('picker').click");
     await clueIs('=Sheep, "loud" sounds');
   },
 

@@ -375,10 +375,10 @@ export const CASES = {
       })()`);
       expect(!found.length, `${where}: too small for a finger: ${found.slice(0, 6).join('; ')}`);
     };
-    // a clue can be read where it is written
+    // a clue can be read where it is written, in one of two columns
     await browser.view(1280, 800);
     await browser.click('#tab-clues');
-    await browser.until("document.querySelector('#clue-list textarea').offsetWidth >= 300 && document.getElementById('grid').offsetHeight > 660");
+    await browser.until("document.querySelector('#clue-list textarea').offsetWidth >= 240 && document.getElementById('grid').offsetHeight > 660");
     await browser.click('#tab-words');
     for (const [width, height] of [[390, 844], [820, 1180]]) {
       await browser.view(width, height, { isTouched: true });
