@@ -7,7 +7,10 @@
         session.fill(1000)
         print(session.show())
 """
-from .answers import Best, Cell, Choice, Entry, Light, LightName, Progress, Suggestion, Tally, Words
+from .answers import (
+    Advice, Best, Cell, Choice, Circle, Count, Direction, Entry, Found, Grade, Light, LightName, Longest, Progress, Repeat, Side, Stats, Suggestion, Symmetry,
+    Tally, Unlisted, Unmatched, Words,
+)
 from .errors import Error, Fault, Refusal
 from .library import STATUSES, version
 from .lists import Listed
@@ -15,6 +18,10 @@ from .session import Session
 from .text import decode, encode
 
 __all__ = [
-    "Best", "Cell", "Choice", "Entry", "Error", "Fault", "Light", "LightName", "Listed", "Progress", "Refusal", "STATUSES", "Session", "Suggestion", "Tally",
-    "Words", "decode", "encode", "version",
+    "Advice", "Best", "Cell", "Choice", "Circle", "Count", "Direction", "Entry", "Error", "Fault", "Found", "Grade", "Light", "LightName", "Listed", "Longest",
+    "Progress", "Refusal", "Repeat", "STATUSES", "Session", "Side", "Stats", "Suggestion", "Symmetry", "Tally", "Unlisted", "Unmatched", "Words", "decode",
+    "encode", "version",
 ]
+
+# The version of the package, which is that of the engine.
+__version__ = "0.2.0"

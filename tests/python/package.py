@@ -8,6 +8,8 @@ something that is not installed is skipped. The last line is 'N passed, M failed
 import concurrent.futures
 import copy
 import doctest
+import fcntl
+import html.parser
 import inspect
 import os
 import pathlib
@@ -179,6 +181,108 @@ def answers_are_values():
 
 
 @test
+def each_query_has_a_method():
+    # docs/commands.md, "The grid": the example of `stats`, with a circle
+    session = Session()
+    session.size(5, 3)
+    session.place("1 across", "story")
+    for row, column, side in ((2, 3, "right"), (2, 2, "right")):
+        session.bar(row, column, side)
+    session.block(2, 2)
+    session.block(2, 4)
+    assert session.stats() == (15, 2, 2, 5, 5, {3: 3, 5: 2}, 7, 3.8, {"O": 1, "R": 1, "S": 1, "T": 1, "Y": 1}), session.stats()
+    assert session.longest() == ("1 across", 5) and session.circles() == []
+    session.circle(3, 2)
+    session.circle(1, 5)
+    assert session.circles() == [(1, 5), (3, 2)]
+    session.size(1, 1)
+    assert session.longest() is None and session.stats().mean == 0 and session.stats().lengths == session.stats().letters == {}
+
+
+@test
+def words_in_the_grid_are_judged():
+    # docs/commands.md, "Repeats, suggestions and fills"
+    session = square()
+    assert session.counts() == [("1 across", 2), ("1 down", 2), ("2 down", 2), ("3 across", 2)]
+    session.place("1 across", "at")
+    session.place("1 down", "at")
+    assert session.dups() == [("1 down", "1 across", "AT")] and session.unlisted() == []
+    session.place("1 across", "xt")
+    assert session.unlisted() == [("1 across", "XT"), ("1 down", "XT")] and session.dups() == [("1 down", "1 across", "XT")]
+    assert session.grades() == [("1 across", None), ("1 down", None)]
+    session.add("xt", 40)
+    session.strike("xt")
+    assert session.grades(["3 across", (1, "down")]) == [("3 across", None), ("1 down", 40)]
+    raises(Refusal, lambda: session.grades(["4 across"]), name="NoLight")
+    session.clear(1, 2)
+    session.clear(2, 1)
+    assert session.unmatched() == [("1 across", "X."), ("1 down", "X.")]
+
+
+@test
+def edits_are_watched():
+    session = square()
+    session.set(1, 2, "t")
+    assert session.changed == []
+    session.clear(1, 2)
+    session.watch()
+    session.set(1, 2, "t")
+    assert session.changed == [(1, 2, frozenset("T"))]
+    in_threads(lambda: session.changed == [] or sys.exit("another thread has the cells"))
+    session.set(1, 2, "x")
+    assert [(it.row, it.column, "".join(it.letters)) for it in session.changed] == [(1, 1, ""), (1, 2, ""), (2, 1, ""), (2, 2, "")]
+    session.clear(1, 2)
+    session.strike("as")
+    # AT and TO are left, once across and once down
+    assert [(it.row, it.column, "".join(it.letters)) for it in session.changed] == [(1, 2, "T"), (2, 1, "T")]
+    raises(Refusal, lambda: session.set(9, 9, "a"), name="OutOfGrid")
+    session.watch(False)
+    session.add("as")
+    assert session.changed == []
+
+
+class Tags(html.parser.HTMLParser):
+    """The tags of a page, with the texts between them."""
+
+    def __init__(self, text):
+        super().__init__()
+        self.found = []
+        self.feed(text)
+        self.close()
+
+    def handle_starttag(self, tag, attributes):
+        self.found.append((tag, dict(attributes).get("style", "")))
+
+    def handle_data(self, data):
+        self.found.append(("", data))
+
+
+@test
+def sessions_show_their_grids():
+    session = square()
+    session.set(1, 1, "a")
+    assert repr(session) == "<Session of 2 by 2>\nA -\n- -"
+    session.symmetry("none")
+    session.bar(1, 1, "right")
+    session.bar(1, 2, "below")
+    session.block(2, 1)
+    assert repr(session) == "<Session of 2 by 2>\nA|-\n..=\n# -"
+    session.circle(1, 1)
+    session.title("</caption><script>alert('x')</script> & more")
+    found = Tags(session._repr_html_()).found
+    tags = [tag for tag, _ in found if tag]
+    assert set(tags) == {"table", "caption", "tr", "td", "span"} and tags.count("tr") == 2 and tags.count("td") == 4, tags
+    assert ("", "</caption><script>alert('x')</script> & more") in found
+    first, second, block, last = (style for tag, style in found if tag == "td")
+    assert "border-right: 3px" in first and "border-bottom: 3px" in second and "border-bottom" not in first and "#222" in block and "#222" not in last
+    # the letter is in the circle
+    assert found[[style for _, style in found].index("A") - 1][0] == "span" and "radius" in found[[style for _, style in found].index("A") - 1][1]
+    session.close()
+    assert repr(session) == "<Session, closed>" and session._repr_html_() == "<pre>&lt;Session, closed&gt;</pre>"
+    assert repr(Session.__new__(Session)) == "<Session, closed>"
+
+
+@test
 def bars_are_no_rows():
     session = Session()
     session.size(2, 2)
@@ -208,6 +312,18 @@ def best_climbs():
 
 
 @test
+def fills_have_a_mean():
+    session = square(GRADED)
+    # both fills have the words 90, 80, 70 and 60, whose mean is 75
+    assert [it.mean for it in session.best()][-1] == 75
+    assert next(session.best()).mean == 100
+    session.size(2, 2)
+    session.place("1 across", "as")
+    # the words AT, SO and TO are new
+    assert [it.mean for it in session.best()][-1] == 70
+
+
+@test
 def best_is_left():
     session = square(GRADED)
     session.set(1, 1, "a")
@@ -225,10 +341,10 @@ def full_grids_are_their_own_fills():
     session.fill(9)
     rows = session.rows()
     # docs/commands.md, `best`: no word is new then, so the grade is 100 if no cell is empty
-    assert list(session.best()) == [(100, 101, rows)] and session.rows() == rows and next(session.best()).is_best
+    assert list(session.best()) == [(100, 101, rows, 100)] and session.rows() == rows and next(session.best()).is_best
     # words that were entered are not judged, but no fill has one twice
     session.set(1, 1, "x")
-    assert list(session.best()) == [(100, 101, ("X" + rows[0][1], rows[1]))]
+    assert list(session.best()) == [(100, 101, ("X" + rows[0][1], rows[1]), 100)]
     session.set(2, 1, session.rows()[0][1])
     assert list(session.best()) == []
 
@@ -286,6 +402,25 @@ def slices_take_a_tenth_of_a_second():
     assert searched(lambda placements: next(times), "autofill", limit=6500, progress=lambda told: False) == [1000, 2000, 1000, 2000, 500]
     # a search that ends at once never gets slices that would take long if the next one did not
     assert max(searched(lambda placements: 0, "autofill", limit=10**7, progress=lambda told: False)) == 100_000
+
+
+@test
+def searches_end_after_seconds():
+    """The time is that of the slices, by their clock."""
+    for kind in ("autofill", "best"):
+        # 8,000 placements a second: slices of 0.125 s, of which eight take a second
+        assert searched(lambda placements: placements / 8000, kind, seconds=1, progress=lambda told: False) == [1000] * 8
+        # the last slice is as long as the time that is left, and has the fewest placements of a slice at least
+        paced = {"seconds": 0.3125, "every": 0.125, "progress": lambda told: False}
+        assert searched(lambda placements: placements / 32000, kind, **paced) == [1000, 2000, 4000, 3000]
+        assert searched(lambda placements: placements / 10000, kind, seconds=0.15, progress=lambda told: False) == [1000, 1000]
+        assert searched(lambda placements: placements, kind, seconds=5) == [1000]
+        assert searched(lambda placements: placements / 10000, kind, limit=2500, seconds=1, progress=lambda told: False) == [1000, 1000, 500]
+        # a slice that grows without a limit of time is cut by it
+        sent = searched(lambda placements: placements / 8192, kind, seconds=20)
+        assert 20 * 8192 <= sum(sent) <= 20 * 8192 + 1000, sum(sent)
+    for seconds in (0, -1, float("nan")):
+        raises(ValueError, lambda: square().autofill(seconds=seconds), args=(f"seconds is {seconds!r}, which is no time above 0",))
 
 
 @test
@@ -369,7 +504,132 @@ def errors_are_pickled():
 @test
 def versions_are_those_of_the_sources():
     (version,) = re.findall('^pub const VERSION: &str = "(.*)";$', (TOP / "crates/xw_commands/src/version.rt").read_text(), re.M)
-    assert xw.version() == version
+    assert xw.version() == version and xw.__version__ == version.split()[1]
+
+
+@test
+def files_are_named_by_their_kind(room):
+    session = square()
+    session.fill(9)
+    for name, data in (("a.puz", session.to_puz()), ("A.PUZ", session.to_puz()), ("b.xw", b"# xw session 1\n" + session.record())):
+        assert session.save(room / name) is None and (room / name).read_bytes() == data, name
+    raises(Fault, lambda: session.save(str(room / "a.txt")), status="Field")
+    for light in session.lights():
+        session.clue(light, "Clue")
+    session.save(str(room / "a.txt"))
+    assert (room / "a.txt").read_bytes() == session.to_text()
+    for name in ("a", "a.puzzle", "", ".puz", "a.puz.bak"):
+        raises(ValueError, lambda: session.save(room / name if name else name))
+    assert Session(puzzle=room / "a.puz").rows() == Session(SQUARE, record=room / "b.xw").rows() == session.rows()
+    assert sorted(it.name for it in room.iterdir()) == ["A.PUZ", "a.puz", "a.txt", "b.xw"]
+
+
+@test
+def files_are_replaced_whole(room):
+    session, path = square(), room / "a.puz"
+    path.write_bytes(b"old")
+    path.chmod(0o640)
+    raises(Fault, lambda: session.save(path), status="NotFilled")
+    assert path.read_bytes() == b"old"
+    session.fill(9)
+    (room / "b.puz").symlink_to("a.puz")
+    # what is no puzzle is kept
+    assert session.save(room / "b.puz") == room / "b.puz~" and (room / "b.puz~").read_bytes() == b"old"
+    assert path.read_bytes() == session.to_puz() and path.stat().st_mode & 0o7777 == 0o640 and (room / "b.puz").is_symlink()
+    # a new file that another run has left is not taken
+    (room / ".xw-0.new").write_bytes(b"left")
+    assert session.save(path) is None and (room / ".xw-0.new").read_bytes() == b"left"
+    (room / "c.puz").mkdir()
+    raises(IsADirectoryError, lambda: session.save(room / "c.puz"))
+    raises(FileNotFoundError, lambda: session.save(room / "none/a.puz"))
+    os.mkfifo(room / "d.puz")
+    raises(OSError, lambda: session.save(room / "d.puz"))
+    assert sorted(it.name for it in room.iterdir()) == [".xw-0.new", "a.puz", "b.puz", "b.puz~", "c.puz", "d.puz"]
+
+
+@test
+def a_write_that_fails_leaves_the_old_file(room):
+    session, path = square(), room / "a.puz"
+    session.fill(9)
+    session.save(path)
+    before, replaced = path.read_bytes(), os.replace
+
+    def fails(*_):
+        raise OSError(5, "a device failed")
+
+    session.title("New")
+    os.replace = fails
+    try:
+        raises(OSError, lambda: session.save(path))
+    finally:
+        os.replace = replaced
+    assert path.read_bytes() == before and [it.name for it in room.iterdir()] == ["a.puz"]
+
+
+@test
+def nothing_is_written_over_in_silence(room):
+    (room / "words.txt").write_bytes(b"as\nat\nso\nto\n")
+    (room / "start.xw").write_bytes(b"size 2 2\n")
+    session = Session(room / "words.txt", record=room / "start.xw")
+    session.fill(9)
+    for light in session.lights():
+        session.clue(light, "Clue")
+    (room / "link.txt").symlink_to("words.txt")
+    for name in ("words.txt", "link.txt"):
+        raises(ValueError, lambda: session.save(room / name), args=(f"{str(room / name)!r} is the word list, which is not written over",))
+    # the session has all that its record had, and what it wrote itself
+    assert session.save(room / "start.xw") is None and session.save(room / "start.xw") is None
+    other = Session(room / "words.txt")
+    assert other.save(room / "start.xw") == room / "start.xw~" and session.save(room / "start.xw") == room / "start.xw~2"
+    assert b"size 15 15" in (room / "start.xw~2").read_bytes() and b"size 2 2" in (room / "start.xw~").read_bytes()
+    # one that lacks a line of its record keeps the record
+    (room / "strikes.xw").write_bytes(b"strike of\n")
+    lacking = Session(room / "words.txt", record=room / "strikes.xw")
+    assert lacking.reports and lacking.save(room / "strikes.xw") == room / "strikes.xw~"
+    # a puzzle replaces a puzzle of its format, but no session and no other file
+    assert session.save(room / "a.puz") is None and Session(room / "words.txt", puzzle=room / "a.puz").save(room / "a.puz") is None
+    assert session.save(room / "a.txt") is None and session.save(room / "a.txt") is None
+    (room / "notes.txt").write_bytes(b"Notes.\n")
+    assert session.save(room / "notes.txt") == room / "notes.txt~"
+    (room / "session.txt").write_bytes(b"# xw session 1\n")
+    assert session.save(room / "session.txt") == room / "session.txt~"
+    (room / "record.txt").write_bytes(b"size 2 2\n")
+    raises(ValueError, lambda: Session(record=room / "record.txt").save(room / "record.txt"))
+    (room / "puzzle.xw").write_bytes((room / "a.puz").read_bytes())
+    raises(ValueError, lambda: Session(puzzle=room / "puzzle.xw").save(room / "puzzle.xw"))
+
+
+@test
+def puzzles_with_more_are_kept(room):
+    """A timer, and letters of a solver: docs/formats.md."""
+    session = square()
+    session.fill(9)
+    plain = session.to_puz()
+    timed = plain + b"LTIM" + (3).to_bytes(2, "little") + b"\0\0" + b"0,0" + b"\0"
+    solved = plain[: 0x34 + 4] + b"AS--" + plain[0x34 + 8 :]
+    for name, data, is_kept in (("a", plain, False), ("b", timed, True), ("c", solved, True), ("d", plain[:40], True)):
+        path = room / f"{name}.puz"
+        path.write_bytes(data)
+        session.title(name)
+        assert (session.save(path) is not None) == is_kept, name
+        assert path.read_bytes() == session.to_puz() and (not is_kept or (room / f"{name}.puz~").read_bytes() == data)
+    session.circle(1, 1)
+    session.save(room / "a.puz")
+    # circles are a section that a puzzle keeps
+    assert b"GEXT" in (room / "a.puz").read_bytes() and session.save(room / "a.puz") is None
+    session.title("Other")
+    assert session.save(room / "a.puz") is None
+
+
+@test
+def files_in_use_are_refused(room):
+    session, path = square(), room / "a.xw"
+    path.write_bytes(b"# xw session 1\n")
+    with open(path, "rb") as journal:
+        fcntl.flock(journal, fcntl.LOCK_EX)
+        raises(BlockingIOError, lambda: session.save(path))
+        assert path.read_bytes() == b"# xw session 1\n"
+    assert session.save(path) == room / "a.xw~"
 
 
 def in_threads(*calls):
@@ -468,7 +728,7 @@ def mappings_are_puzzles():
     }
     session = Session(puzzle=puzzle)
     assert session.show() == ["A|S #", "=....", "T O #"] and session.rows() == ("AS#", "TO#")
-    assert session.line("circles") == ["1 2"]
+    assert session.circles() == [(1, 2)]
     assert session.texts() == {"title": "T", "2 across": "Seven", "1 down": "Five"}
     puzzle["solution"][0][0] = "HEART"
     raises(Fault, lambda: Session(puzzle=puzzle), status="BadCell")
@@ -483,8 +743,9 @@ def package_is_typed():
 
 @test
 def documents_run():
-    failed, tried = doctest.testfile(str(TOP / "docs/python.md"), module_relative=False)
-    assert tried and not failed
+    for name in ("docs/python.md", "python/README.md"):
+        failed, tried = doctest.testfile(str(TOP / name), module_relative=False)
+        assert tried and not failed, name
 
 
 @test
@@ -502,6 +763,9 @@ def wheel_stands_alone(room, wheel):
     code = "import xw, sys; print(xw.version(), xw.__file__)"
     called = lambda *words: subprocess.run([sys.executable, *words], cwd=room, env={**bare, "PYTHONPATH": str(room / "site")}, capture_output=True, text=True)
     assert called("-c", code).stdout.split() == [*xw.version().split(), str(room / "site/xw/__init__.py")]
+    (metadata,) = (room / "site").glob("xw-*.dist-info/METADATA")
+    fields, _, description = metadata.read_text(encoding="utf-8").partition("\n\n")
+    assert description == (TOP / "python/README.md").read_text(encoding="utf-8") and f"\nVersion: {xw.__version__}\n" in fields
     told = called("-m", "doctest", room / "doc/python.md")
     assert told.returncode == 0, told.stdout
     filled = called(room / "doc" / example, "list.txt", "grid.xw", "--puz", "made.puz")
