@@ -11,16 +11,17 @@ from .answers import (
     Advice, Best, Cell, Choice, Circle, Count, Direction, Entry, Found, Grade, Light, LightName, Longest, Progress, Repeat, Side, Stats, Suggestion, Symmetry,
     Tally, Unlisted, Unmatched, Words,
 )
-from .errors import Error, Fault, Refusal
+from .errors import Died, Error, Fault, Refusal
 from .library import STATUSES, version
 from .lists import Listed
+from .many import Filled, fill_many
 from .session import Session
 from .text import decode, encode
 
 __all__ = [
-    "Advice", "Best", "Cell", "Choice", "Circle", "Count", "Direction", "Entry", "Error", "Fault", "Found", "Grade", "Light", "LightName", "Listed", "Longest",
-    "Progress", "Refusal", "Repeat", "STATUSES", "Session", "Side", "Stats", "Suggestion", "Symmetry", "Tally", "Unlisted", "Unmatched", "Words", "decode",
-    "encode", "version",
+    "Advice", "Best", "Cell", "Choice", "Circle", "Count", "Died", "Direction", "Entry", "Error", "Fault", "Filled", "Found", "Grade", "Light", "LightName",
+    "Listed", "Longest", "Progress", "Refusal", "Repeat", "STATUSES", "Session", "Side", "Stats", "Suggestion", "Symmetry", "Tally", "Unlisted", "Unmatched",
+    "Words", "decode", "encode", "fill_many", "version",
 ]
 
 # The version of the package, which is that of the engine.

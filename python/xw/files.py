@@ -94,7 +94,7 @@ class Sources:
         self._known = {_stamp(self._paths["record"])} if "record" in self._paths else set()
 
     def forget(self) -> None:
-        """The session lacks a part of the record, so its file is kept."""
+        """The session lacks a part of the files that it knew, so they are kept."""
         self._known.clear()
 
     def expect_other(self, path: pathlib.Path, kind: Kind) -> None:

@@ -6,7 +6,7 @@ import os
 import pathlib
 import threading
 from types import TracebackType
-from typing import Any, Callable, Dict, FrozenSet, Generator, Iterable, Iterator, List, Mapping, NoReturn, Optional, Tuple, Type, Union, cast
+from typing import Any, Callable, Dict, FrozenSet, Generator, Iterable, Iterator, List, Mapping, Optional, Tuple, Type, Union, cast
 
 from .answers import (
     Advice, Best, Cell, Choice, Circle, Count, Direction, Entry, Found, Grade, Light, LightName, Longest, Progress, Repeat, Side, Stats, Suggestion, Symmetry,
@@ -28,6 +28,8 @@ Told = Callable[[Progress], Any]
 PIECE = 1500
 # The length of the longest word.
 LONGEST = 255
+# The record of a session that was just opened without a puzzle.
+BLANK = b"size 15 15\nsym none\ntext title\ntext author\ntext copyright\ntext notes\nwatch off\n"
 
 
 def _name(light: LightName) -> str:
@@ -60,11 +62,11 @@ class Session:
     def __init__(self, words: WordList = b"", puzzle: Puzzle = b"", record: Source = b""):
         self._sources = Sources(words, puzzle, record)
         self._told = threading.local()
-        lines, listed = bytes_of(record), list_of(words)
-        self._handle = Handle(listed, puzzle_of(puzzle))
+        lines, self._words = bytes_of(record), list_of(words)
+        self._handle = Handle(self._words, puzzle_of(puzzle))
         try:
             # How many words the list added, and how many of its lines were skipped.
-            self.listed = self._counted(listed)
+            self.listed = self._counted(self._words)
             # What was not taken from the record, a line each: the end that was cut off, and each line that was refused.
             self.reports = self._resume(lines)
             if self.reports:
@@ -99,9 +101,9 @@ class Session:
         if hasattr(self, "_handle"):
             self.close()
 
-    def __reduce__(self) -> NoReturn:
-        """Refuses `copy` and `pickle`: the memory of the library cannot be copied, and a second owner would free it twice."""
-        raise TypeError("a session cannot be copied or pickled; open another one by Session(words, record=session.record())")
+    def __reduce__(self) -> Tuple[Any, ...]:
+        """A copy, also by `pickle`, is another session, over the same words and after the record of this one."""
+        return type(self), (self._words, b"", self.record()), {"_sources": self._sources}
 
     def __repr__(self) -> str:
         """The grid, as `show` has it."""
@@ -129,6 +131,29 @@ class Session:
     @property
     def closed(self) -> bool:
         return not self._handle.is_open
+
+    def restore(self, record: Source) -> List[str]:
+        """Makes the session what `Session(words, record=record)` is, over the words that it began with, in less time than a new one takes. Returns its new
+        `reports`. If the record has a fault, the session stays as it was."""
+        lines = bytes_of(record)
+        with self._handle.lock:
+            before = self.record()
+            try:
+                # a record begins with the changes of the words, and only a new session lacks them
+                self.reports = self._again(lines, is_new=not before.startswith(b"size "))
+            except Fault:
+                self._again(before, is_new=True)
+                raise
+        self._sources.forget()
+        return self.reports
+
+    def _again(self, record: bytes, is_new: bool) -> List[str]:
+        if is_new:
+            self._handle.close()
+            self._handle.open(self._words, b"")
+        else:
+            self._resume(BLANK)
+        return self._resume(record)
 
     # ---- lines
 

@@ -25,9 +25,12 @@ import time
 import traceback
 import zipfile
 
+import deadly
 import xw
+import xw.many
 import xw.slices
-from xw import Entry, Fault, Light, Refusal, Session
+import xw.workers
+from xw import Died, Entry, Fault, Light, Refusal, Session
 
 sys.dont_write_bytecode = True
 TOP = pathlib.Path(__file__).resolve().parents[2]
@@ -472,14 +475,78 @@ def sessions_are_closed():
     raises(ValueError, lambda: square().line("show\nshow"))
 
 
+def record_again(session):
+    """Copies of a session, in each way."""
+    return [copy.copy(session), copy.deepcopy(session), *(pickle.loads(pickle.dumps(session, it)) for it in range(2, pickle.HIGHEST_PROTOCOL + 1))]
+
+
 @test
-def sessions_are_not_copied():
-    session = square()
+def sessions_are_copied():
+    session = square([("as", 90), ("at", 80), "so", "to"])
+    session.strike("at")
+    session.add("at", 85)
+    session.add("no", 7)
+    session.strike("so")
+    session.least(5)
     session.set(1, 1, "a")
-    told = "a session cannot be copied or pickled; open another one by Session(words, record=session.record())"
-    for call in (copy.copy, copy.deepcopy, pickle.dumps):
-        raises(TypeError, lambda: call(session), args=(told,))
-    assert session.rows() == ("A-", "--") and Session(SQUARE, record=session.record()).rows() == ("A-", "--")
+    session.title("Caf\u00e9")
+    session.watch()
+    for other in record_again(session):
+        assert other.record() == session.record() and other.listed == session.listed and other.match("..") == ["AS", "AT", "TO", "NO"]
+        other.clear(1, 1)
+        assert session.rows() == ("A-", "--") and other.rows() == ("--", "--")
+        other.close()
+        assert not session.closed
+    session.close()
+    raises(Fault, lambda: pickle.dumps(session), status="Closed")
+
+
+@test
+def a_copy_knows_the_files_of_its_session(room):
+    (room / "words.txt").write_bytes(b"as\nat\nso\nto\n")
+    session = Session(room / "words.txt")
+    session.save(room / "a.xw")
+    other = pickle.loads(pickle.dumps(session))
+    raises(ValueError, lambda: other.save(room / "words.txt"))
+    assert other.save(room / "a.xw") is None and sorted(it.name for it in room.iterdir()) == ["a.xw", "words.txt"]
+
+
+@test
+def sessions_are_restored():
+    """A session is then what a new one is, whatever it was before."""
+    records = [b"size 3 2\nset 1 1 A\ntitle Two\n", b"", b"# xw session 1\nadd on 3\nstrike as\nsize 2 2\nset 1 1 A\nwatch on\ntitle Cut", b"size 2 2\nset 9 9 A\n"]
+    for first in records:
+        session = Session(SQUARE, record=first)
+        session.author("One")
+        session.symmetry("half")
+        for record in records:
+            new = Session(SQUARE, record=record)
+            assert session.restore(record) == session.reports == new.reports and session.record() == new.record(), (first, record)
+            assert [session.words(light) for light in session.lights()] == [new.words(light) for light in new.lights()]
+
+
+@test
+def a_record_with_a_fault_restores_nothing():
+    for change in ("title One", "strike as"):
+        session = square()
+        session.line(change)
+        session.set(1, 1, "a")
+        before = session.record()
+        raises(Fault, lambda: session.restore(b"size 4 4\nadd on\nfrob\n"), status="NoCommand", message="xw: record: line 3: Command")
+        assert session.record() == before and session.reports == []
+        raises(TypeError, lambda: session.restore(7))
+        raises(FileNotFoundError, lambda: session.restore(pathlib.Path("no such file")))
+        assert session.record() == before
+        session.close()
+        raises(Fault, lambda: session.restore(b""), status="Closed")
+
+
+@test
+def a_restored_session_keeps_its_old_file(room):
+    session = square()
+    session.save(room / "a.xw")
+    session.restore(b"size 3 3\n")
+    assert session.save(room / "a.xw") == room / "a.xw~" and b"size 2 2" in (room / "a.xw~").read_bytes()
 
 
 def refused(name, command):
@@ -491,9 +558,22 @@ def at_fault(status, message):
     raise Fault(status, message)
 
 
+DEATHS = ((Died(12, -9), "worker 12 was ended by signal 9"), (Died(12, 3), "worker 12 ended with status 3"))
+
+
+@test
+def results_are_pickled():
+    session = square(GRADED)
+    found = [session.lights(), session.words("1 across"), session.cells(), session.counts(), session.stats(), session.longest(), session.suggest(), session.listed]
+    found += [list(session.best()), session.grades(), xw.Progress(5, 6, 7), xw.Filled(1, "filled", error=Refusal("NoLight", "x"), died=(Died(1, -9),))]
+    for result in found[:-1]:
+        assert pickle.loads(pickle.dumps(result)) == result
+    assert str(pickle.loads(pickle.dumps(found[-1]))) == str(found[-1])
+
+
 @test
 def errors_are_pickled():
-    for error, text in ((Refusal("NoLight", "clue 9 down x"), "NoLight: clue 9 down x"), (Fault("Closed"), "Closed"), (Fault("Full", "a list"), "Full: a list")):
+    for error, text in ((Refusal("NoLight", "clue 9 down x"), "NoLight: clue 9 down x"), (Fault("Closed"), "Closed"), (Fault("Full", "a list"), "Full: a list"), *DEATHS):
         for other in (copy.copy(error), copy.deepcopy(error), *(pickle.loads(pickle.dumps(error, it)) for it in range(pickle.HIGHEST_PROTOCOL + 1))):
             assert (type(other), str(other), vars(other)) == (type(error), text, vars(error)), other
     with concurrent.futures.ProcessPoolExecutor(1) as pool:
@@ -700,6 +780,177 @@ def records_are_resumed():
     raises(Fault, lambda: Session(record=b"frob\n"), status="NoCommand")
     raises(Fault, lambda: Session(puzzle=b"no puzzle"), status="Header")
     raises(Fault, square().to_puz, status="NotFilled")
+
+
+# puzzles for fill_many over the words of a square: two have a fill, which has A in the first cell, and two have none
+PUZZLES = (b"size 2 2\n", b"size 2 2\nset 1 1 X\n", b"size 2 2\nset 1 2 S\nset 9 9 A\ntitle Three\n", b"size 3 3\n")
+ANSWERS = ["filled", "nofill", "filled", "nofill"]
+
+
+def expect_filled(found, answers, faulty=()):
+    """Each puzzle is there once and in order, and what was filled is a fill."""
+    assert [it.number for it in found] == list(range(len(answers))), found
+    assert [it.answer for it in found] == answers, found
+    for filled in found:
+        assert (filled.error is None) == (filled.number not in faulty), filled
+        if filled.answer == "filled":
+            assert filled.rows in (("AS", "TO"), ("AT", "SO")) and Session(SQUARE, record=filled.record).rows() == filled.rows
+
+
+@test
+def many_puzzles_are_filled(room):
+    for workers in (1, 3):
+        found = list(xw.fill_many(PUZZLES * 3, SQUARE, workers))
+        expect_filled(found, ANSWERS * 3)
+        assert found[2].rows == ("AS", "TO") and b"text title Three\n" in found[2].record
+        # no puzzle gets anything of the one before it
+        assert all(b"Three" not in it.record for it in found if it.number % 4 != 2)
+        assert [it.reports for it in found[:4]] == [(), (), ("xw: record: line 3: OutOfGrid",), ()] and not any(it.died for it in found)
+    assert list(xw.fill_many([], SQUARE)) == []
+    (limited,) = xw.fill_many([b"size 2 2\n"], SQUARE, limit=0)
+    assert limited.answer == "limit" and limited.rows == ("--", "--")
+
+
+@test
+def puzzles_are_taken_in_each_form(room):
+    session = square()
+    session.fill(9)
+    for light in session.lights():
+        session.clue(light, "Clue")
+    (room / "a.puz").write_bytes(session.to_puz())
+    (room / "a.xw").write_bytes(session.record())
+    mapping = {"dimensions": {"width": 2, "height": 2}, "puzzle": [[1, 2], [3, 0]]}
+    puzzles = [session.to_puz(), session.to_text(), session.record(), room / "a.puz", room / "a.xw", "size 2 2\n", mapping]
+    expect_filled(list(xw.fill_many(puzzles, SQUARE, 2)), ["filled"] * 7)
+    # what cannot be read is named, and the others are filled
+    puzzles = [room / "none", b"size 2 2\n", "a.puz", b"frob\n", 7, session.to_puz()[:60], b"size 2 2\n"]
+    found = list(xw.fill_many(puzzles, SQUARE, 2))
+    expect_filled(found, [None, "filled", None, None, None, None, "filled"], faulty=(0, 2, 3, 4, 5))
+    assert [type(it.error).__name__ for it in found if it.error] == ["FileNotFoundError", "ValueError", "Fault", "TypeError", "Fault"]
+    assert str(found[3].error) == "NoCommand: xw: record: line 1: Command"
+
+
+@test
+def words_are_taken_in_each_form(room):
+    (room / "words.txt").write_bytes(b"as\nat\nso\nto\n")
+    for words in (room / "words.txt", b"as\nat\nso\nto\n", {"as": 1, "at": 2, "so": 3, "to": 4}):
+        expect_filled(list(xw.fill_many([b"size 2 2\n"], words, 1)), ["filled"])
+    raises(ValueError, lambda: list(xw.fill_many([b""], "words.txt")))
+
+
+@test
+def executors_fill_puzzles():
+    for executor in (concurrent.futures.ThreadPoolExecutor(2), concurrent.futures.ProcessPoolExecutor(2)):
+        with executor:
+            expect_filled(list(xw.fill_many([*PUZZLES * 5, 7], SQUARE, 2, executor=executor)), [*ANSWERS * 5, None], faulty=(20,))
+
+
+def deadly_puzzles(path, word):
+    return [*PUZZLES, b"size 2 2\n# %s %s\n" % (word, os.fsencode(path)), *PUZZLES]
+
+
+@test
+def a_worker_that_dies_is_named(room):
+    xw.many.fill_one = deadly.fill_or_die
+    try:
+        found = list(xw.fill_many(deadly_puzzles(room / "pids", b"once"), SQUARE, 2))
+        expect_filled(found, [*ANSWERS, "filled", *ANSWERS])
+        (pid,) = map(int, (room / "pids").read_text().split())
+        assert [(it.worker, it.code) for it in found[4].died] == [(pid, -signal.SIGKILL)] and not any(it.died for it in found if it.number != 4)
+        # a puzzle that every worker dies of is given up
+        found = list(xw.fill_many(deadly_puzzles(room / "others", b"always"), SQUARE, 2))
+        expect_filled(found, [*ANSWERS, None, *ANSWERS], faulty=(4,))
+        pids = [int(pid) for pid in (room / "others").read_text().split()]
+        assert [it.worker for it in found[4].died] == pids and len(pids) == 2
+        assert str(found[4].error) == f"worker {pids[1]} was ended by signal 9"
+    finally:
+        xw.many.fill_one = fill_one
+
+
+fill_one = xw.many.fill_one
+
+
+@test
+def an_executor_that_loses_a_worker_loses_no_puzzle():
+    fill_part = xw.many.fill_part
+    xw.many.fill_part = deadly.die
+    try:
+        with concurrent.futures.ProcessPoolExecutor(1) as executor:
+            found = list(xw.fill_many(PUZZLES * 5, SQUARE, 1, executor=executor))
+    finally:
+        xw.many.fill_part = fill_part
+    expect_filled(found, [None] * 20, faulty=range(20))
+    assert all(isinstance(it.error, concurrent.futures.process.BrokenProcessPool) for it in found)
+
+
+def is_there(pid):
+    try:
+        os.kill(pid, 0)
+    except ProcessLookupError:
+        return False
+    return True
+
+
+def pids_in(path, count):
+    """The processes that a file names, once it names so many."""
+    while not path.exists() or path.read_text().count("\n") < count:
+        time.sleep(0.01)
+    return [int(pid) for pid in path.read_text().split()]
+
+
+@test
+def an_interrupt_ends_all_workers(room):
+    """It comes while two workers wait for ever, and a third puzzle is done."""
+    puzzles = [PUZZLES[0], *[b"# wait %s\n" % os.fsencode(room / "pids")] * 4]
+    xw.many.fill_one = deadly.fill_or_die
+    found = []
+
+    def interrupts():
+        pids_in(room / "pids", 2)
+        os.kill(os.getpid(), signal.SIGINT)
+
+    thread = threading.Thread(target=interrupts)
+    try:
+        thread.start()
+        raises(KeyboardInterrupt, lambda: found.extend(xw.fill_many(puzzles, SQUARE, 2)))
+    finally:
+        xw.many.fill_one = fill_one
+        thread.join()
+    assert not any(map(is_there, pids_in(room / "pids", 2))) and [it.answer for it in found] in ([], ["filled"])
+
+
+@test
+def a_loop_that_is_left_ends_all_workers(room):
+    xw.many.fill_one = deadly.fill_or_die
+    try:
+        filling = xw.fill_many([PUZZLES[0], b"# wait %s\n" % os.fsencode(room / "pids")], SQUARE, 2)
+        assert next(filling).answer == "filled"
+        pids = pids_in(room / "pids", 1)
+        assert is_there(pids[0])
+        filling.close()
+        assert not is_there(pids[0])
+    finally:
+        xw.many.fill_one = fill_one
+
+
+@test
+def workers_end_with_their_parent(room):
+    """In the middle of a call too: the parent dies, and its worker reads that it has none."""
+    code = f"""
+import deadly, os, signal, threading, xw.workers
+worker = xw.workers.Worker()
+worker.ask(deadly.Session, b"")
+threading.Thread(target=worker.ask, args=(deadly.fill_or_die, 0, {b'# wait %s' % os.fsencode(room / "pids")!r}, {{}}), daemon=True).start()
+while not os.path.exists({str(room / "pids")!r}):
+    pass
+print(worker.number, flush=True)
+os.kill(os.getpid(), signal.SIGKILL)
+"""
+    path = os.pathsep.join([str(TOP / "tests/python"), os.environ.get("PYTHONPATH", "")])
+    ended = subprocess.run([sys.executable, "-c", code], env={**os.environ, "PYTHONPATH": path}, stdout=subprocess.PIPE)
+    assert ended.returncode == -signal.SIGKILL
+    # the pipe of the output has an end when the worker has ended, which also has it
+    assert pids_in(room / "pids", 1) == [int(ended.stdout)]
 
 
 @test
