@@ -15,13 +15,14 @@ from .errors import Died, Error, Fault, Refusal
 from .library import STATUSES, version
 from .lists import Listed
 from .many import Filled, fill_many
+from .race import Outcome, best
 from .session import Session
 from .text import decode, encode
 
 __all__ = [
     "Advice", "Best", "Cell", "Choice", "Circle", "Count", "Died", "Direction", "Entry", "Error", "Fault", "Filled", "Found", "Grade", "Light", "LightName",
-    "Listed", "Longest", "Progress", "Refusal", "Repeat", "STATUSES", "Session", "Side", "Stats", "Suggestion", "Symmetry", "Tally", "Unlisted", "Unmatched",
-    "Words", "decode", "encode", "fill_many", "version",
+    "Listed", "Longest", "Outcome", "Progress", "Refusal", "Repeat", "STATUSES", "Session", "Side", "Stats", "Suggestion", "Symmetry", "Tally", "Unlisted",
+    "Unmatched", "Words", "best", "decode", "encode", "fill_many", "version",
 ]
 
 # The version of the package, which is that of the engine.

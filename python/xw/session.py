@@ -32,7 +32,7 @@ LONGEST = 255
 BLANK = b"size 15 15\nsym none\ntext title\ntext author\ntext copyright\ntext notes\nwatch off\n"
 
 
-def _name(light: LightName) -> str:
+def name_of(light: LightName) -> str:
     """The name of a light as commands have it."""
     if isinstance(light, Light):
         return light.name
@@ -223,11 +223,11 @@ class Session:
 
     def place(self, light: LightName, word: str) -> None:
         """Enters a word."""
-        self._edit(f"place {_name(light)} {word}")
+        self._edit(f"place {name_of(light)} {word}")
 
     def erase(self, light: LightName) -> None:
         """Empties the cells of a light, but keeps the letters of wholly entered lights that cross it."""
-        self._edit(f"erase {_name(light)}")
+        self._edit(f"erase {name_of(light)}")
 
     def block(self, row: int, column: int) -> None:
         """Toggles the blocks of a cell and its images."""
@@ -277,7 +277,7 @@ class Session:
 
     def words(self, light: LightName, most: Optional[int] = None) -> Words:
         """The feasible words of a light: their number, and the first ones, or all."""
-        count, *words = self.line(f"words {_name(light)}" + ("" if most is None else f" {most}"))
+        count, *words = self.line(f"words {name_of(light)}" + ("" if most is None else f" {most}"))
         return Words(int(count), tuple(words))
 
     def letters(self, row: int, column: int) -> FrozenSet[str]:
@@ -287,7 +287,7 @@ class Session:
 
     def choices(self, light: LightName, most: int, first: Optional[str] = None) -> List[Choice]:
         """The first feasible words of a light, from a word on, with what each leaves."""
-        return [Choice(word, _count(left)) for word, left in self._fields(f"choices {_name(light)} {most} {first or ''}")]
+        return [Choice(word, _count(left)) for word, left in self._fields(f"choices {name_of(light)} {most} {first or ''}")]
 
     def tally(self, row: int, column: int) -> List[Tally]:
         """What each feasible letter of a cell leaves."""
@@ -325,7 +325,7 @@ class Session:
 
     def grades(self, lights: Iterable[LightName] = ()) -> List[Grade]:
         """The grades of the words of the named lights, or of all wholly entered ones. A word has its grade whether it is active or not."""
-        named = " ".join(map(_name, lights))
+        named = " ".join(map(name_of, lights))
         return [Grade(f"{number} {direction}", _count(grade)) for number, direction, grade in self._fields(f"grades {named}")]
 
     def suggest(self) -> Suggestion:
@@ -336,7 +336,7 @@ class Session:
     def why(self, light: LightName) -> List[Entry]:
         """Why a light has no feasible word: entries that leave it none, none of which can be spared. If there are none, it has no feasible word
         even in the empty grid. Raises the refusal `Alive` if it has one."""
-        return [Entry(int(row), int(column), letter) for _, row, column, letter in self._fields(f"why {_name(light)}")]
+        return [Entry(int(row), int(column), letter) for _, row, column, letter in self._fields(f"why {name_of(light)}")]
 
     # ---- searches
 
@@ -357,7 +357,7 @@ class Session:
         """Fills the named lights, or all of them. Returns `filled`, `nofill`, which is proved, or `limit`: after so many placements, after so many seconds,
         or when `progress` returns a true value. Nothing is entered then. `progress` is called after each slice, about every so many seconds. Without it the
         slices get longer, up to a tenth of the time so far. `seconds` ends the search between two slices; the time between them does not count."""
-        named = " ".join(map(_name, lights))
+        named = " ".join(map(name_of, lights))
         slices = Slices(limit, every if progress else None, seconds)
         while True:
             (answer,) = slices.run(lambda placements: self.line(f"autofill {placements} {seed} {named}"))
@@ -376,17 +376,17 @@ class Session:
     ) -> Generator[Best, None, Found]:
         """Yields better and better fills of the named lights, or of all of them, with words of the grade `least` and better. Each stands in the
         grid when it is yielded. It ends when no fill is better, after so many placements or seconds, or when `progress` returns a true value. `progress`,
-        `every` and `seconds` are those of `autofill`. Leave it at any time: the last fill stays in the grid. The session is left with the least grade `least`. The generator
-        returns `filled`, `nofill` or `limit`.
+        `every` and `seconds` are those of `autofill`. Leave it at any time: the last fill stays in the grid. The session is left with the least grade
+        `least`. The generator returns `filled`, `nofill` or `limit`.
 
         In a grid without an empty cell no word is new: it is its own fill, with the grade 100 and the bound 101, unless a word is in it twice."""
-        return _Climb(self, seed, " ".join(map(_name, lights)), least).run(Slices(limit, every if progress else None, seconds), progress)
+        return Climb(self, seed, " ".join(map(name_of, lights)), least).run(Slices(limit, every if progress else None, seconds), progress)
 
     # ---- clues, texts and circles
 
     def clue(self, light: LightName, text: str) -> None:
         """Sets the clue of a light; an empty text removes it."""
-        name = _name(light)
+        name = name_of(light)
         with self._handle.lock:
             found = next((it for it in self.lights() if it.name == name), None)
             if not found:
@@ -465,11 +465,12 @@ class Session:
         return self._sources.put(place, kind, data)
 
 
-class _Climb:
+class Climb:
     """The search of `Session.best`. Between two slices the grid is as it was at the start, with a least grade above that of the last fill."""
 
     def __init__(self, session: Session, seed: int, named: str, least: int):
-        self.session, self.seed, self.named, self.least = session, seed, named, least
+        # words below the grade `above` are left out: it is more than the grade of the best fill
+        self.session, self.seed, self.named, self.least, self.above = session, seed, named, least, least
         self.lock = session._handle.lock
         self.start = session.rows()
         self.entered = {light.name for light in session.lights() if "." not in light.letters}
@@ -493,20 +494,20 @@ class _Climb:
 
     def is_proved(self) -> bool:
         """Whether nothing is left to search for: there is no fill, or no better one."""
-        return self.bound <= (self.found.grade + 1 if self.found else self.least)
+        return self.bound <= self.above
 
     def is_better(self, slices: Slices) -> bool:
         """Searches a slice. Returns whether it found a better fill, which then stands in the grid."""
         # other threads do not see the grid before it is read, nor the least grade of the search with it
         with self.lock:
-            least = self.found.grade + 1 if self.found else self.least
-            self.session.least(least)
+            self.session.least(self.above)
             lines = slices.run(lambda placements: self.session.line(f"best {placements} {self.seed} {self.named}"))
             answer = dict(line.partition(" ")[::2] for line in lines)
-            self.bound = min(self.bound, least if "nofill" in answer else int(answer["bound"]))
+            self.bound = min(self.bound, self.above if "nofill" in answer else int(answer["bound"]))
             if "filled" not in answer:
                 return False
             self.found = Best(int(answer["least"]), self.bound, self.session.rows(), self.mean())
+            self.above = self.found.grade + 1
             self.session.least(self.least)
             return True
 

@@ -7,9 +7,10 @@ import threading
 
 from xw import Session
 from xw.many import fill_one
+from xw.race import step
 
 
-__all__ = ["Session", "die", "fill_or_die"]
+__all__ = ["Session", "die", "fill_or_die", "step_or_die", "step_or_wait"]
 
 
 def path_in(record, word):
@@ -19,8 +20,8 @@ def path_in(record, word):
 
 
 def fill_or_die(session, number, record, options):
-    """Fills a puzzle. With `# once PATH` in its record the first worker that gets it dies, with `# always PATH` each one, and with `# wait PATH` it waits. The file
-    has a line for each of them."""
+    """Fills a puzzle. With `# once PATH` in its record the first worker that gets it dies, with `# always PATH` each one, and with `# wait PATH` it waits. The
+    file has a line for each of them."""
     for word in (b"once", b"always", b"wait"):
         path = path_in(record, word)
         if not path or (word == b"once" and path.exists()):
@@ -31,6 +32,20 @@ def fill_or_die(session, number, record, options):
             threading.Event().wait()
         os.kill(os.getpid(), signal.SIGKILL)
     return fill_one(session, number, record, options)
+
+
+def step_or_die(racer, above):
+    """Searches a slice of a race. The worker with the seed 1 dies in its second one."""
+    if racer.climb.seed == 1 and racer.slices.made:
+        die()
+    return step(racer, above)
+
+
+def step_or_wait(racer, above):
+    """Waits for ever, after the process is noted in the file that the title of the puzzle names."""
+    with open(racer.climb.session.texts()["title"], "a") as file:
+        file.write(f"{os.getpid()}\n")
+    threading.Event().wait()
 
 
 def die(*_):

@@ -14,6 +14,7 @@ import inspect
 import os
 import pathlib
 import pickle
+import random
 import re
 import shutil
 import signal
@@ -28,6 +29,7 @@ import zipfile
 import deadly
 import xw
 import xw.many
+import xw.race
 import xw.slices
 import xw.workers
 from xw import Died, Entry, Fault, Light, Refusal, Session
@@ -951,6 +953,138 @@ os.kill(os.getpid(), signal.SIGKILL)
     assert ended.returncode == -signal.SIGKILL
     # the pipe of the output has an end when the worker has ended, which also has it
     assert pids_in(room / "pids", 1) == [int(ended.stdout)]
+
+
+@test
+def workers_race_for_the_best_fill():
+    told = []
+    for workers in (1, 3):
+        found = xw.best(GRADED, b"size 2 2\nset 9 9 A\n", workers, progress=told.append)
+        assert (found.answer, found.bound, found.fill.grade, found.fill.bound, found.fill.mean, found.is_best) == ("filled", 61, 60, 61, 75, True), found
+        assert found.fill.rows in (("AS", "TO"), ("AT", "SO")) and found.reports == ("xw: record: line 2: OutOfGrid",) and not found.died
+        assert found.placements == told[-1].placements and (told[-1].grade, told[-1].bound) == (60, 61)
+    # no fill has the grade 61
+    found = xw.best(GRADED, b"size 2 2\n", 2, least=61)
+    assert (found.answer, found.bound, found.fill, found.is_best) == ("nofill", 61, None, False)
+    # a grid that is full is its own fill
+    found = xw.best(GRADED, b"size 2 2\nset 1 1 A\nset 1 2 S\nset 2 1 T\nset 2 2 O\n", 2)
+    assert (found.answer, found.fill) == ("filled", (100, 101, ("AS", "TO"), 100)) and found.is_best
+
+
+def many_words():
+    """Graded words of six letters of which a few thousand placements prove no best fill of a grid of 6 by 6 without a block."""
+    draw = random.Random(1)
+    return {"".join(draw.choices("abcdefgh", k=6)): draw.randrange(101) for _ in range(3000)}
+
+
+@test
+def a_race_ends_in_each_way():
+    words, record = many_words(), b"size 6 6\n"
+    found = xw.best(words, record, 2, limit=2000)
+    assert found.placements == 4000 and not found.is_best, found
+    assert xw.best(words, record, 2, seconds=0.001).placements >= 1000
+    told = []
+    assert xw.best(words, record, 2, progress=lambda it: told.append(it) or True).placements == told[0].placements and len(told) == 1
+    raises(Refusal, lambda: xw.best(GRADED, b"size 2 2\n", 2, lights=["9 across"]), name="NoLight")
+    raises(Fault, lambda: xw.best(GRADED, b"frob\n", 2), status="NoCommand", message="xw: record: line 1: Command")
+    raises(ValueError, lambda: xw.best("words.txt"))
+    assert xw.best(GRADED, b"size 2 2\n", 1, lights=[(1, "across")]).fill.rows[0] in ("AS", "AT")
+
+
+class Scripted:
+    """Workers that tell what a test wants: the n-th one has the steps of `scripts[n]`, each a call that gets the least grade."""
+
+    scripts = ()
+    started = 0
+
+    def __init__(self):
+        self.steps, self.number = iter(Scripted.scripts[Scripted.started]), Scripted.started
+        Scripted.started += 1
+
+    def ask(self, call, *given):
+        return next(self.steps)(*given) if call is xw.race.step else None
+
+    def end(self):
+        pass
+
+
+def raced(*scripts, **options):
+    Scripted.scripts, Scripted.started, worker = scripts, 0, xw.race.Worker
+    xw.race.Worker = Scripted
+    try:
+        return xw.best([], workers=len(scripts), **options)
+    finally:
+        xw.race.Worker = worker
+
+
+def a_step(bound, grade=None, mean=0.0, is_over=False):
+    fill = grade and xw.Best(grade, bound, (f"{grade}",), mean)
+    return xw.race.Step(fill, bound, 1000, is_over, ())
+
+
+@test
+def workers_are_told_of_the_fills_of_others():
+    taken, aboves = threading.Event(), []
+
+    def waits(above):
+        # a slice that began before any fill was known
+        aboves.append(above)
+        taken.wait()
+        return a_step(101)
+
+    def ends(above):
+        aboves.append(above)
+        return a_step(above)
+
+    # the first one finds a fill, and the other one proves that it is the best one
+    found = raced([lambda above: a_step(80, 40, 45.0, True)], [waits, waits, ends], progress=lambda told: told.grade == 40 and taken.set())
+    assert aboves[0] in (0, 41) and aboves[-1] == 41 and found.fill == (40, 41, ("40",), 45) and found.is_best and found.placements == 2000
+
+
+@test
+def what_workers_found_is_one_answer():
+    # the better fill counts, and of two with one worst word that with the better mean; the lowest bound is one of all
+    fills = [a_step(90, 40, 50.0, True)], [a_step(70, 30, 99.0, True)], [a_step(80, 40, 60.0, True)], [a_step(101, is_over=True)]
+    found = raced(*[[lambda above, step=step: step for step in steps] for steps in fills])
+    assert (found.answer, found.bound, found.fill, found.is_best) == ("filled", 70, (40, 70, ("40",), 60), False)
+    # a bound at the least grade says that there is no fill
+    found = raced([lambda above: a_step(50)], [lambda above: a_step(101, is_over=True)], least=50)
+    assert (found.answer, found.bound) == ("nofill", 50)
+    found = raced([lambda above: a_step(51, is_over=True)], least=50)
+    assert (found.answer, found.bound) == ("limit", 51)
+
+
+@test
+def a_race_goes_on_without_a_worker_that_dies():
+    step = xw.race.step
+    xw.race.step = deadly.step_or_die
+    try:
+        found = xw.best(many_words(), b"size 6 6\n", 2, limit=2000)
+        # the other worker makes its 2,000 placements, and the one that dies had made 1,000
+        assert [it.code for it in found.died] == [-signal.SIGKILL] and found.placements == 3000, found
+        xw.race.step = deadly.die
+        raises(Died, lambda: xw.best(GRADED, b"size 2 2\n", 2), code=-signal.SIGKILL)
+    finally:
+        xw.race.step = step
+
+
+@test
+def an_interrupt_ends_a_race(room):
+    step, path = xw.race.step, room / "pids"
+
+    def interrupts():
+        pids_in(path, 2)
+        os.kill(os.getpid(), signal.SIGINT)
+
+    thread = threading.Thread(target=interrupts)
+    xw.race.step = deadly.step_or_wait
+    try:
+        thread.start()
+        raises(KeyboardInterrupt, lambda: xw.best(GRADED, b"title %s\n" % os.fsencode(path), 2))
+    finally:
+        xw.race.step = step
+        thread.join()
+    assert not any(map(is_there, pids_in(path, 2)))
 
 
 @test
