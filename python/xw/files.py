@@ -51,9 +51,20 @@ def _sections(data: bytes) -> Iterator[bytes]:
         at += _SECTION_HEAD + int.from_bytes(data[at + 4 : at + 6], "little") + 1
 
 
-def _is_plain_puz(data: bytes) -> bool:
-    """Whether a file is a `.puz` file that has nothing which no puzzle of a session keeps: a timer, a rebus, letters of a solver."""
-    if data[_MAGIC_AT : _MAGIC_AT + len(_MAGIC)] != _MAGIC or len(data) < _BOARDS_AT:
+def is_puz(data: bytes) -> bool:
+    """Whether bytes are a `.puz` file, or the beginning of one."""
+    return data[_MAGIC_AT : _MAGIC_AT + len(_MAGIC)] == _MAGIC
+
+
+def is_text(data: bytes) -> bool:
+    """Whether bytes are a puzzle as a text file, or the beginning of one."""
+    text = data[len(_MARK) :] if data.startswith(_MARK) else data
+    return text.lstrip().upper().startswith(_TAG)
+
+
+def _is_plain(data: bytes) -> bool:
+    """Whether a `.puz` file has nothing which no puzzle of a session keeps: a timer, a rebus, letters of a solver."""
+    if len(data) < _BOARDS_AT:
         return False
     area = data[_SIZE_AT] * data[_SIZE_AT + 1]
     has_letters = any(byte not in b"-." for byte in data[_BOARDS_AT + area : _BOARDS_AT + 2 * area])
@@ -63,9 +74,8 @@ def _is_plain_puz(data: bytes) -> bool:
 def _is_spare(data: bytes, kind: Kind) -> bool:
     """Whether an old file may go: it is empty, or a puzzle of the same format that has nothing else."""
     if kind == "puz":
-        return not data or _is_plain_puz(data)
-    text = data[len(_MARK) :] if data.startswith(_MARK) else data
-    return not data or (kind == "txt" and text.lstrip().upper().startswith(_TAG))
+        return not data or (is_puz(data) and _is_plain(data))
+    return not data or (kind == "txt" and is_text(data))
 
 
 def _stamp(path: pathlib.Path) -> Optional[_Stamp]:

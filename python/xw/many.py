@@ -8,6 +8,7 @@ from typing import Any, Dict, Iterable, Iterator, List, Mapping, NamedTuple, Opt
 
 from .answers import Found
 from .errors import Died, Error
+from .files import is_puz, is_text
 from .lists import Puzzle, Source, WordList, bytes_of, list_of
 from .session import Session
 from .workers import Worker
@@ -16,8 +17,6 @@ from .workers import Worker
 PARTS = 4
 # How many workers try a puzzle, if they die of it.
 TRIES = 2
-# Where a `.puz` file has its magic, and how a text file begins: docs/formats.md.
-_MAGIC, _MAGIC_AT, _TAG = b"ACROSS&DOWN\0", 2, b"<ACROSS PUZZLE"
 
 # The options of a search: `limit`, `seed` and `seconds` of `Session.autofill`.
 _Options = Dict[str, Any]
@@ -38,11 +37,6 @@ class Filled(NamedTuple):
     died: Tuple[Died, ...] = ()
 
 
-def _is_puzzle(data: bytes) -> bool:
-    """Whether bytes are a puzzle file, and no record."""
-    return data[_MAGIC_AT : _MAGIC_AT + len(_MAGIC)] == _MAGIC or data.lstrip(b"\xef\xbb\xbf \t\r\n").upper().startswith(_TAG)
-
-
 def record_of(puzzle: Union[Source, Puzzle]) -> bytes:
     """The record of a puzzle: the bytes, the text or the file of a record or of a puzzle, or an object of the packages `puz` and `ipuz`."""
     data = puzzle
@@ -50,7 +44,7 @@ def record_of(puzzle: Union[Source, Puzzle]) -> bytes:
         if isinstance(puzzle, str) and puzzle and "\n" not in puzzle:
             raise ValueError(f"a puzzle is the string {puzzle[:80]!r}, which has no line; pass pathlib.Path(...) for a file")
         data = bytes_of(puzzle)
-        if not _is_puzzle(data):
+        if not (is_puz(data) or is_text(data)):
             return data
     with Session(puzzle=data) as session:
         return session.record()
