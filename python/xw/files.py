@@ -99,7 +99,9 @@ class Sources:
 
     def __init__(self, words: Any, puzzle: Any, record: Any):
         given = {"words": words, "puzzle": puzzle, "record": record}
-        self._paths: Dict[str, pathlib.Path] = {name: pathlib.Path(it) for name, it in given.items() if isinstance(it, os.PathLike)}
+        self._paths: Dict[str, pathlib.Path] = {
+            name: pathlib.Path(it).absolute() for name, it in given.items() if isinstance(it, os.PathLike)
+        }
         # The session has all that these files of sessions had.
         self._known = {_stamp(self._paths["record"])} if "record" in self._paths else set()
 
