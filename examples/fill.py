@@ -8,16 +8,15 @@ WORDS is a word list, best with grades. RECORD is a file of commands that make t
 import argparse
 import pathlib
 import sys
-import time
 
 from xw import Session
 
 
 def fill(session, seconds):
     """Fills the grid for so many seconds. Returns the last fill, or None."""
-    found, end = None, time.monotonic() + seconds
-    for found in session.best(progress=lambda told: time.monotonic() > end):
-        print(f"worst word {found.grade}; no fill has {found.bound} or better", file=sys.stderr)
+    found = None
+    for found in session.best(seconds=seconds):
+        print(f"worst word {found.grade}, mean {found.mean:.1f}; no fill has {found.bound} or better", file=sys.stderr)
     return found
 
 

@@ -1,7 +1,8 @@
 // What commands answer, as values, and searches that report and stop. xw.d.ts has their types.
 //
 //   ask(xw, 'words', '1 across', 10)  →  { total: 55, words: ['CAB', ..] }
-//   await best(xw, { progress: ({ placements, grade, bound }) => isStopped })  →  { answer: 'filled', grade: 62, bound: 80 }
+//   await best(xw, { progress: ({ placements, grade, bound, rows }) => isStopped })  →  { answer: 'filled', grade: 62, bound: 80 }
+//   for await (const { grade, bound, mean, rows } of fills(xw, { signal }))
 import { SPAN, Slices } from './slices.js';
 import { Fault } from './xw.js';
 
@@ -94,6 +95,7 @@ export function ask(xw, command, ...given) {
 // ---- searches
 
 const isWhole = (value) => Number.isSafeInteger(value) && value >= 0;
+const isSignal = (value) => typeof value?.throwIfAborted === 'function';
 const isNames = (value) => Array.isArray(value) && value.every((name) => typeof name === 'string');
 
 // The options of a search: what each may be, and the error for anything else.
@@ -103,9 +105,10 @@ const OPTIONS = {
   lights: [isNames, TypeError, 'an array of names of lights'],
   progress: [(value) => typeof value === 'function', TypeError, 'a function'],
   every: [(value) => value > 0 && Number.isFinite(value), RangeError, 'a number of milliseconds above 0'],
+  signal: [isSignal, TypeError, 'an AbortSignal'],
   least: [(value) => isWhole(value) && value <= 100, RangeError, 'a grade from 0 to 100'],
 };
-const AUTOFILL = ['limit', 'seed', 'lights', 'progress', 'every'];
+const AUTOFILL = ['limit', 'seed', 'lights', 'progress', 'every', 'signal'];
 const BEST = [...AUTOFILL, 'least'];
 
 // Throws a TypeError or a RangeError that names an option which the search does not take, or whose value it cannot have. An option that is undefined is left
@@ -119,23 +122,27 @@ function expectOptions(search, names, options) {
   }
 }
 
-// The slices of a search with these options.
-const slicesFor = ({ limit = Infinity, progress, every = SPAN }) => new Slices(limit, progress ? every : null);
+// The slices of a search with these options. They stay short if something may end the search between them.
+const slicesFor = ({ limit = Infinity, progress, signal, every = SPAN }) => new Slices(limit, progress || signal ? every : null);
 
-// Lets other events come, such as a click on a stop button, and asks whether the search ends.
-async function isEnded(progress, told) {
+// Lets other events come, such as a click on a stop button, and asks whether the search ends. Throws the reason of a signal that is aborted.
+async function isEnded({ progress, signal }, told) {
   await new Promise((next) => setTimeout(next));
-  return Boolean(progress && (await progress(told)));
+  signal?.throwIfAborted();
+  const isEnd = Boolean(progress && (await progress(told)));
+  signal?.throwIfAborted();
+  return isEnd;
 }
 
 // Fills lights, in slices.
 export async function autofill(xw, options = {}) {
   expectOptions('autofill', AUTOFILL, options);
-  const { seed = 0, lights = [], progress } = options;
+  const { seed = 0, lights = [], signal } = options;
+  signal?.throwIfAborted();
   const slices = slicesFor(options);
   do {
     const answer = slices.run((placements) => ask(xw, 'autofill', placements, seed, ...lights));
-    if (answer !== 'limit' || (await isEnded(progress, { placements: slices.made, grade: null, bound: 101 }))) return answer;
+    if (answer !== 'limit' || (await isEnded(options, { placements: slices.made, grade: null, bound: 101, rows: null }))) return answer;
   } while (!slices.isOver);
   return 'limit';
 }
@@ -143,47 +150,74 @@ export async function autofill(xw, options = {}) {
 // The rows of the grid, with `#` for a block and `-` for an empty cell.
 function rowsOf(xw) {
   const rows = ask(xw, 'show').filter((row) => row[0] !== '.' && row[0] !== '=');
-  return rows.map((row) => Array.from(row).filter((_, at) => at % 2 === 0));
+  return Object.freeze(rows.map((row) => Array.from(row).filter((_, at) => at % 2 === 0).join('')));
 }
 
 // Makes the letters of the grid those of these rows.
 function enter(xw, rows) {
   rowsOf(xw).forEach((now, row) =>
-    now.forEach((letter, column) => {
+    Array.from(now).forEach((letter, column) => {
       const wanted = rows[row][column];
       if (wanted !== letter) ask(xw, ...(wanted === '-' ? ['clear', row + 1, column + 1] : ['set', row + 1, column + 1, wanted]));
     }),
   );
 }
 
-// Searches for better and better fills. Between two slices the grid is as it was at the start. Returns what was found, with its rows.
-async function climb(xw, told, options) {
-  const { seed = 0, lights = [], least = 0, progress } = options;
-  const start = rowsOf(xw);
+// The names of the lights that are wholly entered.
+const enteredIn = (xw) => new Set(ask(xw, 'grades').map(({ light }) => light));
+
+// The mean grade of the words that are new since these lights were entered; 100 if there are none.
+function meanOf(xw, entered) {
+  const grades = ask(xw, 'grades').filter(({ light }) => !entered.has(light)).map(({ grade }) => grade ?? 0);
+  return grades.length ? grades.reduce((sum, grade) => sum + grade) / grades.length : 100;
+}
+
+// Yields better and better fills, each of which stands in the grid then, under the least grade of the search. Between two slices the grid is as it was at the
+// start. `told` has what was found.
+async function* climb(xw, told, options) {
+  const { seed = 0, lights = [], least = 0 } = options;
+  const [start, entered] = [rowsOf(xw), enteredIn(xw)];
   const slices = slicesFor(options);
   do {
     const above = told.grade === null ? least : told.grade + 1;
     ask(xw, 'least', above);
     const { answer, grade, bound } = slices.run((placements) => ask(xw, 'best', placements, seed, ...lights));
     told.bound = Math.min(told.bound, bound ?? above);
-    if (answer === 'filled') Object.assign(told, { answer, grade, rows: rowsOf(xw) });
-    else if (told.grade === null) told.answer = answer;
-    if (answer === 'filled') enter(xw, start);
+    if (answer === 'filled') {
+      Object.assign(told, { answer, grade, rows: rowsOf(xw) });
+      ask(xw, 'least', least);
+      yield { grade, bound: told.bound, mean: meanOf(xw, entered), rows: told.rows };
+      enter(xw, start);
+    } else if (told.grade === null) told.answer = answer;
     const isEnd = told.answer === 'nofill' || (told.grade !== null && told.bound <= told.grade + 1);
-    if (isEnd || (await isEnded(progress, { placements: slices.made, grade: told.grade, bound: told.bound }))) return;
+    if (isEnd || (await isEnded(options, { placements: slices.made, grade: told.grade, bound: told.bound, rows: told.rows }))) return;
   } while (!slices.isOver);
 }
 
-// Looks for the fill whose worst new word has the best grade, in slices. However it ends, the best fill stands in the grid whole, or the grid is as it was.
-export async function best(xw, options = {}) {
+// Yields better and better fills, in slices, and returns what `best` does. However it ends, also if it is left, the best fill stands in the grid whole, or the
+// grid is as it was.
+export async function* fills(xw, options = {}) {
   expectOptions('best', BEST, options);
+  options.signal?.throwIfAborted();
   const told = { answer: 'limit', grade: null, bound: 101, rows: null };
   try {
-    await climb(xw, told, options);
+    yield* climb(xw, told, options);
   } finally {
-    ask(xw, 'least', options.least ?? 0);
-    if (told.rows) enter(xw, told.rows);
+    // a search that was left may end after its session
+    if (!xw.closed) {
+      ask(xw, 'least', options.least ?? 0);
+      if (told.rows) enter(xw, told.rows);
+    }
   }
   const { answer, grade, bound } = told;
   return { answer, grade, bound };
+}
+
+// Looks for the fill whose worst new word has the best grade, in slices.
+export async function best(xw, options = {}) {
+  const search = fills(xw, options);
+  for (;;) {
+    const { done, value } = await search.next();
+    if (done) return value;
+  }
 }

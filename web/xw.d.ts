@@ -1,5 +1,12 @@
 // The types of xw.js.
 
+declare global {
+  // what `using` calls, where the language has it
+  interface SymbolConstructor {
+    readonly dispose: unique symbol;
+  }
+}
+
 /** Bytes, or a string whose characters are those of Windows-1252. */
 export type Source = string | Uint8Array | ArrayBuffer;
 
@@ -100,8 +107,20 @@ export class Xw {
   /** The version of the engine, as `xw --version` prints it. */
   readonly version: string;
 
+  /**
+   * Yields better and better fills. Each stands in the grid when it is yielded, and the last one stays there, also if you leave the loop or the signal is aborted.
+   * `best` finds the last of them alone. The options are those of `best`. Leave the edits to the loop while it runs.
+   */
+  best(search?: Search & { least?: number }): AsyncGenerator<Fill, Best & { bound: number }, undefined>;
+
+  /** Whether the session is closed. */
+  readonly closed: boolean;
+
   /** Closes the session, and lets its memory go. Every later call throws a `Fault` with the status `Closed`, except `close`. */
   close(): void;
+
+  /** Closes the session: `using xw = Xw.open(..)`. */
+  [Symbol.dispose](): void;
 }
 
 /** The name of a light: its number and direction. */
@@ -180,12 +199,87 @@ export type Change =
   | 'add' | 'strike' | 'least' | 'size' | 'sym' | 'set' | 'clear' | 'place' | 'erase' | 'block' | 'bar' | 'watch'
   | 'clue' | 'title' | 'author' | 'copyright' | 'notes' | 'text' | 'more' | 'circle';
 
+/** A direction, a side of a cell, and a symmetry. */
+export type Direction = 'across' | 'down';
+export type Side = 'right' | 'below';
+export type Symmetry = 'none' | 'half' | 'quarter' | 'leftright' | 'updown';
+
+/** A number as an argument. */
+export type Whole = number | `${number}`;
+
+/** A light as arguments: its name, or its number and its direction. */
+export type Named = [light: Light] | [number: Whole, direction: Direction];
+
+type Nothing = [];
+type OfCell = [row: Whole, column: Whole];
+type OfText = [text: string];
+type OfSearch = [most: Whole, seed?: Whole, ...lights: (Light | Whole)[]];
+
+/** The arguments of each command: docs/commands.md describes them. */
+export interface Arguments {
+  help: [command?: keyof Arguments];
+  match: [pattern: string];
+  show: Nothing;
+  lights: Nothing;
+  stats: Nothing;
+  longest: Nothing;
+  words: [...light: Named, most?: Whole];
+  choices: [...light: Named, most: Whole] | [...light: Named, most: Whole, first: string];
+  letters: OfCell;
+  tally: OfCell;
+  cells: Nothing;
+  counts: Nothing;
+  unmatched: Nothing;
+  dups: Nothing;
+  unlisted: Nothing;
+  grades: (Light | Whole)[];
+  suggest: Nothing;
+  why: Named;
+  fill: [most: Whole];
+  autofill: OfSearch;
+  best: OfSearch;
+  texts: Nothing;
+  circles: Nothing;
+  record: Nothing;
+  add: [word: string, grade?: Whole];
+  strike: [word: string];
+  least: [grade: Whole];
+  size: [width: Whole, height: Whole];
+  sym: [symmetry: Symmetry];
+  set: [...cell: OfCell, letter: string];
+  clear: OfCell;
+  place: [...light: Named, word: string];
+  erase: Named;
+  block: OfCell;
+  bar: [...cell: OfCell, side: Side];
+  watch: ['on' | 'off'];
+  clue: [...light: Named, text: string];
+  title: OfText;
+  author: OfText;
+  copyright: OfText;
+  notes: OfText;
+  text: [field: string, text: string];
+  more: [field: string, text: string];
+  circle: OfCell;
+}
+
 /**
  * What a command answers, with its arguments. Throws a `Fault` with the status `Refused` for a refused command, with the name as its `answer`, and a `TypeError`
  * for a name that is no command.
  */
-export function ask<C extends keyof Answers>(xw: Xw, command: C, ...given: (string | number)[]): Answers[C];
-export function ask(xw: Xw, command: Change, ...given: (string | number)[]): Cell[];
+export function ask<C extends keyof Answers>(xw: Xw, command: C, ...given: Arguments[C]): Answers[C];
+export function ask<C extends Change>(xw: Xw, command: C, ...given: Arguments[C]): Cell[];
+
+/** A fill of `best`: its letters stand in `rows`, with `#` for a block and `-` for an empty cell. */
+export interface Fill {
+  /** The grade of the worst new word. */
+  grade: number;
+  /** There is no fill of which all new words have this grade or a better one; 101 says nothing. */
+  bound: number;
+  /** The mean grade of the new words; 100 if no word is new. */
+  mean: number;
+  rows: readonly string[];
+}
 
 /** How far a search is, and the best fill so far. */
 export interface Progress {
@@ -195,6 +289,8 @@ export interface Progress {
   grade: number | null;
   /** There is no fill of which all new words have this grade or a better one; 101 says nothing. */
   bound: number;
+  /** The letters of the best fill, with `#` for a block and `-` for an empty cell, if `best` found one. */
+  rows: readonly string[] | null;
 }
 
 /** What to search for. A search throws a `TypeError` for an option that it does not take, and a `RangeError` for a number that the option cannot be. */
@@ -206,12 +302,17 @@ export interface Search {
   /** The lights to fill, as `1 across`; all, if none is named. */
   lights?: readonly Light[];
   /**
-   * Is called after each slice. A true value ends the search, as if its placements were used up. Without it the slices get longer, up to a tenth of the time so
-   * far.
+   * Is called after each slice. A true value ends the search, as if its placements were used up. Without it and a signal the slices get longer, up to a tenth
+   * of the time so far.
    */
   progress?: (progress: Progress) => unknown;
-  /** A slice takes about so many milliseconds; 100 by default. */
+  /** A slice takes about so many milliseconds, where `progress` or `signal` may end the search after it; 100 by default. */
   every?: number;
+  /**
+   * Ends the search after a slice: it throws the reason of the signal. The best fill so far stands in the grid whole, or the grid is as it was. A search whose
+   * signal is aborted before it begins does nothing.
+   */
+  signal?: AbortSignal;
 }
 
 /**

@@ -4,9 +4,12 @@
 //   const xw = Xw.open(module, { list, puzzle, record });
 //   xw.line('words 1 across 3')  →  { lines: ['55', 'CAB'], ok: true, refusal: null }
 //   xw.puz(), xw.text(), xw.record()  →  the bytes of a file
+//   for await (const { grade, rows } of xw.best({ signal }))  →  better and better fills
 //   xw.close()
 //
 // ask, autofill and best give answers as values, and search in slices.
+import { fills } from './asking.js';
+
 export { ask, autofill, best } from './asking.js';
 
 // The statuses of include/xw.h, in the order of their numbers.
@@ -380,8 +383,21 @@ export class Xw {
     return toText(this.#heap.bytes(block, length));
   }
 
+  // Yields better and better fills, with the options of `best`. Each stands in the grid when it is yielded, and the last one stays.
+  best(options = {}) {
+    return fills(this, options);
+  }
+
+  // Whether the session is closed.
+  get closed() {
+    return !this.#calls;
+  }
+
   // Closes the session, and lets its memory go. Every later call throws a Fault with the status `Closed`, except `close`, which does nothing.
   close() {
     this.#calls = this.#heap = null;
   }
 }
+
+// `using xw = Xw.open(..)` closes the session at the end of its block, where the language has that.
+if (Symbol.dispose) Object.defineProperty(Xw.prototype, Symbol.dispose, { value: Xw.prototype.close, writable: true, configurable: true });

@@ -7,14 +7,23 @@
         session.fill(1000)
         print(session.show())
 """
-from .answers import Best, Cell, Choice, Entry, Light, LightName, Progress, Suggestion, Tally, Words
-from .errors import Error, Fault, Refusal
+from .answers import (
+    Advice, Best, Cell, Choice, Circle, Count, Direction, Entry, Found, Grade, Light, LightName, Longest, Progress, Repeat, Side, Stats, Suggestion, Symmetry,
+    Tally, Unlisted, Unmatched, Words,
+)
+from .errors import Died, Error, Fault, Refusal
 from .library import STATUSES, version
 from .lists import Listed
+from .many import Filled, fill_many
+from .race import Outcome, best
 from .session import Session
 from .text import decode, encode
 
 __all__ = [
-    "Best", "Cell", "Choice", "Entry", "Error", "Fault", "Light", "LightName", "Listed", "Progress", "Refusal", "STATUSES", "Session", "Suggestion", "Tally",
-    "Words", "decode", "encode", "version",
+    "Advice", "Best", "Cell", "Choice", "Circle", "Count", "Died", "Direction", "Entry", "Error", "Fault", "Filled", "Found", "Grade", "Light", "LightName",
+    "Listed", "Longest", "Outcome", "Progress", "Refusal", "Repeat", "STATUSES", "Session", "Side", "Stats", "Suggestion", "Symmetry", "Tally", "Unlisted",
+    "Unmatched", "Words", "best", "decode", "encode", "fill_many", "version",
 ]
+
+# The version of the package, which is that of the engine.
+__version__ = "0.2.0"

@@ -1,12 +1,19 @@
 """What commands answer."""
-from typing import FrozenSet, NamedTuple, Optional, Tuple, Union
+from typing import FrozenSet, Literal, Mapping, NamedTuple, Optional, Tuple, Union
+
+# The words that commands take and answer.
+Direction = Literal["across", "down"]
+Side = Literal["right", "below"]
+Symmetry = Literal["none", "half", "quarter", "leftright", "updown"]
+Found = Literal["filled", "nofill", "limit"]
+Advice = Literal["try", "noword", "dead", "done"]
 
 
 class Light(NamedTuple):
     """A light: its number and direction, its first cell, and its letters, with a dot for each empty cell."""
 
     number: int
-    direction: str
+    direction: Direction
     row: int
     column: int
     letters: str
@@ -17,7 +24,7 @@ class Light(NamedTuple):
 
 
 # A light, or its name: `"1 across"` or `(1, "across")`.
-LightName = Union[Light, str, Tuple[int, str]]
+LightName = Union[Light, str, Tuple[int, Direction]]
 
 
 class Words(NamedTuple):
@@ -58,10 +65,75 @@ class Entry(NamedTuple):
     letter: str
 
 
+class Circle(NamedTuple):
+    """An open cell that is circled."""
+
+    row: int
+    column: int
+
+
+class Count(NamedTuple):
+    """The number of feasible words of a light."""
+
+    light: str
+    words: int
+
+
+class Unmatched(NamedTuple):
+    """A light that no word matches, with its letters and a dot for each empty cell."""
+
+    light: str
+    pattern: str
+
+
+class Repeat(NamedTuple):
+    """A light that spells the word of an earlier light."""
+
+    light: str
+    first: str
+    word: str
+
+
+class Unlisted(NamedTuple):
+    """A wholly entered light whose word is not active."""
+
+    light: str
+    word: str
+
+
+class Grade(NamedTuple):
+    """The grade of the word of a light: None if the word is not known, or if the light is not wholly entered."""
+
+    light: str
+    grade: Optional[int]
+
+
+class Longest(NamedTuple):
+    """The longest light, the first of several, and its length."""
+
+    light: str
+    length: int
+
+
+class Stats(NamedTuple):
+    """Counts over the grid. `cells` has the blocks too, `lengths` the number of lights of each length that occurs, `unchecked` the open cells in one light
+    only, `mean` the mean length of the lights, to two decimals, and `letters` the number of cells with each letter that is entered."""
+
+    cells: int
+    blocks: int
+    bars: int
+    entered: int
+    lights: int
+    lengths: Mapping[int, int]
+    unchecked: int
+    mean: float
+    letters: Mapping[str, int]
+
+
 class Suggestion(NamedTuple):
     """A next word: `try` with a light and a word, `noword` or `dead` with a light, or `done`."""
 
-    kind: str
+    kind: Advice
     light: Optional[str] = None
     word: Optional[str] = None
 
@@ -76,13 +148,14 @@ class Progress(NamedTuple):
 
 
 class Best(NamedTuple):
-    """A fill: the grade of its worst new word, the bound, and the rows of the grid with `#` for a block and `-` for an empty cell. No fill has the
-    grade `bound` or a better one, so the fill is the best one if the bound is one more than the grade. A bound of 101 says nothing. A fill of a
-    grid that was full before has no new word, and the grade 100."""
+    """A fill: the grade of its worst new word, the bound, the rows of the grid with `#` for a block and `-` for an empty cell, and the mean grade of the
+    new words. No fill has the grade `bound` or a better one, so the fill is the best one if the bound is one more than the grade. A bound of 101
+    says nothing. A fill of a grid that was full before has no new word; its grade and its mean are 100."""
 
     grade: int
     bound: int
     rows: Tuple[str, ...]
+    mean: float = 100.0
 
     @property
     def is_best(self) -> bool:

@@ -1,8 +1,8 @@
-"""What goes wrong: a command that is refused, and a call that cannot be done."""
+"""What goes wrong: a command that is refused, a call that cannot be done, and a process that dies."""
 
 
 class Error(Exception):
-    """The base of both. Its arguments are those that make it again, so that it can be pickled and copied."""
+    """The base of all. Its arguments are those that make it again, so that it can be pickled and copied."""
 
 
 class Refusal(Error):
@@ -27,3 +27,15 @@ class Fault(Error):
 
     def __str__(self) -> str:
         return f"{self.status}: {self.message}" if self.message else self.status
+
+
+class Died(Error):
+    """A worker died: the process `worker`, with the exit status `code`, or by the signal `-code`."""
+
+    def __init__(self, worker: int, code: int):
+        super().__init__(worker, code)
+        self.worker = worker
+        self.code = code
+
+    def __str__(self) -> str:
+        return f"worker {self.worker} was ended by signal {-self.code}" if self.code < 0 else f"worker {self.worker} ended with status {self.code}"

@@ -54,6 +54,10 @@ class Handle:
         self._xw = _Xw()
         # room for answers, which grows
         self._room = ctypes.create_string_buffer(4096)
+        self.open(words, puzzle)
+
+    def open(self, words: bytes, puzzle: bytes) -> None:
+        """Opens a session, after the one before it is closed."""
         status, _ = self.ask("open", words, puzzle)
         if status != "Accepted":
             raise Fault(status)

@@ -2,11 +2,19 @@
 from __future__ import annotations
 
 import itertools
+import os
+import pathlib
+import threading
 from types import TracebackType
-from typing import Any, Callable, FrozenSet, Generator, Iterable, Iterator, List, Mapping, NoReturn, Optional, Tuple, Type
+from typing import Any, Callable, Dict, FrozenSet, Generator, Iterable, Iterator, List, Mapping, Optional, Tuple, Type, Union, cast
 
-from .answers import Best, Cell, Choice, Entry, Light, LightName, Progress, Suggestion, Tally, Words
+from .answers import (
+    Advice, Best, Cell, Choice, Circle, Count, Direction, Entry, Found, Grade, Light, LightName, Longest, Progress, Repeat, Side, Stats, Suggestion, Symmetry,
+    Tally, Unlisted, Unmatched, Words,
+)
+from .drawing import drawn
 from .errors import Fault, Refusal
+from .files import SESSION, Sources, kind_of
 from .ipuz import clues_of, commands_of
 from .library import Handle
 from .lists import Listed, Puzzle, Source, WordList, bytes_of, lines_in, list_of, puzzle_of
@@ -20,9 +28,11 @@ Told = Callable[[Progress], Any]
 PIECE = 1500
 # The length of the longest word.
 LONGEST = 255
+# The record of a session that was just opened without a puzzle.
+BLANK = b"size 15 15\nsym none\ntext title\ntext author\ntext copyright\ntext notes\nwatch off\n"
 
 
-def _name(light: LightName) -> str:
+def name_of(light: LightName) -> str:
     """The name of a light as commands have it."""
     if isinstance(light, Light):
         return light.name
@@ -37,6 +47,11 @@ def _letters(text: str) -> FrozenSet[str]:
     return frozenset(text.replace("-", ""))
 
 
+def _cells(lines: Iterable[str]) -> List[Cell]:
+    """The cells with their feasible letters, as `cells` and the watch list them."""
+    return [Cell(int(row), int(column), _letters(letters)) for _, row, column, letters in (line.split(" ") for line in lines)]
+
+
 class Session:
     """A session over a word list, on a puzzle or an empty grid of 15 by 15, after the commands of a record. Use it in a `with` statement, or
     call `close`. Threads may share it: a command of one waits for that of another, and each slice of a search is a command.
@@ -45,13 +60,17 @@ class Session:
     """
 
     def __init__(self, words: WordList = b"", puzzle: Puzzle = b"", record: Source = b""):
-        lines, listed = bytes_of(record), list_of(words)
-        self._handle = Handle(listed, puzzle_of(puzzle))
+        self._sources = Sources(words, puzzle, record)
+        self._told = threading.local()
+        lines, self._words = bytes_of(record), list_of(words)
+        self._handle = Handle(self._words, puzzle_of(puzzle))
         try:
             # How many words the list added, and how many of its lines were skipped.
-            self.listed = self._counted(listed)
+            self.listed = self._counted(self._words)
             # What was not taken from the record, a line each: the end that was cut off, and each line that was refused.
             self.reports = self._resume(lines)
+            if self.reports:
+                self._sources.forget()
             if isinstance(puzzle, Mapping):
                 self._take(puzzle)
         except BaseException:
@@ -82,9 +101,28 @@ class Session:
         if hasattr(self, "_handle"):
             self.close()
 
-    def __reduce__(self) -> NoReturn:
-        """Refuses `copy` and `pickle`: the memory of the library cannot be copied, and a second owner would free it twice."""
-        raise TypeError("a session cannot be copied or pickled; open another one by Session(words, record=session.record())")
+    def __reduce__(self) -> Tuple[Any, ...]:
+        """A copy, also by `pickle`, is another session, over the same words and after the record of this one."""
+        return type(self), (self._words, b"", self.record()), {"_sources": self._sources}
+
+    def __repr__(self) -> str:
+        """The grid, as `show` has it."""
+        if self._is_closed():
+            return "<Session, closed>"
+        lines = self.show()
+        rows = [line for line in lines if line[0] not in ".="]
+        return "\n".join([f"<Session of {len(rows[0][::2])} by {len(rows)}>", *lines])
+
+    def _repr_html_(self) -> str:
+        """The grid for a notebook, with its numbers, bars, circles and title."""
+        if self._is_closed():
+            return "<pre>&lt;Session, closed&gt;</pre>"
+        with self._handle.lock:
+            return drawn(self.show(), self.lights(), self.circles(), self.texts().get("title", ""))
+
+    def _is_closed(self) -> bool:
+        # there is no handle before the library has opened a session
+        return not hasattr(self, "_handle") or self.closed
 
     def close(self) -> None:
         """Frees the session. Every later call raises `Fault("Closed")`, except `close`."""
@@ -93,6 +131,29 @@ class Session:
     @property
     def closed(self) -> bool:
         return not self._handle.is_open
+
+    def restore(self, record: Source) -> List[str]:
+        """Makes the session what `Session(words, record=record)` is, over the words that it began with, in less time than a new one takes. Returns its new
+        `reports`. If the record has a fault, the session stays as it was."""
+        lines = bytes_of(record)
+        with self._handle.lock:
+            before = self.record()
+            try:
+                # a record begins with the changes of the words, and only a new session lacks them
+                self.reports = self._again(lines, is_new=not before.startswith(b"size "))
+            except Fault:
+                self._again(before, is_new=True)
+                raise
+        self._sources.forget()
+        return self.reports
+
+    def _again(self, record: bytes, is_new: bool) -> List[str]:
+        if is_new:
+            self._handle.close()
+            self._handle.open(self._words, b"")
+        else:
+            self._resume(BLANK)
+        return self._resume(record)
 
     # ---- lines
 
@@ -120,19 +181,23 @@ class Session:
             raise Refusal(lines[-1][len("no ") :], command)
         return lines[:-1]
 
+    def _edit(self, command: str) -> None:
+        """Sends an edit, and keeps what the watch lists."""
+        self._told.changed = _cells(self.line(command))
+
     # ---- the words
 
     def add(self, word: str, grade: Optional[int] = None) -> None:
         """Adds a word, with a grade from 0 to 100; a struck word comes back."""
-        self.line(f"add {word}" if grade is None else f"add {word} {grade}")
+        self._edit(f"add {word}" if grade is None else f"add {word} {grade}")
 
     def strike(self, word: str) -> None:
         """Strikes a word."""
-        self.line(f"strike {word}")
+        self._edit(f"strike {word}")
 
     def least(self, grade: int) -> None:
         """Leaves out the words below a grade."""
-        self.line(f"least {grade}")
+        self._edit(f"least {grade}")
 
     def match(self, pattern: str) -> List[str]:
         """The active words that fit a pattern, with a dot for any letter."""
@@ -144,33 +209,33 @@ class Session:
         """Begins an empty grid."""
         self.line(f"size {width} {height}")
 
-    def symmetry(self, kind: str) -> None:
+    def symmetry(self, kind: Symmetry) -> None:
         """Sets the symmetry: `none`, `half`, `quarter`, `leftright` or `updown`."""
-        self.line(f"sym {kind}")
+        self._edit(f"sym {kind}")
 
     def set(self, row: int, column: int, letter: str) -> None:
         """Enters a letter."""
-        self.line(f"set {row} {column} {letter}")
+        self._edit(f"set {row} {column} {letter}")
 
     def clear(self, row: int, column: int) -> None:
         """Empties a cell."""
-        self.line(f"clear {row} {column}")
+        self._edit(f"clear {row} {column}")
 
     def place(self, light: LightName, word: str) -> None:
         """Enters a word."""
-        self.line(f"place {_name(light)} {word}")
+        self._edit(f"place {name_of(light)} {word}")
 
     def erase(self, light: LightName) -> None:
         """Empties the cells of a light, but keeps the letters of wholly entered lights that cross it."""
-        self.line(f"erase {_name(light)}")
+        self._edit(f"erase {name_of(light)}")
 
     def block(self, row: int, column: int) -> None:
         """Toggles the blocks of a cell and its images."""
-        self.line(f"block {row} {column}")
+        self._edit(f"block {row} {column}")
 
-    def bar(self, row: int, column: int, side: str) -> None:
+    def bar(self, row: int, column: int, side: Side) -> None:
         """Toggles the bars at a side of a cell, `right` or `below`, and at its images."""
-        self.line(f"bar {row} {column} {side}")
+        self._edit(f"bar {row} {column} {side}")
 
     def show(self) -> List[str]:
         """The grid as `xw edit` shows it, with bars."""
@@ -182,7 +247,28 @@ class Session:
 
     def lights(self) -> List[Light]:
         """The lights, in order."""
-        return [Light(int(number), direction, int(row), int(column), letters) for number, direction, row, column, letters in self._fields("lights")]
+        return [
+            Light(int(number), cast(Direction, direction), int(row), int(column), letters) for number, direction, row, column, letters in self._fields("lights")
+        ]
+
+    def longest(self) -> Optional[Longest]:
+        """The longest light, the first of several; None in a grid without lights."""
+        return next((Longest(f"{number} {direction}", int(length)) for number, direction, length in self._fields("longest")), None)
+
+    def stats(self) -> Stats:
+        """Counts over the grid."""
+        counts: Dict[str, str] = {}
+        lengths: Dict[int, int] = {}
+        letters: Dict[str, int] = {}
+        for kind, *parts in self._fields("stats"):
+            if kind == "light":
+                lengths[int(parts[0])] = int(parts[1])
+            elif kind == "letter":
+                letters[parts[0]] = int(parts[1])
+            else:
+                counts[kind] = parts[0]
+        mean = float(counts.pop("mean"))
+        return Stats(**{name: int(count) for name, count in counts.items()}, lengths=lengths, mean=mean, letters=letters)
 
     def _fields(self, command: str) -> Iterator[List[str]]:
         return (line.split(" ") for line in self.line(command))
@@ -191,7 +277,7 @@ class Session:
 
     def words(self, light: LightName, most: Optional[int] = None) -> Words:
         """The feasible words of a light: their number, and the first ones, or all."""
-        count, *words = self.line(f"words {_name(light)}" + ("" if most is None else f" {most}"))
+        count, *words = self.line(f"words {name_of(light)}" + ("" if most is None else f" {most}"))
         return Words(int(count), tuple(words))
 
     def letters(self, row: int, column: int) -> FrozenSet[str]:
@@ -201,7 +287,7 @@ class Session:
 
     def choices(self, light: LightName, most: int, first: Optional[str] = None) -> List[Choice]:
         """The first feasible words of a light, from a word on, with what each leaves."""
-        return [Choice(word, _count(left)) for word, left in self._fields(f"choices {_name(light)} {most} {first or ''}")]
+        return [Choice(word, _count(left)) for word, left in self._fields(f"choices {name_of(light)} {most} {first or ''}")]
 
     def tally(self, row: int, column: int) -> List[Tally]:
         """What each feasible letter of a cell leaves."""
@@ -209,37 +295,74 @@ class Session:
 
     def cells(self) -> List[Cell]:
         """The open cells with their feasible letters, in reading order."""
-        return [Cell(int(row), int(column), _letters(letters)) for _, row, column, letters in self._fields("cells")]
+        return _cells(self.line("cells"))
+
+    def counts(self) -> List[Count]:
+        """The number of feasible words of each light, in order."""
+        return [Count(f"{number} {direction}", int(words)) for number, direction, words in self._fields("counts")]
+
+    def unmatched(self) -> List[Unmatched]:
+        """The lights that are not wholly entered and whose letters no active word matches; crossing lights do not count."""
+        return [Unmatched(f"{number} {direction}", pattern) for number, direction, pattern in self._fields("unmatched")]
+
+    def watch(self, on: bool = True) -> None:
+        """Turns the watch on or off. While it is on, `changed` has the cells of each edit."""
+        self.line(f"watch {'on' if on else 'off'}")
+
+    @property
+    def changed(self) -> List[Cell]:
+        """The cells whose feasible letters the last edit of this thread changed, with these letters; none while the watch is off. The edits are `add`,
+        `strike`, `least`, `symmetry`, `set`, `clear`, `place`, `erase`, `block` and `bar`."""
+        return list(getattr(self._told, "changed", ()))
+
+    def dups(self) -> List[Repeat]:
+        """The wholly entered lights that spell the word of an earlier light."""
+        return [Repeat(f"{light[0]} {light[1]}", f"{light[2]} {light[3]}", light[4]) for light in self._fields("dups")]
+
+    def unlisted(self) -> List[Unlisted]:
+        """The wholly entered lights whose word is not active."""
+        return [Unlisted(f"{number} {direction}", word) for number, direction, word in self._fields("unlisted")]
+
+    def grades(self, lights: Iterable[LightName] = ()) -> List[Grade]:
+        """The grades of the words of the named lights, or of all wholly entered ones. A word has its grade whether it is active or not."""
+        named = " ".join(map(name_of, lights))
+        return [Grade(f"{number} {direction}", _count(grade)) for number, direction, grade in self._fields(f"grades {named}")]
 
     def suggest(self) -> Suggestion:
         """A next word, or the light that has none."""
         kind, *parts = next(self._fields("suggest"))
-        return Suggestion(kind, " ".join(parts[:2]) or None, parts[2] if len(parts) > 2 else None)
+        return Suggestion(cast(Advice, kind), " ".join(parts[:2]) or None, parts[2] if len(parts) > 2 else None)
 
     def why(self, light: LightName) -> List[Entry]:
         """Why a light has no feasible word: entries that leave it none, none of which can be spared. If there are none, it has no feasible word
         even in the empty grid. Raises the refusal `Alive` if it has one."""
-        return [Entry(int(row), int(column), letter) for _, row, column, letter in self._fields(f"why {_name(light)}")]
+        return [Entry(int(row), int(column), letter) for _, row, column, letter in self._fields(f"why {name_of(light)}")]
 
     # ---- searches
 
-    def fill(self, limit: int) -> str:
+    def fill(self, limit: int) -> Found:
         """Fills the grid with at most so many words placed. Returns `filled`, `nofill`, which is proved, or `limit`."""
         (answer,) = self.line(f"fill {limit}")
-        return answer
+        return cast(Found, answer)
 
     def autofill(
-        self, limit: Optional[int] = None, seed: int = 0, lights: Iterable[LightName] = (), progress: Optional[Told] = None, every: float = SECONDS
-    ) -> str:
-        """Fills the named lights, or all of them. Returns `filled`, `nofill`, which is proved, or `limit`: after so many placements, or when `progress`
-        returns a true value. Nothing is entered then. `progress` is called after each slice, about every so many seconds. Without it the slices get longer,
-        up to a tenth of the time so far."""
-        named = " ".join(map(_name, lights))
-        slices = Slices(limit, every if progress else None)
+        self,
+        limit: Optional[int] = None,
+        seed: int = 0,
+        lights: Iterable[LightName] = (),
+        progress: Optional[Told] = None,
+        every: float = SECONDS,
+        seconds: Optional[float] = None,
+    ) -> Found:
+        """Fills the named lights, or all of them. Returns `filled`, `nofill`, which is proved, or `limit`: after so many placements, after so many seconds,
+        or when `progress` returns a true value. Nothing is entered then. `progress` is called after each slice, about every so many seconds. Without it the
+        slices get longer, up to a tenth of the time so far. `seconds` ends the search between two slices; the time between them does not count."""
+        named = " ".join(map(name_of, lights))
+        slices = Slices(limit, every if progress else None, seconds)
         while True:
             (answer,) = slices.run(lambda placements: self.line(f"autofill {placements} {seed} {named}"))
             if answer != "limit" or (progress and progress(Progress(slices.made))) or slices.is_over:
-                return answer
+                return cast(Found, answer)
 
     def best(
         self,
@@ -249,20 +372,21 @@ class Session:
         least: int = 0,
         progress: Optional[Told] = None,
         every: float = SECONDS,
-    ) -> Generator[Best, None, str]:
+        seconds: Optional[float] = None,
+    ) -> Generator[Best, None, Found]:
         """Yields better and better fills of the named lights, or of all of them, with words of the grade `least` and better. Each stands in the
-        grid when it is yielded. It ends when no fill is better, after so many placements, or when `progress` returns a true value. `progress` and `every` are
-        those of `autofill`. Leave it at any time: the last fill stays in the grid. The session is left with the least grade `least`. The generator
-        returns `filled`, `nofill` or `limit`.
+        grid when it is yielded. It ends when no fill is better, after so many placements or seconds, or when `progress` returns a true value. `progress`,
+        `every` and `seconds` are those of `autofill`. Leave it at any time: the last fill stays in the grid. The session is left with the least grade
+        `least`. The generator returns `filled`, `nofill` or `limit`.
 
         In a grid without an empty cell no word is new: it is its own fill, with the grade 100 and the bound 101, unless a word is in it twice."""
-        return _Climb(self, seed, " ".join(map(_name, lights)), least).run(Slices(limit, every if progress else None), progress)
+        return Climb(self, seed, " ".join(map(name_of, lights)), least).run(Slices(limit, every if progress else None, seconds), progress)
 
     # ---- clues, texts and circles
 
     def clue(self, light: LightName, text: str) -> None:
         """Sets the clue of a light; an empty text removes it."""
-        name = _name(light)
+        name = name_of(light)
         with self._handle.lock:
             found = next((it for it in self.lights() if it.name == name), None)
             if not found:
@@ -308,6 +432,10 @@ class Session:
         """Toggles the circle of a cell."""
         self.line(f"circle {row} {column}")
 
+    def circles(self) -> List[Circle]:
+        """The open cells that are circled, in reading order."""
+        return [Circle(int(row), int(column)) for row, column in self._fields("circles")]
+
     # ---- files
 
     def record(self) -> bytes:
@@ -322,17 +450,33 @@ class Session:
         """The puzzle as a text file. Raises `Fault` if the format cannot hold it."""
         return self._ask("text")
 
+    def save(self, path: Union[str, "os.PathLike[str]"]) -> Optional[pathlib.Path]:
+        """Writes a file, whose name says what: the puzzle in `a.puz` or `a.txt`, or the session in `a.xw`. The file is replaced whole, or stays as it was:
+        `Fault` tells that the format cannot hold the puzzle, `OSError` that the file cannot be written, and `ValueError` that the name is none for a
+        file of the session, or is that of a file which the session began with. Returns the path under which the old file is kept, if it had what the new one
+        has not."""
+        place = pathlib.Path(path)
+        kind = kind_of(place)
+        self._sources.expect_other(place, kind)
+        if kind == "xw":
+            data = SESSION + self.record()
+        else:
+            data = self.to_puz() if kind == "puz" else self.to_text()
+        return self._sources.put(place, kind, data)
 
-class _Climb:
+
+class Climb:
     """The search of `Session.best`. Between two slices the grid is as it was at the start, with a least grade above that of the last fill."""
 
     def __init__(self, session: Session, seed: int, named: str, least: int):
-        self.session, self.seed, self.named, self.least = session, seed, named, least
+        # words below the grade `above` are left out: it is more than the grade of the best fill
+        self.session, self.seed, self.named, self.least, self.above = session, seed, named, least, least
         self.lock = session._handle.lock
         self.start = session.rows()
+        self.entered = {light.name for light in session.lights() if "." not in light.letters}
         self.bound, self.found = 101, None  # type: int, Optional[Best]
 
-    def run(self, slices: Slices, progress: Optional[Told]) -> Generator[Best, None, str]:
+    def run(self, slices: Slices, progress: Optional[Told]) -> Generator[Best, None, Found]:
         try:
             while True:
                 if self.is_better(slices):
@@ -350,22 +494,27 @@ class _Climb:
 
     def is_proved(self) -> bool:
         """Whether nothing is left to search for: there is no fill, or no better one."""
-        return self.bound <= (self.found.grade + 1 if self.found else self.least)
+        return self.bound <= self.above
 
     def is_better(self, slices: Slices) -> bool:
         """Searches a slice. Returns whether it found a better fill, which then stands in the grid."""
         # other threads do not see the grid before it is read, nor the least grade of the search with it
         with self.lock:
-            least = self.found.grade + 1 if self.found else self.least
-            self.session.least(least)
+            self.session.least(self.above)
             lines = slices.run(lambda placements: self.session.line(f"best {placements} {self.seed} {self.named}"))
             answer = dict(line.partition(" ")[::2] for line in lines)
-            self.bound = min(self.bound, least if "nofill" in answer else int(answer["bound"]))
+            self.bound = min(self.bound, self.above if "nofill" in answer else int(answer["bound"]))
             if "filled" not in answer:
                 return False
-            self.found = Best(int(answer["least"]), self.bound, self.session.rows())
+            self.found = Best(int(answer["least"]), self.bound, self.session.rows(), self.mean())
+            self.above = self.found.grade + 1
             self.session.least(self.least)
             return True
+
+    def mean(self) -> float:
+        """The mean grade of the new words that stand in the grid; 100 if there are none."""
+        grades = [it.grade or 0 for it in self.session.grades() if it.light not in self.entered]
+        return sum(grades) / len(grades) if grades else 100.0
 
     def enter(self, rows: Tuple[str, ...]) -> None:
         """Makes the letters of the grid those of these rows."""

@@ -18,11 +18,14 @@ clock = time.monotonic
 
 
 class Slices:
-    """The slices of a search, which has `limit` placements in all, or any number. Each takes about so many seconds: it has as many placements as the last one
-    made in this time, at most twice as many as the last one, and 1,000 at least. Without a number of seconds the slices get longer with the search."""
+    """The slices of a search, which has `limit` placements in all, or any number. Each takes about `every` seconds: it has as many placements as the last one
+    made in this time, at most twice as many as the last one, and 1,000 at least. Without `every` the slices get longer with the search. No slice begins
+    after `seconds` of search."""
 
-    def __init__(self, limit: Optional[int], seconds: Optional[float]):
-        self._limit, self._seconds = limit, seconds
+    def __init__(self, limit: Optional[int], every: Optional[float], seconds: Optional[float] = None):
+        if seconds is not None and not seconds > 0:
+            raise ValueError(f"seconds is {seconds!r}, which is no time above 0")
+        self._limit, self._every, self._seconds = limit, every, seconds
         self._due, self._spent = FEWEST, 0.0
         # at most so many placements were made
         self.made = 0
@@ -40,11 +43,14 @@ class Slices:
 
     def _after(self, placements: int, taken: float) -> int:
         """The placements of the slice after one that took so long."""
-        seconds = max(SECONDS, PART * self._spent) if self._seconds is None else self._seconds
+        seconds = max(SECONDS, PART * self._spent) if self._every is None else self._every
+        if self._seconds is not None:
+            # the last one ends about when the time is over
+            seconds = max(0.0, min(seconds, self._seconds - self._spent))
         growth = min(2.0, seconds / taken) if taken > 0 else 2.0
         return max(FEWEST, min(round(placements * growth), round(seconds * FASTEST)))
 
     @property
     def is_over(self) -> bool:
-        """Whether all placements are made."""
-        return self._limit is not None and self.made >= self._limit
+        """Whether all placements are made, or the time is over."""
+        return (self._limit is not None and self.made >= self._limit) or (self._seconds is not None and self._spent >= self._seconds)

@@ -8,10 +8,13 @@ something that is not installed is skipped. The last line is 'N passed, M failed
 import concurrent.futures
 import copy
 import doctest
+import fcntl
+import html.parser
 import inspect
 import os
 import pathlib
 import pickle
+import random
 import re
 import shutil
 import signal
@@ -23,9 +26,13 @@ import time
 import traceback
 import zipfile
 
+import deadly
 import xw
+import xw.many
+import xw.race
 import xw.slices
-from xw import Entry, Fault, Light, Refusal, Session
+import xw.workers
+from xw import Died, Entry, Fault, Light, Refusal, Session
 
 sys.dont_write_bytecode = True
 TOP = pathlib.Path(__file__).resolve().parents[2]
@@ -179,6 +186,108 @@ def answers_are_values():
 
 
 @test
+def each_query_has_a_method():
+    # docs/commands.md, "The grid": the example of `stats`, with a circle
+    session = Session()
+    session.size(5, 3)
+    session.place("1 across", "story")
+    for row, column, side in ((2, 3, "right"), (2, 2, "right")):
+        session.bar(row, column, side)
+    session.block(2, 2)
+    session.block(2, 4)
+    assert session.stats() == (15, 2, 2, 5, 5, {3: 3, 5: 2}, 7, 3.8, {"O": 1, "R": 1, "S": 1, "T": 1, "Y": 1}), session.stats()
+    assert session.longest() == ("1 across", 5) and session.circles() == []
+    session.circle(3, 2)
+    session.circle(1, 5)
+    assert session.circles() == [(1, 5), (3, 2)]
+    session.size(1, 1)
+    assert session.longest() is None and session.stats().mean == 0 and session.stats().lengths == session.stats().letters == {}
+
+
+@test
+def words_in_the_grid_are_judged():
+    # docs/commands.md, "Repeats, suggestions and fills"
+    session = square()
+    assert session.counts() == [("1 across", 2), ("1 down", 2), ("2 down", 2), ("3 across", 2)]
+    session.place("1 across", "at")
+    session.place("1 down", "at")
+    assert session.dups() == [("1 down", "1 across", "AT")] and session.unlisted() == []
+    session.place("1 across", "xt")
+    assert session.unlisted() == [("1 across", "XT"), ("1 down", "XT")] and session.dups() == [("1 down", "1 across", "XT")]
+    assert session.grades() == [("1 across", None), ("1 down", None)]
+    session.add("xt", 40)
+    session.strike("xt")
+    assert session.grades(["3 across", (1, "down")]) == [("3 across", None), ("1 down", 40)]
+    raises(Refusal, lambda: session.grades(["4 across"]), name="NoLight")
+    session.clear(1, 2)
+    session.clear(2, 1)
+    assert session.unmatched() == [("1 across", "X."), ("1 down", "X.")]
+
+
+@test
+def edits_are_watched():
+    session = square()
+    session.set(1, 2, "t")
+    assert session.changed == []
+    session.clear(1, 2)
+    session.watch()
+    session.set(1, 2, "t")
+    assert session.changed == [(1, 2, frozenset("T"))]
+    in_threads(lambda: session.changed == [] or sys.exit("another thread has the cells"))
+    session.set(1, 2, "x")
+    assert [(it.row, it.column, "".join(it.letters)) for it in session.changed] == [(1, 1, ""), (1, 2, ""), (2, 1, ""), (2, 2, "")]
+    session.clear(1, 2)
+    session.strike("as")
+    # AT and TO are left, once across and once down
+    assert [(it.row, it.column, "".join(it.letters)) for it in session.changed] == [(1, 2, "T"), (2, 1, "T")]
+    raises(Refusal, lambda: session.set(9, 9, "a"), name="OutOfGrid")
+    session.watch(False)
+    session.add("as")
+    assert session.changed == []
+
+
+class Tags(html.parser.HTMLParser):
+    """The tags of a page, with the texts between them."""
+
+    def __init__(self, text):
+        super().__init__()
+        self.found = []
+        self.feed(text)
+        self.close()
+
+    def handle_starttag(self, tag, attributes):
+        self.found.append((tag, dict(attributes).get("style", "")))
+
+    def handle_data(self, data):
+        self.found.append(("", data))
+
+
+@test
+def sessions_show_their_grids():
+    session = square()
+    session.set(1, 1, "a")
+    assert repr(session) == "<Session of 2 by 2>\nA -\n- -"
+    session.symmetry("none")
+    session.bar(1, 1, "right")
+    session.bar(1, 2, "below")
+    session.block(2, 1)
+    assert repr(session) == "<Session of 2 by 2>\nA|-\n..=\n# -"
+    session.circle(1, 1)
+    session.title("</caption><script>alert('x')</script> & more")
+    found = Tags(session._repr_html_()).found
+    tags = [tag for tag, _ in found if tag]
+    assert set(tags) == {"table", "caption", "tr", "td", "span"} and tags.count("tr") == 2 and tags.count("td") == 4, tags
+    assert ("", "</caption><script>alert('x')</script> & more") in found
+    first, second, block, last = (style for tag, style in found if tag == "td")
+    assert "border-right: 3px" in first and "border-bottom: 3px" in second and "border-bottom" not in first and "#222" in block and "#222" not in last
+    # the letter is in the circle
+    assert found[[style for _, style in found].index("A") - 1][0] == "span" and "radius" in found[[style for _, style in found].index("A") - 1][1]
+    session.close()
+    assert repr(session) == "<Session, closed>" and session._repr_html_() == "<pre>&lt;Session, closed&gt;</pre>"
+    assert repr(Session.__new__(Session)) == "<Session, closed>"
+
+
+@test
 def bars_are_no_rows():
     session = Session()
     session.size(2, 2)
@@ -208,6 +317,18 @@ def best_climbs():
 
 
 @test
+def fills_have_a_mean():
+    session = square(GRADED)
+    # both fills have the words 90, 80, 70 and 60, whose mean is 75
+    assert [it.mean for it in session.best()][-1] == 75
+    assert next(session.best()).mean == 100
+    session.size(2, 2)
+    session.place("1 across", "as")
+    # the words AT, SO and TO are new
+    assert [it.mean for it in session.best()][-1] == 70
+
+
+@test
 def best_is_left():
     session = square(GRADED)
     session.set(1, 1, "a")
@@ -225,10 +346,10 @@ def full_grids_are_their_own_fills():
     session.fill(9)
     rows = session.rows()
     # docs/commands.md, `best`: no word is new then, so the grade is 100 if no cell is empty
-    assert list(session.best()) == [(100, 101, rows)] and session.rows() == rows and next(session.best()).is_best
+    assert list(session.best()) == [(100, 101, rows, 100)] and session.rows() == rows and next(session.best()).is_best
     # words that were entered are not judged, but no fill has one twice
     session.set(1, 1, "x")
-    assert list(session.best()) == [(100, 101, ("X" + rows[0][1], rows[1]))]
+    assert list(session.best()) == [(100, 101, ("X" + rows[0][1], rows[1]), 100)]
     session.set(2, 1, session.rows()[0][1])
     assert list(session.best()) == []
 
@@ -289,6 +410,25 @@ def slices_take_a_tenth_of_a_second():
 
 
 @test
+def searches_end_after_seconds():
+    """The time is that of the slices, by their clock."""
+    for kind in ("autofill", "best"):
+        # 8,000 placements a second: slices of 0.125 s, of which eight take a second
+        assert searched(lambda placements: placements / 8000, kind, seconds=1, progress=lambda told: False) == [1000] * 8
+        # the last slice is as long as the time that is left, and has the fewest placements of a slice at least
+        paced = {"seconds": 0.3125, "every": 0.125, "progress": lambda told: False}
+        assert searched(lambda placements: placements / 32000, kind, **paced) == [1000, 2000, 4000, 3000]
+        assert searched(lambda placements: placements / 10000, kind, seconds=0.15, progress=lambda told: False) == [1000, 1000]
+        assert searched(lambda placements: placements, kind, seconds=5) == [1000]
+        assert searched(lambda placements: placements / 10000, kind, limit=2500, seconds=1, progress=lambda told: False) == [1000, 1000, 500]
+        # a slice that grows without a limit of time is cut by it
+        sent = searched(lambda placements: placements / 8192, kind, seconds=20)
+        assert 20 * 8192 <= sum(sent) <= 20 * 8192 + 1000, sum(sent)
+    for seconds in (0, -1, float("nan")):
+        raises(ValueError, lambda: square().autofill(seconds=seconds), args=(f"seconds is {seconds!r}, which is no time above 0",))
+
+
+@test
 def slices_that_nothing_is_told_grow_with_the_time():
     for kind in ("autofill", "best"):
         sent = searched(lambda placements: placements / 10000, kind, limit=2_000_000)
@@ -337,14 +477,78 @@ def sessions_are_closed():
     raises(ValueError, lambda: square().line("show\nshow"))
 
 
+def record_again(session):
+    """Copies of a session, in each way."""
+    return [copy.copy(session), copy.deepcopy(session), *(pickle.loads(pickle.dumps(session, it)) for it in range(2, pickle.HIGHEST_PROTOCOL + 1))]
+
+
 @test
-def sessions_are_not_copied():
-    session = square()
+def sessions_are_copied():
+    session = square([("as", 90), ("at", 80), "so", "to"])
+    session.strike("at")
+    session.add("at", 85)
+    session.add("no", 7)
+    session.strike("so")
+    session.least(5)
     session.set(1, 1, "a")
-    told = "a session cannot be copied or pickled; open another one by Session(words, record=session.record())"
-    for call in (copy.copy, copy.deepcopy, pickle.dumps):
-        raises(TypeError, lambda: call(session), args=(told,))
-    assert session.rows() == ("A-", "--") and Session(SQUARE, record=session.record()).rows() == ("A-", "--")
+    session.title("Caf\u00e9")
+    session.watch()
+    for other in record_again(session):
+        assert other.record() == session.record() and other.listed == session.listed and other.match("..") == ["AS", "AT", "TO", "NO"]
+        other.clear(1, 1)
+        assert session.rows() == ("A-", "--") and other.rows() == ("--", "--")
+        other.close()
+        assert not session.closed
+    session.close()
+    raises(Fault, lambda: pickle.dumps(session), status="Closed")
+
+
+@test
+def a_copy_knows_the_files_of_its_session(room):
+    (room / "words.txt").write_bytes(b"as\nat\nso\nto\n")
+    session = Session(room / "words.txt")
+    session.save(room / "a.xw")
+    other = pickle.loads(pickle.dumps(session))
+    raises(ValueError, lambda: other.save(room / "words.txt"))
+    assert other.save(room / "a.xw") is None and sorted(it.name for it in room.iterdir()) == ["a.xw", "words.txt"]
+
+
+@test
+def sessions_are_restored():
+    """A session is then what a new one is, whatever it was before."""
+    records = [b"size 3 2\nset 1 1 A\ntitle Two\n", b"", b"# xw session 1\nadd on 3\nstrike as\nsize 2 2\nset 1 1 A\nwatch on\ntitle Cut", b"size 2 2\nset 9 9 A\n"]
+    for first in records:
+        session = Session(SQUARE, record=first)
+        session.author("One")
+        session.symmetry("half")
+        for record in records:
+            new = Session(SQUARE, record=record)
+            assert session.restore(record) == session.reports == new.reports and session.record() == new.record(), (first, record)
+            assert [session.words(light) for light in session.lights()] == [new.words(light) for light in new.lights()]
+
+
+@test
+def a_record_with_a_fault_restores_nothing():
+    for change in ("title One", "strike as"):
+        session = square()
+        session.line(change)
+        session.set(1, 1, "a")
+        before = session.record()
+        raises(Fault, lambda: session.restore(b"size 4 4\nadd on\nfrob\n"), status="NoCommand", message="xw: record: line 3: Command")
+        assert session.record() == before and session.reports == []
+        raises(TypeError, lambda: session.restore(7))
+        raises(FileNotFoundError, lambda: session.restore(pathlib.Path("no such file")))
+        assert session.record() == before
+        session.close()
+        raises(Fault, lambda: session.restore(b""), status="Closed")
+
+
+@test
+def a_restored_session_keeps_its_old_file(room):
+    session = square()
+    session.save(room / "a.xw")
+    session.restore(b"size 3 3\n")
+    assert session.save(room / "a.xw") == room / "a.xw~" and b"size 2 2" in (room / "a.xw~").read_bytes()
 
 
 def refused(name, command):
@@ -356,9 +560,22 @@ def at_fault(status, message):
     raise Fault(status, message)
 
 
+DEATHS = ((Died(12, -9), "worker 12 was ended by signal 9"), (Died(12, 3), "worker 12 ended with status 3"))
+
+
+@test
+def results_are_pickled():
+    session = square(GRADED)
+    found = [session.lights(), session.words("1 across"), session.cells(), session.counts(), session.stats(), session.longest(), session.suggest(), session.listed]
+    found += [list(session.best()), session.grades(), xw.Progress(5, 6, 7), xw.Filled(1, "filled", error=Refusal("NoLight", "x"), died=(Died(1, -9),))]
+    for result in found[:-1]:
+        assert pickle.loads(pickle.dumps(result)) == result
+    assert str(pickle.loads(pickle.dumps(found[-1]))) == str(found[-1])
+
+
 @test
 def errors_are_pickled():
-    for error, text in ((Refusal("NoLight", "clue 9 down x"), "NoLight: clue 9 down x"), (Fault("Closed"), "Closed"), (Fault("Full", "a list"), "Full: a list")):
+    for error, text in ((Refusal("NoLight", "clue 9 down x"), "NoLight: clue 9 down x"), (Fault("Closed"), "Closed"), (Fault("Full", "a list"), "Full: a list"), *DEATHS):
         for other in (copy.copy(error), copy.deepcopy(error), *(pickle.loads(pickle.dumps(error, it)) for it in range(pickle.HIGHEST_PROTOCOL + 1))):
             assert (type(other), str(other), vars(other)) == (type(error), text, vars(error)), other
     with concurrent.futures.ProcessPoolExecutor(1) as pool:
@@ -369,7 +586,132 @@ def errors_are_pickled():
 @test
 def versions_are_those_of_the_sources():
     (version,) = re.findall('^pub const VERSION: &str = "(.*)";$', (TOP / "crates/xw_commands/src/version.rt").read_text(), re.M)
-    assert xw.version() == version
+    assert xw.version() == version and xw.__version__ == version.split()[1]
+
+
+@test
+def files_are_named_by_their_kind(room):
+    session = square()
+    session.fill(9)
+    for name, data in (("a.puz", session.to_puz()), ("A.PUZ", session.to_puz()), ("b.xw", b"# xw session 1\n" + session.record())):
+        assert session.save(room / name) is None and (room / name).read_bytes() == data, name
+    raises(Fault, lambda: session.save(str(room / "a.txt")), status="Field")
+    for light in session.lights():
+        session.clue(light, "Clue")
+    session.save(str(room / "a.txt"))
+    assert (room / "a.txt").read_bytes() == session.to_text()
+    for name in ("a", "a.puzzle", "", ".puz", "a.puz.bak"):
+        raises(ValueError, lambda: session.save(room / name if name else name))
+    assert Session(puzzle=room / "a.puz").rows() == Session(SQUARE, record=room / "b.xw").rows() == session.rows()
+    assert sorted(it.name for it in room.iterdir()) == ["A.PUZ", "a.puz", "a.txt", "b.xw"]
+
+
+@test
+def files_are_replaced_whole(room):
+    session, path = square(), room / "a.puz"
+    path.write_bytes(b"old")
+    path.chmod(0o640)
+    raises(Fault, lambda: session.save(path), status="NotFilled")
+    assert path.read_bytes() == b"old"
+    session.fill(9)
+    (room / "b.puz").symlink_to("a.puz")
+    # what is no puzzle is kept
+    assert session.save(room / "b.puz") == room / "b.puz~" and (room / "b.puz~").read_bytes() == b"old"
+    assert path.read_bytes() == session.to_puz() and path.stat().st_mode & 0o7777 == 0o640 and (room / "b.puz").is_symlink()
+    # a new file that another run has left is not taken
+    (room / ".xw-0.new").write_bytes(b"left")
+    assert session.save(path) is None and (room / ".xw-0.new").read_bytes() == b"left"
+    (room / "c.puz").mkdir()
+    raises(IsADirectoryError, lambda: session.save(room / "c.puz"))
+    raises(FileNotFoundError, lambda: session.save(room / "none/a.puz"))
+    os.mkfifo(room / "d.puz")
+    raises(OSError, lambda: session.save(room / "d.puz"))
+    assert sorted(it.name for it in room.iterdir()) == [".xw-0.new", "a.puz", "b.puz", "b.puz~", "c.puz", "d.puz"]
+
+
+@test
+def a_write_that_fails_leaves_the_old_file(room):
+    session, path = square(), room / "a.puz"
+    session.fill(9)
+    session.save(path)
+    before, replaced = path.read_bytes(), os.replace
+
+    def fails(*_):
+        raise OSError(5, "a device failed")
+
+    session.title("New")
+    os.replace = fails
+    try:
+        raises(OSError, lambda: session.save(path))
+    finally:
+        os.replace = replaced
+    assert path.read_bytes() == before and [it.name for it in room.iterdir()] == ["a.puz"]
+
+
+@test
+def nothing_is_written_over_in_silence(room):
+    (room / "words.txt").write_bytes(b"as\nat\nso\nto\n")
+    (room / "start.xw").write_bytes(b"size 2 2\n")
+    session = Session(room / "words.txt", record=room / "start.xw")
+    session.fill(9)
+    for light in session.lights():
+        session.clue(light, "Clue")
+    (room / "link.txt").symlink_to("words.txt")
+    for name in ("words.txt", "link.txt"):
+        raises(ValueError, lambda: session.save(room / name), args=(f"{str(room / name)!r} is the word list, which is not written over",))
+    # the session has all that its record had, and what it wrote itself
+    assert session.save(room / "start.xw") is None and session.save(room / "start.xw") is None
+    other = Session(room / "words.txt")
+    assert other.save(room / "start.xw") == room / "start.xw~" and session.save(room / "start.xw") == room / "start.xw~2"
+    assert b"size 15 15" in (room / "start.xw~2").read_bytes() and b"size 2 2" in (room / "start.xw~").read_bytes()
+    # one that lacks a line of its record keeps the record
+    (room / "strikes.xw").write_bytes(b"strike of\n")
+    lacking = Session(room / "words.txt", record=room / "strikes.xw")
+    assert lacking.reports and lacking.save(room / "strikes.xw") == room / "strikes.xw~"
+    # a puzzle replaces a puzzle of its format, but no session and no other file
+    assert session.save(room / "a.puz") is None and Session(room / "words.txt", puzzle=room / "a.puz").save(room / "a.puz") is None
+    assert session.save(room / "a.txt") is None and session.save(room / "a.txt") is None
+    (room / "notes.txt").write_bytes(b"Notes.\n")
+    assert session.save(room / "notes.txt") == room / "notes.txt~"
+    (room / "session.txt").write_bytes(b"# xw session 1\n")
+    assert session.save(room / "session.txt") == room / "session.txt~"
+    (room / "record.txt").write_bytes(b"size 2 2\n")
+    raises(ValueError, lambda: Session(record=room / "record.txt").save(room / "record.txt"))
+    (room / "puzzle.xw").write_bytes((room / "a.puz").read_bytes())
+    raises(ValueError, lambda: Session(puzzle=room / "puzzle.xw").save(room / "puzzle.xw"))
+
+
+@test
+def puzzles_with_more_are_kept(room):
+    """A timer, and letters of a solver: docs/formats.md."""
+    session = square()
+    session.fill(9)
+    plain = session.to_puz()
+    timed = plain + b"LTIM" + (3).to_bytes(2, "little") + b"\0\0" + b"0,0" + b"\0"
+    solved = plain[: 0x34 + 4] + b"AS--" + plain[0x34 + 8 :]
+    for name, data, is_kept in (("a", plain, False), ("b", timed, True), ("c", solved, True), ("d", plain[:40], True)):
+        path = room / f"{name}.puz"
+        path.write_bytes(data)
+        session.title(name)
+        assert (session.save(path) is not None) == is_kept, name
+        assert path.read_bytes() == session.to_puz() and (not is_kept or (room / f"{name}.puz~").read_bytes() == data)
+    session.circle(1, 1)
+    session.save(room / "a.puz")
+    # circles are a section that a puzzle keeps
+    assert b"GEXT" in (room / "a.puz").read_bytes() and session.save(room / "a.puz") is None
+    session.title("Other")
+    assert session.save(room / "a.puz") is None
+
+
+@test
+def files_in_use_are_refused(room):
+    session, path = square(), room / "a.xw"
+    path.write_bytes(b"# xw session 1\n")
+    with open(path, "rb") as journal:
+        fcntl.flock(journal, fcntl.LOCK_EX)
+        raises(BlockingIOError, lambda: session.save(path))
+        assert path.read_bytes() == b"# xw session 1\n"
+    assert session.save(path) == room / "a.xw~"
 
 
 def in_threads(*calls):
@@ -442,6 +784,309 @@ def records_are_resumed():
     raises(Fault, square().to_puz, status="NotFilled")
 
 
+# puzzles for fill_many over the words of a square: two have a fill, which has A in the first cell, and two have none
+PUZZLES = (b"size 2 2\n", b"size 2 2\nset 1 1 X\n", b"size 2 2\nset 1 2 S\nset 9 9 A\ntitle Three\n", b"size 3 3\n")
+ANSWERS = ["filled", "nofill", "filled", "nofill"]
+
+
+def expect_filled(found, answers, faulty=()):
+    """Each puzzle is there once and in order, and what was filled is a fill."""
+    assert [it.number for it in found] == list(range(len(answers))), found
+    assert [it.answer for it in found] == answers, found
+    for filled in found:
+        assert (filled.error is None) == (filled.number not in faulty), filled
+        if filled.answer == "filled":
+            assert filled.rows in (("AS", "TO"), ("AT", "SO")) and Session(SQUARE, record=filled.record).rows() == filled.rows
+
+
+@test
+def many_puzzles_are_filled(room):
+    for workers in (1, 3):
+        found = list(xw.fill_many(PUZZLES * 3, SQUARE, workers))
+        expect_filled(found, ANSWERS * 3)
+        assert found[2].rows == ("AS", "TO") and b"text title Three\n" in found[2].record
+        # no puzzle gets anything of the one before it
+        assert all(b"Three" not in it.record for it in found if it.number % 4 != 2)
+        assert [it.reports for it in found[:4]] == [(), (), ("xw: record: line 3: OutOfGrid",), ()] and not any(it.died for it in found)
+    assert list(xw.fill_many([], SQUARE)) == []
+    (limited,) = xw.fill_many([b"size 2 2\n"], SQUARE, limit=0)
+    assert limited.answer == "limit" and limited.rows == ("--", "--")
+
+
+@test
+def puzzles_are_taken_in_each_form(room):
+    session = square()
+    session.fill(9)
+    for light in session.lights():
+        session.clue(light, "Clue")
+    (room / "a.puz").write_bytes(session.to_puz())
+    (room / "a.xw").write_bytes(session.record())
+    mapping = {"dimensions": {"width": 2, "height": 2}, "puzzle": [[1, 2], [3, 0]]}
+    puzzles = [session.to_puz(), session.to_text(), session.record(), room / "a.puz", room / "a.xw", "size 2 2\n", mapping]
+    expect_filled(list(xw.fill_many(puzzles, SQUARE, 2)), ["filled"] * 7)
+    # what cannot be read is named, and the others are filled
+    puzzles = [room / "none", b"size 2 2\n", "a.puz", b"frob\n", 7, session.to_puz()[:60], b"size 2 2\n"]
+    found = list(xw.fill_many(puzzles, SQUARE, 2))
+    expect_filled(found, [None, "filled", None, None, None, None, "filled"], faulty=(0, 2, 3, 4, 5))
+    assert [type(it.error).__name__ for it in found if it.error] == ["FileNotFoundError", "ValueError", "Fault", "TypeError", "Fault"]
+    assert str(found[3].error) == "NoCommand: xw: record: line 1: Command"
+
+
+@test
+def words_are_taken_in_each_form(room):
+    (room / "words.txt").write_bytes(b"as\nat\nso\nto\n")
+    for words in (room / "words.txt", b"as\nat\nso\nto\n", {"as": 1, "at": 2, "so": 3, "to": 4}):
+        expect_filled(list(xw.fill_many([b"size 2 2\n"], words, 1)), ["filled"])
+    raises(ValueError, lambda: list(xw.fill_many([b""], "words.txt")))
+
+
+@test
+def executors_fill_puzzles():
+    for executor in (concurrent.futures.ThreadPoolExecutor(2), concurrent.futures.ProcessPoolExecutor(2)):
+        with executor:
+            expect_filled(list(xw.fill_many([*PUZZLES * 5, 7], SQUARE, 2, executor=executor)), [*ANSWERS * 5, None], faulty=(20,))
+
+
+def deadly_puzzles(path, word):
+    return [*PUZZLES, b"size 2 2\n# %s %s\n" % (word, os.fsencode(path)), *PUZZLES]
+
+
+@test
+def a_worker_that_dies_is_named(room):
+    xw.many.fill_one = deadly.fill_or_die
+    try:
+        found = list(xw.fill_many(deadly_puzzles(room / "pids", b"once"), SQUARE, 2))
+        expect_filled(found, [*ANSWERS, "filled", *ANSWERS])
+        (pid,) = map(int, (room / "pids").read_text().split())
+        assert [(it.worker, it.code) for it in found[4].died] == [(pid, -signal.SIGKILL)] and not any(it.died for it in found if it.number != 4)
+        # a puzzle that every worker dies of is given up
+        found = list(xw.fill_many(deadly_puzzles(room / "others", b"always"), SQUARE, 2))
+        expect_filled(found, [*ANSWERS, None, *ANSWERS], faulty=(4,))
+        pids = [int(pid) for pid in (room / "others").read_text().split()]
+        assert [it.worker for it in found[4].died] == pids and len(pids) == 2
+        assert str(found[4].error) == f"worker {pids[1]} was ended by signal 9"
+    finally:
+        xw.many.fill_one = fill_one
+
+
+fill_one = xw.many.fill_one
+
+
+@test
+def an_executor_that_loses_a_worker_loses_no_puzzle():
+    fill_part = xw.many.fill_part
+    xw.many.fill_part = deadly.die
+    try:
+        with concurrent.futures.ProcessPoolExecutor(1) as executor:
+            found = list(xw.fill_many(PUZZLES * 5, SQUARE, 1, executor=executor))
+    finally:
+        xw.many.fill_part = fill_part
+    expect_filled(found, [None] * 20, faulty=range(20))
+    assert all(isinstance(it.error, concurrent.futures.process.BrokenProcessPool) for it in found)
+
+
+def is_there(pid):
+    try:
+        os.kill(pid, 0)
+    except ProcessLookupError:
+        return False
+    return True
+
+
+def pids_in(path, count):
+    """The processes that a file names, once it names so many."""
+    while not path.exists() or path.read_text().count("\n") < count:
+        time.sleep(0.01)
+    return [int(pid) for pid in path.read_text().split()]
+
+
+@test
+def an_interrupt_ends_all_workers(room):
+    """It comes while two workers wait for ever, and a third puzzle is done."""
+    puzzles = [PUZZLES[0], *[b"# wait %s\n" % os.fsencode(room / "pids")] * 4]
+    xw.many.fill_one = deadly.fill_or_die
+    found = []
+
+    def interrupts():
+        pids_in(room / "pids", 2)
+        os.kill(os.getpid(), signal.SIGINT)
+
+    thread = threading.Thread(target=interrupts)
+    try:
+        thread.start()
+        raises(KeyboardInterrupt, lambda: found.extend(xw.fill_many(puzzles, SQUARE, 2)))
+    finally:
+        xw.many.fill_one = fill_one
+        thread.join()
+    assert not any(map(is_there, pids_in(room / "pids", 2))) and [it.answer for it in found] in ([], ["filled"])
+
+
+@test
+def a_loop_that_is_left_ends_all_workers(room):
+    xw.many.fill_one = deadly.fill_or_die
+    try:
+        filling = xw.fill_many([PUZZLES[0], b"# wait %s\n" % os.fsencode(room / "pids")], SQUARE, 2)
+        assert next(filling).answer == "filled"
+        pids = pids_in(room / "pids", 1)
+        assert is_there(pids[0])
+        filling.close()
+        assert not is_there(pids[0])
+    finally:
+        xw.many.fill_one = fill_one
+
+
+@test
+def workers_end_with_their_parent(room):
+    """In the middle of a call too: the parent dies, and its worker reads that it has none."""
+    code = f"""
+import deadly, os, signal, threading, xw.workers
+worker = xw.workers.Worker()
+worker.ask(deadly.Session, b"")
+threading.Thread(target=worker.ask, args=(deadly.fill_or_die, 0, {b'# wait %s' % os.fsencode(room / "pids")!r}, {{}}), daemon=True).start()
+while not os.path.exists({str(room / "pids")!r}):
+    pass
+print(worker.number, flush=True)
+os.kill(os.getpid(), signal.SIGKILL)
+"""
+    path = os.pathsep.join([str(TOP / "tests/python"), os.environ.get("PYTHONPATH", "")])
+    ended = subprocess.run([sys.executable, "-c", code], env={**os.environ, "PYTHONPATH": path}, stdout=subprocess.PIPE)
+    assert ended.returncode == -signal.SIGKILL
+    # the pipe of the output has an end when the worker has ended, which also has it
+    assert pids_in(room / "pids", 1) == [int(ended.stdout)]
+
+
+@test
+def workers_race_for_the_best_fill():
+    told = []
+    for workers in (1, 3):
+        found = xw.best(GRADED, b"size 2 2\nset 9 9 A\n", workers, progress=told.append)
+        assert (found.answer, found.bound, found.fill.grade, found.fill.bound, found.fill.mean, found.is_best) == ("filled", 61, 60, 61, 75, True), found
+        assert found.fill.rows in (("AS", "TO"), ("AT", "SO")) and found.reports == ("xw: record: line 2: OutOfGrid",) and not found.died
+        assert found.placements == told[-1].placements and (told[-1].grade, told[-1].bound) == (60, 61)
+    # no fill has the grade 61
+    found = xw.best(GRADED, b"size 2 2\n", 2, least=61)
+    assert (found.answer, found.bound, found.fill, found.is_best) == ("nofill", 61, None, False)
+    # a grid that is full is its own fill
+    found = xw.best(GRADED, b"size 2 2\nset 1 1 A\nset 1 2 S\nset 2 1 T\nset 2 2 O\n", 2)
+    assert (found.answer, found.fill) == ("filled", (100, 101, ("AS", "TO"), 100)) and found.is_best
+
+
+def many_words():
+    """Graded words of six letters of which a few thousand placements prove no best fill of a grid of 6 by 6 without a block."""
+    draw = random.Random(1)
+    return {"".join(draw.choices("abcdefgh", k=6)): draw.randrange(101) for _ in range(3000)}
+
+
+@test
+def a_race_ends_in_each_way():
+    words, record = many_words(), b"size 6 6\n"
+    found = xw.best(words, record, 2, limit=2000)
+    assert found.placements == 4000 and not found.is_best, found
+    assert xw.best(words, record, 2, seconds=0.001).placements >= 1000
+    told = []
+    assert xw.best(words, record, 2, progress=lambda it: told.append(it) or True).placements == told[0].placements and len(told) == 1
+    raises(Refusal, lambda: xw.best(GRADED, b"size 2 2\n", 2, lights=["9 across"]), name="NoLight")
+    raises(Fault, lambda: xw.best(GRADED, b"frob\n", 2), status="NoCommand", message="xw: record: line 1: Command")
+    raises(ValueError, lambda: xw.best("words.txt"))
+    assert xw.best(GRADED, b"size 2 2\n", 1, lights=[(1, "across")]).fill.rows[0] in ("AS", "AT")
+
+
+class Scripted:
+    """Workers that tell what a test wants: the n-th one has the steps of `scripts[n]`, each a call that gets the least grade."""
+
+    scripts = ()
+    started = 0
+
+    def __init__(self):
+        self.steps, self.number = iter(Scripted.scripts[Scripted.started]), Scripted.started
+        Scripted.started += 1
+
+    def ask(self, call, *given):
+        return next(self.steps)(*given) if call is xw.race.step else None
+
+    def end(self):
+        pass
+
+
+def raced(*scripts, **options):
+    Scripted.scripts, Scripted.started, worker = scripts, 0, xw.race.Worker
+    xw.race.Worker = Scripted
+    try:
+        return xw.best([], workers=len(scripts), **options)
+    finally:
+        xw.race.Worker = worker
+
+
+def a_step(bound, grade=None, mean=0.0, is_over=False):
+    fill = grade and xw.Best(grade, bound, (f"{grade}",), mean)
+    return xw.race.Step(fill, bound, 1000, is_over, ())
+
+
+@test
+def workers_are_told_of_the_fills_of_others():
+    taken, aboves = threading.Event(), []
+
+    def waits(above):
+        # a slice that began before any fill was known
+        aboves.append(above)
+        taken.wait()
+        return a_step(101)
+
+    def ends(above):
+        aboves.append(above)
+        return a_step(above)
+
+    # the first one finds a fill, and the other one proves that it is the best one
+    found = raced([lambda above: a_step(80, 40, 45.0, True)], [waits, waits, ends], progress=lambda told: told.grade == 40 and taken.set())
+    assert aboves[0] in (0, 41) and aboves[-1] == 41 and found.fill == (40, 41, ("40",), 45) and found.is_best and found.placements == 2000
+
+
+@test
+def what_workers_found_is_one_answer():
+    # the better fill counts, and of two with one worst word that with the better mean; the lowest bound is one of all
+    fills = [a_step(90, 40, 50.0, True)], [a_step(70, 30, 99.0, True)], [a_step(80, 40, 60.0, True)], [a_step(101, is_over=True)]
+    found = raced(*[[lambda above, step=step: step for step in steps] for steps in fills])
+    assert (found.answer, found.bound, found.fill, found.is_best) == ("filled", 70, (40, 70, ("40",), 60), False)
+    # a bound at the least grade says that there is no fill
+    found = raced([lambda above: a_step(50)], [lambda above: a_step(101, is_over=True)], least=50)
+    assert (found.answer, found.bound) == ("nofill", 50)
+    found = raced([lambda above: a_step(51, is_over=True)], least=50)
+    assert (found.answer, found.bound) == ("limit", 51)
+
+
+@test
+def a_race_goes_on_without_a_worker_that_dies():
+    step = xw.race.step
+    xw.race.step = deadly.step_or_die
+    try:
+        found = xw.best(many_words(), b"size 6 6\n", 2, limit=2000)
+        # the other worker makes its 2,000 placements, and the one that dies had made 1,000
+        assert [it.code for it in found.died] == [-signal.SIGKILL] and found.placements == 3000, found
+        xw.race.step = deadly.die
+        raises(Died, lambda: xw.best(GRADED, b"size 2 2\n", 2), code=-signal.SIGKILL)
+    finally:
+        xw.race.step = step
+
+
+@test
+def an_interrupt_ends_a_race(room):
+    step, path = xw.race.step, room / "pids"
+
+    def interrupts():
+        pids_in(path, 2)
+        os.kill(os.getpid(), signal.SIGINT)
+
+    thread = threading.Thread(target=interrupts)
+    xw.race.step = deadly.step_or_wait
+    try:
+        thread.start()
+        raises(KeyboardInterrupt, lambda: xw.best(GRADED, b"title %s\n" % os.fsencode(path), 2))
+    finally:
+        xw.race.step = step
+        thread.join()
+    assert not any(map(is_there, pids_in(path, 2)))
+
+
 @test
 def objects_are_puzzles():
     session = square()
@@ -468,7 +1113,7 @@ def mappings_are_puzzles():
     }
     session = Session(puzzle=puzzle)
     assert session.show() == ["A|S #", "=....", "T O #"] and session.rows() == ("AS#", "TO#")
-    assert session.line("circles") == ["1 2"]
+    assert session.circles() == [(1, 2)]
     assert session.texts() == {"title": "T", "2 across": "Seven", "1 down": "Five"}
     puzzle["solution"][0][0] = "HEART"
     raises(Fault, lambda: Session(puzzle=puzzle), status="BadCell")
@@ -483,8 +1128,9 @@ def package_is_typed():
 
 @test
 def documents_run():
-    failed, tried = doctest.testfile(str(TOP / "docs/python.md"), module_relative=False)
-    assert tried and not failed
+    for name in ("docs/python.md", "python/README.md"):
+        failed, tried = doctest.testfile(str(TOP / name), module_relative=False)
+        assert tried and not failed, name
 
 
 @test
@@ -502,6 +1148,9 @@ def wheel_stands_alone(room, wheel):
     code = "import xw, sys; print(xw.version(), xw.__file__)"
     called = lambda *words: subprocess.run([sys.executable, *words], cwd=room, env={**bare, "PYTHONPATH": str(room / "site")}, capture_output=True, text=True)
     assert called("-c", code).stdout.split() == [*xw.version().split(), str(room / "site/xw/__init__.py")]
+    (metadata,) = (room / "site").glob("xw-*.dist-info/METADATA")
+    fields, _, description = metadata.read_text(encoding="utf-8").partition("\n\n")
+    assert description == (TOP / "python/README.md").read_text(encoding="utf-8") and f"\nVersion: {xw.__version__}\n" in fields
     told = called("-m", "doctest", room / "doc/python.md")
     assert told.returncode == 0, told.stdout
     filled = called(room / "doc" / example, "list.txt", "grid.xw", "--puz", "made.puz")

@@ -1,5 +1,5 @@
 // Tests of the module for the web beside its answers: texts, what `open`, `load`, `ask` and the searches take, the slices of searches, `close`, the lists of
-// statuses, and the example of docs/embedding.md.
+// statuses, and the examples of docs/embedding.md.
 //
 //   node --expose-gc tests/web/module.mjs
 //
@@ -82,6 +82,20 @@ function searched(words, placements) {
   }
 }
 
+// What an example prints, run with the module.
+async function printedBy(code) {
+  const seen = [];
+  const log = console.log;
+  console.log = (value) => seen.push(value);
+  try {
+    const beside = code.replace("'./xw.js'", `'${new URL('../../web/dist/xw.js', import.meta.url)}'`);
+    await import(`data:text/javascript;base64,${Buffer.from(beside).toString('base64')}`);
+  } finally {
+    console.log = log;
+  }
+  return seen;
+}
+
 // The placements of the first slices of a search that makes so many in a millisecond.
 function slicesAt(pace, count, span, limit = Infinity) {
   const { now } = performance;
@@ -94,6 +108,15 @@ function slicesAt(pace, count, span, limit = Infinity) {
     performance.now = now;
   }
 }
+
+// A session on an empty square whose best fill has the words 90, 80, 70 and 60.
+function graded() {
+  const xw = Xw.open(module, { list: 'as;90\nat;80\nso;60\nto;70\nti;50\nsi;40\n' });
+  ok(xw.line('size 2 2').ok);
+  return xw;
+}
+
+const rowsNow = (xw) => ask(xw, 'show').map((row) => row.replaceAll(' ', ''));
 
 const SQUARE = ['shade', 'laded', 'along', 'gorse', 'sneer', 'slags', 'halon', 'adore', 'dense', 'edger'];
 
@@ -194,21 +217,22 @@ const CASES = {
   'a search names an option that is wrong': async () => {
     const xw = Xw.open(module, { list: 'at\n' });
     const isOther = (name, search, names) => ({ name: 'TypeError', message: `${name} is not an option of ${search}, which takes ${names}` });
-    await rejects(autofill(xw, { limits: 5 }), isOther('limits', 'autofill', 'limit, seed, lights, progress and every'));
-    await rejects(autofill(xw, { least: 5 }), isOther('least', 'autofill', 'limit, seed, lights, progress and every'));
-    await rejects(best(xw, { Seed: 5 }), isOther('Seed', 'best', 'limit, seed, lights, progress, every and least'));
+    await rejects(autofill(xw, { limits: 5 }), isOther('limits', 'autofill', 'limit, seed, lights, progress, every and signal'));
+    await rejects(autofill(xw, { least: 5 }), isOther('least', 'autofill', 'limit, seed, lights, progress, every and signal'));
+    await rejects(best(xw, { Seed: 5 }), isOther('Seed', 'best', 'limit, seed, lights, progress, every, signal and least'));
     for (const search of [autofill, best]) {
       for (const limit of [-1, 1.5, NaN, '5', null]) await rejects(search(xw, { limit }), { name: 'RangeError', message: 'limit is not a whole number or Infinity' });
       for (const seed of [-1, 0.5, Infinity, '0']) await rejects(search(xw, { seed }), { name: 'RangeError', message: 'seed is not a whole number' });
       for (const every of [0, -1, Infinity, NaN, '9']) await rejects(search(xw, { every }), { name: 'RangeError', message: 'every is not a number of milliseconds above 0' });
       for (const lights of ['1 across', [1], null]) await rejects(search(xw, { lights }), { name: 'TypeError', message: 'lights is not an array of names of lights' });
+      for (const signal of [true, {}, new AbortController()]) await rejects(search(xw, { signal }), { name: 'TypeError', message: 'signal is not an AbortSignal' });
       for (const progress of [true, {}]) await rejects(search(xw, { progress }), { name: 'TypeError', message: 'progress is not a function' });
       for (const options of [null, 5, 'limit']) await rejects(search(xw, options), { name: 'TypeError', message: `the options of ${search.name} are not an object` });
     }
     for (const least of [-1, 101, 0.5, '5']) await rejects(best(xw, { least }), { name: 'RangeError', message: 'least is not a grade from 0 to 100' });
     // an option that is undefined is left out, and a refused search changes nothing
     ok(xw.line('size 2 1').ok);
-    same(await autofill(xw, { limit: undefined, seed: undefined, lights: undefined, progress: undefined, every: undefined }), 'filled');
+    same(await autofill(xw, { limit: undefined, seed: undefined, lights: undefined, progress: undefined, every: undefined, signal: undefined }), 'filled');
   },
   'slices follow their time': () => {
     same(slicesAt(10, 4, 100), [1000, 1000, 1000, 1000]);
@@ -231,6 +255,123 @@ const CASES = {
   'best of a full grid': async () => {
     // no word is new, and no grade is above 100
     same(await best(filled()), { answer: 'filled', grade: 100, bound: 101 });
+  },
+  'fills come one after another': async () => {
+    const xw = graded();
+    const told = [];
+    for await (const fill of xw.best()) {
+      same(rowsNow(xw), [...fill.rows]);
+      told.push(fill);
+    }
+    const grades = told.map(({ grade }) => grade);
+    same(grades, [...new Set(grades)].sort((one, other) => one - other));
+    const last = told.at(-1);
+    // both fills of this grade have the same words
+    same([last.grade, last.bound, last.mean, rowsNow(xw)], [60, 61, 75, [...last.rows]]);
+    ok(['AS,TO', 'AT,SO'].includes(last.rows.join()));
+    // the least grade is that of the search
+    ask(xw, 'add', 'zz', 0);
+    same(ask(xw, 'match', 'zz'), ['ZZ']);
+    // what the iterator returns is what `best` answers
+    const search = graded().best();
+    let step = await search.next();
+    while (!step.done) step = await search.next();
+    same(step.value, await best(graded()));
+    const none = Xw.open(module, { list: 'ab\ncd\n' });
+    ask(none, 'size', 2, 2);
+    same([await none.best().next(), rowsNow(none)], [{ done: true, value: { answer: 'nofill', grade: null, bound: 0 } }, ['--', '--']]);
+    await rejects(graded().best({ lights: ['9 across'] }).next(), { name: 'Fault', status: 'Refused', answer: 'NoLight' });
+    await rejects(graded().best({ limits: 5 }).next(), TypeError);
+  },
+  'a mean has the new words alone': async () => {
+    const xw = graded();
+    ask(xw, 'place', '1 across', 'as');
+    // the words AT, SO and TO are new
+    const { value } = await xw.best().next();
+    same([value.grade, value.mean], [60, 70]);
+    same((await filled().best().next()).value, { grade: 100, bound: 101, mean: 100, rows: ['AT'] });
+  },
+  'a search of fills is left': async () => {
+    const xw = graded();
+    ask(xw, 'least', 10);
+    let rows;
+    for await (const fill of xw.best({ least: 20 })) {
+      rows = [...fill.rows];
+      break;
+    }
+    same(rowsNow(xw), rows);
+    ask(xw, 'add', 'zz', 20);
+    same(ask(xw, 'match', 'zz'), ['ZZ']);
+    // a search that is left may end after its session
+    const closed = graded();
+    const search = closed.best();
+    await search.next();
+    closed.close();
+    same((await search.return()).done, true);
+    await rejects(closed.best().next(), isClosed);
+  },
+  'a signal ends a search': async () => {
+    const reason = new Error('stopped by hand');
+    for (const search of [autofill, best, (xw, options) => xw.best(options).next()]) {
+      const xw = graded();
+      await rejects(search(xw, { signal: AbortSignal.abort(reason) }), reason);
+      same(rowsNow(xw), ['--', '--']);
+    }
+    // a session whose searches find nothing, and which counts them
+    for (const search of [autofill, best]) {
+      const xw = Xw.open(module);
+      const stop = new AbortController();
+      const line = xw.line.bind(xw);
+      let searched = 0;
+      xw.line = (text) => {
+        if (!/^(autofill|best) /.test(text)) return line(text);
+        // an event that comes while the third slice runs
+        if (++searched === 3) setTimeout(() => stop.abort(reason));
+        return { lines: ['limit', 'bound 101'].slice(0, text.startsWith('best') ? 2 : 1), ok: true, refusal: null };
+      };
+      ask(xw, 'set', 1, 1, 'a');
+      await rejects(search(xw, { signal: stop.signal }), reason);
+      same([searched, rowsNow(xw)[0]], [3, `A${'-'.repeat(14)}`]);
+    }
+    // a fill that was found stays
+    const xw = graded();
+    const stop = new AbortController();
+    let rows = null;
+    await rejects(async () => {
+      for await (const fill of xw.best({ signal: stop.signal, least: 5 })) {
+        rows = [...fill.rows];
+        stop.abort(reason);
+        // the bound of the first slice may end the search before the signal does
+        if (fill.bound === fill.grade + 1) throw reason;
+      }
+    }, reason);
+    same(rowsNow(xw), rows);
+  },
+  'progress has the fill so far': async () => {
+    const xw = graded();
+    const line = xw.line.bind(xw);
+    // the bound is not told, so the search goes on
+    xw.line = (text) => {
+      const answer = line(text);
+      return /^best /.test(text) ? { ...answer, lines: answer.lines.map((it) => it.replace(/^bound .*/, 'bound 101')) } : answer;
+    };
+    const told = [];
+    const { grade } = await best(xw, { progress: ({ grade, rows }) => told.push([grade, rows?.join()]) === 1 });
+    same(told.length, 1);
+    same([told[0][0], told[0][1]], [grade, rowsNow(xw).join()]);
+    const empty = Xw.open(module);
+    const steps = [];
+    await autofill(empty, { limit: 1000, progress: (step) => steps.push(step) });
+    ok(steps.every(({ rows }) => rows === null));
+  },
+  'a session is disposed of': () => {
+    const xw = filled();
+    same(xw.closed, false);
+    if (Symbol.dispose) xw[Symbol.dispose]();
+    else xw.close();
+    same(xw.closed, true);
+    throws(() => xw.line('show'), isClosed);
+    same(Object.keys(Xw.prototype), []);
   },
   'a record is resumed later': () => {
     const xw = Xw.open(module);
@@ -275,18 +416,12 @@ const CASES = {
     same(grid.pop(), 'filled');
     ok(grid.length === 5 && grid.every((row) => SQUARE.includes(row.replaceAll(' ', '').toLowerCase())));
   },
-  'the example of docs/embedding.md': async () => {
-    const { code, printed } = exampleOf('docs/embedding.md', "import { load, Xw } from './xw.js';");
-    const seen = [];
-    const log = console.log;
-    console.log = (value) => seen.push(value);
-    try {
-      const beside = code.replace("'./xw.js'", `'${new URL('../../web/dist/xw.js', import.meta.url)}'`);
-      await import(`data:text/javascript;base64,${Buffer.from(beside).toString('base64')}`);
-    } finally {
-      console.log = log;
+  'the examples of docs/embedding.md': async () => {
+    const beginning = "import { load, Xw } from './xw.js';\n\nconst xw = Xw.open(await load(), { list: '";
+    for (const list of ['cat', 'as;90']) {
+      const { code, printed } = exampleOf('docs/embedding.md', beginning + list);
+      same(await printedBy(code), printed);
     }
-    same(seen, printed);
   },
 };
 
