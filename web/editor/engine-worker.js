@@ -6,7 +6,8 @@ import { closeNew } from './kin.js';
 import { Making } from './grids/making.js';
 import { reachOf } from './reach.js';
 import { letterIn, lettersOf, withoutLeast } from './record.js';
-import { enumerationsOf, joinLists } from './word-list.js';
+import { lookAt } from './list-preview.js';
+import { enumerationsOf, joinLists, leftOutText } from './word-list.js';
 
 let module;
 let xw;
@@ -356,7 +357,7 @@ const calls = {
   open({ sources, personal, least, threes, record }) {
     const { words: all, scores: scoresRead, ...told } = joinLists(sources, personal);
     const words = threes ? all.filter((word) => word.length !== 3 || (scoresRead.get(word) ?? threes) >= threes) : all;
-    if (sources.length && !words.length) throw Object.assign(new Error('no word'), { status: 'NoWord', answer: '' });
+    if (sources.length && !words.length) throw Object.assign(new Error('no word'), { status: 'NoWord', answer: leftOutText(told.leftOut) });
     const other = Xw.open(module, { list: graded(words, scoresRead, told.best), record });
     xw?.close();
     xw = other;
@@ -419,6 +420,9 @@ const calls = {
     return enumerationsOf(words, { sources, personal, plain });
   },
 
+  // What a list has before it is taken over.
+  lookAtList: ({ bytes, chosen }) => lookAt(bytes, chosen),
+
   probe,
   alternatives,
   fillsWithout,
@@ -456,7 +460,7 @@ async function answer({ id, call, sent }) {
 }
 
 // Calls are answered in order. But those that leave all as it was wait until no other is there, so that a key is answered ahead of them.
-const QUERIES = new Set(['ask', 'words', 'probe', 'alternatives', 'fillsWithout', 'grades', 'enumerations']);
+const QUERIES = new Set(['ask', 'words', 'probe', 'alternatives', 'fillsWithout', 'grades', 'enumerations', 'lookAtList']);
 
 let last = Promise.resolve();
 const queries = [];

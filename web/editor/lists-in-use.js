@@ -4,7 +4,7 @@ import { LeastView, leftOf } from './least.js';
 import { ListsView } from './lists-view.js';
 import { endWarning, refusalText, refuseAsIs, say, sayAsIs, warn } from './messages.js';
 import { $ } from './page.js';
-import { foldedText, leftOutText, readList, wordCount, withScores } from './word-list.js';
+import { foldedText, leftOutText, wordCount, withScores } from './word-list.js';
 
 const MOST_FORMER = 10;
 
@@ -64,13 +64,13 @@ export class ListsInUse {
     return true;
   }
 
-  // Uses the word lists that a function makes of those in use, if the engine takes them. `name` and `bytes` are those of a list that is opened, and `said`
+  // Uses the word lists that a function makes of those in use, if the engine takes them. `name` is that of a list that is opened, and `said`
   // is what is said then. Returns whether they are in use.
-  change(changed, name = '', bytes = new Uint8Array(), said = '') {
+  change(changed, name = '', said = '') {
     return this.#inOrder(async () => {
       const before = this.#lists;
       const other = changed(before);
-      if (other === before || !(await this.#use(other, name, bytes, said))) return false;
+      if (other === before || !(await this.#use(other, name, said))) return false;
       this.#former.push(before);
       if (this.#former.length > MOST_FORMER) this.#former.shift();
       return true;
@@ -103,7 +103,7 @@ export class ListsInUse {
       const scores = this.#regraded;
       this.#regraded = new Map();
       return scores.size ? now.withPersonal(withScores(now.personal, scores)) : now;
-    }, 'My words', new Uint8Array(), said);
+    }, 'My words', said);
   }
 
   // Promises the enumerations of words, by word, as far as the lists show them.
@@ -113,13 +113,13 @@ export class ListsInUse {
   }
 
   // Has the engine use other lists, and says what they have, or why it refuses them. Returns whether they are in use.
-  async #use(other, name = '', bytes = new Uint8Array(), said = '') {
+  async #use(other, name = '', said = '') {
     if (!this.actions.mayEdit()) return false;
     this.actions.stop();
     const fault = await this.#editor.useList(other.chosen);
     if (fault) {
-      const why = fault === 'NoWord' ? leftOutText(readList(bytes).leftOut) : '';
-      refuseAsIs(`${name || 'the lists'}: ${[refusalText(fault), why].filter(Boolean).join('; ')}`);
+      const why = fault.status === 'NoWord' ? fault.answer : '';
+      refuseAsIs(`${name || 'the lists'}: ${[refusalText(fault.status), why].filter(Boolean).join('; ')}`);
       this.show();
       return false;
     }
@@ -185,7 +185,7 @@ export class ListsInUse {
   // Uses another least score of words of three letters.
   async #useThrees(threes) {
     const said = threes ? `words of three letters have ${threes} or more` : 'words of three letters have any score';
-    if (await this.change((now) => now.choosing({ threes }), 'the lists', new Uint8Array(), said)) this.actions.soon();
+    if (await this.change((now) => now.choosing({ threes }), 'the lists', said)) this.actions.soon();
     this.actions.toGrid();
   }
 }

@@ -1,10 +1,15 @@
 // The word lists: several, each on or off, and the personal list, which stays over puzzles.
 import { keepLists, keptLists } from './keep.js';
 
+// A list as it is read: `form` says how its lines have words and scores, and is null where they tell it themselves.
+/** @typedef {{ bytes: Uint8Array, form?: import('./list-form.js').Form | null }} Source */
+/** @typedef {Source & { name: string, isOn: boolean, isBuiltIn?: boolean }} Part */
+
 export class Lists {
-  // { name, bytes, isOn, isBuiltIn }; the personal list as text; the least score of a word, that of a word of three letters, and the score below which words
-  // are marked, or null for the usual one; and whether candidates and fills have no words that are close to others
+  /** @type {Part[]} */
   parts = [];
+  // the personal list as text; the least score of a word, that of a word of three letters, and the score below which words are marked, or null for the usual
+  // one; and whether candidates and fills have no words that are close to others
   personal = '';
   least = 0;
   threes = 0;
@@ -33,7 +38,7 @@ export class Lists {
 
   // Keeps them. The built-in list is in the page already.
   keep() {
-    const parts = this.parts.map(({ name, bytes, isOn, isBuiltIn }) => (isBuiltIn ? { name, isOn, isBuiltIn } : { name, bytes, isOn }));
+    const parts = this.parts.map(({ name, bytes, form = null, isOn, isBuiltIn }) => (isBuiltIn ? { name, isOn, isBuiltIn } : { name, bytes, form, isOn }));
     return keepLists({ ...this, parts });
   }
 
@@ -42,12 +47,12 @@ export class Lists {
   }
 
   // With one more list, which is used in place of the others. These stay, off.
-  adding(name, bytes) {
+  adding(name, bytes, form = null) {
     const others = this.parts.filter((part) => part.name !== name || !isSameBytes(part.bytes, bytes)).map((part) => ({ ...part, isOn: false }));
     const isTaken = (wanted) => others.some((part) => part.name === wanted);
     let free = name;
     for (let count = 2; isTaken(free); count++) free = `${name} (${count})`;
-    return this.#with({ parts: [...others, { name: free, bytes, isOn: true }], least: 0, weak: null, threes: 0, target: null });
+    return this.#with({ parts: [...others, { name: free, bytes, form, isOn: true }], least: 0, weak: null, threes: 0, target: null });
   }
 
   switching(name, isOn) {
@@ -85,8 +90,12 @@ export class Lists {
   get chosen() {
     const on = this.parts.filter(({ isOn, bytes }) => isOn && bytes.length);
     const name = on.length === 1 ? on[0].name : on.length ? `${on.length} lists` : '';
-    return { name: name || (this.personal.trim() ? 'my words' : ''), sources: on.map(({ bytes }) => bytes), personal: this.personal, least: this.least, weak: this.weak, threes: this.threes, apart: this.apart, target: this.target };
+    return { name: name || (this.personal.trim() ? 'my words' : ''), sources: on.map(({ bytes, form = null }) => ({ bytes, form })), personal: this.personal, least: this.least, weak: this.weak, threes: this.threes, apart: this.apart, target: this.target };
   }
 }
 
-const isSameBytes = (one, other) => one.length === other.length && one.every((byte, at) => byte === other[at]);
+function isSameBytes(one, other) {
+  let at = one.length === other.length ? 0 : -1;
+  while (at >= 0 && at < one.length && one[at] === other[at]) at++;
+  return at === one.length;
+}

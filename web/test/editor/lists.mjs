@@ -2,7 +2,7 @@
 import { writeFileSync } from 'node:fs';
 import { join } from 'node:path';
 import { largeList } from '../time.mjs';
-import { begin, menu, openFile, openRecord, openWords, saved, slideLeast } from '../doing.mjs';
+import { begin, menu, openFile, openList, openRecord, openWords, saved, slideLeast } from '../doing.mjs';
 import { raiseInTime, raiseToTheEnd, workOfLetter } from '../holding.mjs';
 import { browser, expect, forget, page, picture, reload, room, runAlone } from '../page.mjs';
 
@@ -12,7 +12,7 @@ export const CASES = {
     writeFileSync(path, largeList().join('\n'));
     await begin(1);
     await browser.type('to');
-    await openFile(path);
+    await openList(path);
     await page.factsAre(/large.txt, 277,620 words/);
     expect((await page.row(1)).startsWith('TO'), 'the puzzle is lost');
     await begin(1);
@@ -28,7 +28,7 @@ export const CASES = {
     const line = (_, number) => `${Array.from({ length: 6 }, (__, at) => letter(number, at)).join('')};${number % 101}`;
     writeFileSync(path, Array.from({ length: 300000 }, line).join('\n'));
     await begin(1);
-    await openFile(path);
+    await openList(path);
     await page.factsAre(/many-scores.txt, 300,000 words/);
     await page.statusIs(/^many-scores.txt: 300,000 words, the best scores first$/);
     await slideLeast(40);
@@ -49,7 +49,7 @@ export const CASES = {
   async 'lines of a list that are left out'() {
     const open = async (name, bytes, told) => {
       writeFileSync(join(room, name), bytes);
-      await (name === 'marked.txt' ? openWords : openFile)(join(room, name));
+      await (name === 'marked.txt' ? openWords : openList)(join(room, name));
       const said = await page.statusIs(new RegExp(`^${name}: .*words`));
       expect(said === `${name}: ${told}`, `${name}: the page says: ${said}`);
       expect((await browser.value("document.getElementById('list-name').textContent")) === `${name}: ${told.replace(', the best scores first', '')}`, 'the tab says otherwise');
@@ -58,10 +58,10 @@ export const CASES = {
     await open('marked.txt', '\ufeffcat\r\ncot\r\n\r\ncut', '3 words');
     await open('accents.txt', 'caf\u00e9\ncat\nna\u00efve\ndon\u2019t\ncot\nstra\u00dfe\n\u0153uvre\n\u0434\u0430\n', '6 words; 4 without their accents; 2 lines left out: 1 with letters other than A to Z, 1 with signs that are not ASCII');
     await open('latin.txt', Buffer.from('caf\u00e9\ncat\ncot\n', 'latin1'), '3 words; 1 without its accent');
-    await openFile(join(room, 'accents.txt'));
+    await openList(join(room, 'accents.txt'));
     await page.statusIs(/6 words/);
     writeFileSync(join(room, 'greek.txt'), '\u03b3\u03b7\n\u03b8\u03b5\u03ac\n');
-    await openFile(join(room, 'greek.txt'));
+    await openList(join(room, 'greek.txt'));
     await page.statusIs(/^greek.txt: there is no word that the list can take; 2 lines left out: 2 with letters other than A to Z$/);
     await page.factsAre(/accents.txt, 6 words/);
     await open('short.txt', 'a\ncat\nCat\ncot\n', '2 words; 2 lines left out: 1 with fewer than 2 letters, 1 that repeats a word');
@@ -87,11 +87,57 @@ export const CASES = {
     };
     for (const [name, [text, told]] of Object.entries(lists)) {
       writeFileSync(join(room, name), text);
-      await openFile(join(room, name));
+      await openList(join(room, name));
       expect((await page.statusIs(new RegExp(`^${name}: `), 'good')) === `${name}: ${told}`, `${name}: the page says: ${await page.status()}`);
       await slideLeast(70);
       await page.statusIs(/^2 of 3 words have 70 or more$/);
     }
+    await menu('built-in');
+    await page.factsAre(/built-in list/);
+  },
+
+  async 'how a list is read is shown, and can be changed'() {
+    await begin(6);
+    const shown = () => browser.value(`(() => {
+      const text = (selector) => [...document.querySelectorAll(selector)].map(({ textContent }) => textContent);
+      const chosen = ['separator', 'word', 'score', 'scale'].map((id) => document.getElementById('list-' + id).value);
+      return { told: document.getElementById('list-told').textContent, chosen, first: text('#list-lines tr:nth-child(2) td'), left: text('#list-left li') };
+    })()`);
+    const toldIs = (text) => browser.until(`document.getElementById('list-told').textContent === ${JSON.stringify(text)} && document.querySelector('#list-told[aria-busy=false]')`);
+    const choose = (id, value) => browser.value(`(() => {
+      const field = document.getElementById('list-${id}');
+      field.value = ${JSON.stringify(value)};
+      field.dispatchEvent(new Event('change'));
+    })()`);
+    writeFileSync(join(room, 'columns.csv'), '7,cat,0.5\n8,"ice, cream",0.25\n9,cot,1\n10,x,0.1\n11,cat,0.2\n');
+    await openFile(join(room, 'columns.csv'));
+    await toldIs('columns.csv: 3 words; scores from 25 to 100; 2 lines left out: 1 with fewer than 2 letters, 1 that repeats a word.');
+    const { chosen, first, left } = await shown();
+    expect(chosen.join('|') === ',|1|2|1' && first.join('|') === '7|cat|0.5', `shown: ${chosen}; ${first}`);
+    expect(left.join('|') === '10,x,0.1: with fewer than 2 letters|11,cat,0.2: that repeats a word', `left out: ${left}`);
+    await picture('list-preview');
+    await choose('scale', '100');
+    await toldIs('columns.csv: 3 words; scores from 0.25 to 1; 2 lines left out: 1 with fewer than 2 letters, 1 that repeats a word.');
+    await choose('score', '0');
+    await toldIs('columns.csv: 3 words; scores from 8 to 11; 2 lines left out: 1 with fewer than 2 letters, 1 that repeats a word.');
+    // Esc leaves all as it was
+    await browser.press('Escape');
+    await page.statusIs(/^columns.csv is not opened$/, 'bad');
+    await page.factsAre(/built-in list/);
+    await openFile(join(room, 'columns.csv'));
+    await browser.until("document.getElementById('list-dialog').open");
+    await choose('score', 'none');
+    await toldIs('columns.csv: 3 words; no scores; 2 lines left out: 1 with fewer than 2 letters, 1 that repeats a word.');
+    await choose('score', '0');
+    // what is chosen last counts, whether it is shown or not
+    await browser.press('Enter');
+    await page.statusIs(/^columns.csv: 3 words, the best scores first; /);
+    await slideLeast(9);
+    await page.statusIs(/^2 of 3 words have 9 or more$/);
+    // it is read so after a reload too
+    await reload();
+    await page.factsAre(/columns.csv, 3 words/);
+    expect((await browser.value("document.getElementById('least-shown').textContent")) === '9', 'the scores are others');
     await menu('built-in');
     await page.factsAre(/built-in list/);
   },
@@ -101,7 +147,7 @@ export const CASES = {
     await reload();
     for (const [name, text] of [['one.txt', 'cat\ncot\n'], ['two.txt', 'cut;50\near;90\ncat;70\n']]) {
       writeFileSync(join(room, name), text);
-      await (name === 'one.txt' ? openWords : openFile)(join(room, name));
+      await (name === 'one.txt' ? openWords : openList)(join(room, name));
       await page.factsAre(new RegExp(name));
     }
     await browser.click('#tab-puzzle');

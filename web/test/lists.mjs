@@ -1,0 +1,112 @@
+// Tests word lists without a browser: how their lines are read. The expected values are worked out by hand.
+//
+//   node web/test/lists.mjs
+//
+// The last line is 'N passed, M failed'.
+import { deepStrictEqual as same } from 'node:assert/strict';
+import { Count } from './count.mjs';
+import { pageModules } from './page-modules.mjs';
+
+const { fieldsOf, formOf, linesOf, lookAt, previewText, readList, withColumn } = await pageModules('list-form', 'list-preview', 'word-list');
+
+const bytes = (text) => new Uint8Array(Buffer.from(text));
+const form = (separator, word, score, scale = 100) => ({ separator, word, score, scale });
+const PLAIN = form('', 0, null);
+// the words of a list with their scores, in order of the alphabet
+const read = (text, one = null) => Object.fromEntries([...readList(bytes(text), one).scores].sort());
+
+const CASES = {
+  'the form that the lines of a list tell'() {
+    const told = (...lines) => formOf(lines);
+    same(told('cat', 'dog', 'ice cream'), PLAIN);
+    same(told('CAT;80', 'DOG;70'), form(';', 0, 1));
+    same(told('cat,80', 'dog,70'), form(',', 0, 1));
+    same(told('cat\t80', 'dog\t70'), form('\t', 0, 1));
+    same(told('cat 80', 'ice cream 70'), form(' ', 0, 1));
+    same(told('80;cat', '70;dog'), form(';', 1, 0));
+    same(told('80\tcat', '70\tdog'), form('\t', 1, 0));
+    // the score behind the word is taken before one that stands before it; a date is none, and a note is none of the score
+    same(told('1;cat;80', '2;dog;70'), form(';', 1, 2));
+    same(told('cat;2020-01-01;80', 'dog;2021-01-01;70'), form(';', 0, 2));
+    same(told('cat;80 # mine', 'dog;70 # mine'), form(';', 0, 1));
+    // a word with a comma, and a number that belongs to a word
+    same(told('well, well;80', 'cat;70'), form(';', 0, 1));
+    same(told('catch 22', 'cat', 'dog'), PLAIN);
+    same(told('12 monkeys', 'catch 22'), PLAIN);
+    // a line that names the columns is one line of many
+    same(told('word;score', 'cat;80', 'dog;70'), form(';', 0, 1));
+    same(told(), PLAIN);
+  },
+
+  'the scale that scores tell'() {
+    const scale = (...scores) => formOf(scores.map((score) => `cat;${score}`)).scale;
+    same([scale(0.5, 1), scale(0, 1), scale(0, 3, 5), scale(2.5), scale(80, 5), scale(0.5, 30), scale(-1, 0.5), scale(1000)], [1, 100, 5, 5, 100, 100, 100, 100]);
+    // one score among thousands tells that they are no shares
+    same(formOf(Array.from({ length: 5000 }, (_, at) => `cat;${at === 4567 ? 70 : 0.5}`)).scale, 100);
+  },
+
+  'fields of a line'() {
+    same(fieldsOf('"well, well",80', form(',', 0, 1)), ['well, well', '80']);
+    same(fieldsOf('"say ""cat""",80', form(',', 0, 1)), ['say "cat"', '80']);
+    same(fieldsOf('5" disk;80', form(';', 0, 1)), ['5" disk', '80']);
+    same([fieldsOf('80 catch 22', form(' ', 0, 1)), fieldsOf('80 catch 22', form(' ', 1, 0)), fieldsOf('cat', form(' ', 0, 1))], [['80 catch', '22'], ['80', 'catch 22'], ['cat']]);
+    same([fieldsOf('a;b', PLAIN), fieldsOf('', form(';', 0, 1)), fieldsOf(';;', form(';', 0, 1))], [['a;b'], [''], ['', '', '']]);
+  },
+
+  'lists in a form that is chosen'() {
+    same(read('cat;80\nice cream;70'), { CAT: 80, ICECREAM: 70 });
+    same(read('"well, well",80\ncat,70', form(',', 0, 1)), { CAT: 70, WELLWELL: 80 });
+    same(read('1;cat;80\n2;dog;70', form(';', 1, 0)), { CAT: 1, DOG: 2 });
+    same(read('80 catch 22\n70 cat', form(' ', 1, 0)), { CAT: 70, CATCH: 80 });
+    same(read('cat;1\ndog;4.5\ncow;0', form(';', 0, 1, 5)), { CAT: 20, DOG: 90, COW: 0 });
+    same(read('cat;0.125\ndog;1', form(';', 0, 1, 1)), { CAT: 12.5, DOG: 100 });
+    // a column of a table of words, whatever else it has
+    same([...readList(bytes('cat,noun\nran,verb'), form(',', 0, null)).words].sort(), ['CAT', 'RAN']);
+    // a list that was kept without a form has its scores from 0 to 5 as they are
+    same(read('cat;1\ndog;5'), { CAT: 1, DOG: 5 });
+    same(readList(bytes('cat;1\ndog;5'), form(';', 0, 1, 5)).asRead, ['scores from 0 to 5 are read as 0 to 100']);
+    // a column that no line has
+    same(readList(bytes('cat;80\ndog;70'), form(';', 0, 7)).leftOut, { unscored: 2 });
+    same(readList(bytes('cat;80\ndog;70'), form(';', 5, 1)).leftOut, { short: 2 });
+  },
+
+  'another column'() {
+    const usual = form(';', 0, 1);
+    same(withColumn(usual, 'word', 2), { separator: ';', word: 2, score: 1 });
+    same([withColumn(usual, 'word', 1), withColumn(usual, 'score', 0)], [{ separator: ';', word: 1, score: 0 }, { separator: ';', word: 1, score: 0 }]);
+    same(withColumn(usual, 'score', null), { separator: ';', word: 0, score: null });
+    same([withColumn(form(';', 0, null), 'score', 0), withColumn(form(';', 1, null), 'score', 1)], [{ separator: ';', word: 1, score: 0 }, { separator: ';', word: 0, score: 1 }]);
+  },
+
+  'what is shown of a list before it is taken over'() {
+    const list = bytes('\ufeffword;score\r\ncat;80\r\n\r\ncafé;5\nCat;70\nx;3\nγη;50\ncow;-2\noar;7\ntea;6\n');
+    const shown = lookAt(list);
+    same(shown.form, form(';', 0, 1));
+    same(shown.rows, [['word', 'score'], ['cat', '80'], ['café', '5'], ['Cat', '70'], ['x', '3'], ['γη', '50'], ['cow', '-2'], ['oar', '7']]);
+    same([shown.words, shown.range, shown.folded, shown.leftOut], [4, [5, 80], 1, { unscored: 1, repeated: 1, short: 1, letters: 1, low: 1 }]);
+    // in the order of the file
+    same(shown.dropped.map(({ text, why }) => `${text}: ${why}`), [
+      'word;score: without a score', 'Cat;70: that repeats a word', 'x;3: with fewer than 2 letters', 'γη;50: with letters other than A to Z', 'cow;-2: with a score below 0',
+    ]);
+    same(previewText('a.txt', shown), 'a.txt: 4 words; scores from 5 to 80; 1 without its accent; 5 lines left out: 1 with letters other than A to Z, 1 without a score, 1 with a score below 0, 1 with fewer than 2 letters, 1 that repeats a word.');
+    // what is chosen stays, and its lines tell the rest
+    same(lookAt(list, { separator: ',' }).form, form(',', 0, null));
+    same(lookAt(bytes('1;cat;0.5\n3;dog;0.7'), { separator: ';', word: 1, score: 0 }).form, form(';', 1, 0, 5));
+    same(lookAt(bytes('cat;0.5\ndog;0.7'), form(';', 0, 1, 100)).range, [0.5, 0.7]);
+    // five lines are named, and no more than a part of a long one
+    const long = lookAt(bytes(Array(9).fill(`9${'-'.repeat(200)}`).join('\n')));
+    same([long.words, long.dropped.length, long.dropped[0].text.length, long.range], [0, 5, 60, null]);
+    same(lookAt(new Uint8Array()).rows, []);
+  },
+
+  'the lines of any file are read'() {
+    // each byte, and lines of separators and quotes alone
+    const all = Uint8Array.from({ length: 2048 }, (_, at) => (at * 7) % 256);
+    same(Object.values(readList(all).leftOut).reduce((sum, count) => sum + count, 0) + readList(all).words.length, linesOf(Buffer.from(all).toString('latin1')).length);
+    for (const sign of [';', ',', '\t', ' ', '"', ';"', '""']) same(lookAt(bytes(`${sign.repeat(50000)}\n`.repeat(2)), { separator: ';' }).words, 0);
+  },
+};
+
+const count = new Count();
+await count.runAll(CASES);
+count.end();
