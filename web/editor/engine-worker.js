@@ -6,14 +6,17 @@ import { closeNew } from './kin.js';
 import { Making } from './grids/making.js';
 import { reachOf } from './reach.js';
 import { letterIn, lettersOf, withoutLeast } from './record.js';
+import { joinLists } from './joined-lists.js';
 import { lookAt } from './list-preview.js';
-import { enumerationsOf, joinLists, leftOutText } from './word-list.js';
+import { enumerationsOf, leftOutText } from './word-list.js';
 
 let module;
 let xw;
 // the score of each word, if the list has scores; a word that has none has null
 let scores = new Map();
 let bestScore = 0;
+// the place of the list that each word is from; or null
+let places = null;
 
 const ask = (line) => xw.line(line);
 
@@ -114,6 +117,9 @@ function lettersAt(cells, at) {
   return /[A-Z]/.test(pattern) ? new Set(asked(answers.match(pattern)).map((word) => word[at])) : null;
 }
 
+// The scores of words, and the places of the lists that they are from; each null where the lists have none.
+const knownOf = (words) => ({ scores: scores.size ? words.map((word) => scores.get(word) ?? null) : null, places: places && words.map((word) => places.get(word) ?? null) });
+
 // The words that an entered light could have: those that fit what crosses it as it stands, and those that would if its crossing lights were
 // without their letters in pencil, each with the names of the crossing lights that it needs changed. All is put back before the call ends.
 function alternatives({ light, pencil }) {
@@ -137,7 +143,7 @@ function alternatives({ light, pencil }) {
   const changes = (other) => other.needs.length || Infinity;
   const others = wide.map((word) => ({ word, needs: needs(word) })).sort((a, b) => (changes(a) === changes(b) ? 0 : changes(a) - changes(b))).slice(0, MOST_OTHERS);
   const told = [...fit, ...others.map(({ word }) => word)];
-  return { fit, others, scores: scores.size ? told.map((word) => scores.get(word) ?? null) : null };
+  return { fit, others, ...knownOf(told) };
 }
 
 // The lights that cross one: their names and cells, the number of the cell in them that is shared, and the number of that cell in the other light.
@@ -355,13 +361,14 @@ const calls = {
 
   // Opens a session over word lists, and replays a record. If it cannot, the session before stays.
   open({ sources, personal, least, threes, record }) {
-    const { words: all, scores: scoresRead, ...told } = joinLists(sources, personal);
+    const { words: all, scores: scoresRead, places: placesRead, ...told } = joinLists(sources, personal);
     const words = threes ? all.filter((word) => word.length !== 3 || (scoresRead.get(word) ?? threes) >= threes) : all;
     if (sources.length && !words.length) throw Object.assign(new Error('no word'), { status: 'NoWord', answer: leftOutText(told.leftOut) });
     const other = Xw.open(module, { list: graded(words, scoresRead, told.best), record });
     xw?.close();
     xw = other;
     scores = scoresRead;
+    places = placesRead;
     bestScore = told.best;
     const byGrade = countByGrade(words, scoresRead, told.best);
     const grade = told.scored ? leastGrade(least, told.best, byGrade) : 0;
@@ -399,10 +406,10 @@ const calls = {
     return ask(line);
   },
 
-  // The feasible words of a light, packed, with the scores of those that have one.
+  // The feasible words of a light, packed, with the scores of those that have one, and the places of their lists.
   words({ light }) {
     const words = asked(answers.words(light));
-    return { words: answers.packed(words), scores: scores.size ? words.map((word) => scores.get(word) ?? null) : null };
+    return { words: answers.packed(words), ...knownOf(words) };
   },
 
   // The scores of words, or null for those that have none.

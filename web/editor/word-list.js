@@ -1,7 +1,6 @@
 // Word lists: which lines are words, and why others are left out. The worker has this module too.
 import { toText } from '../xw.js';
 import { lengthsOfSpelling } from './enumeration.js';
-import { UNSCORED, scoreOf } from './grades.js';
 import { formTexts, formerForm, isMost, linesOf, parsed, toHundred } from './list-form.js';
 import { randoms, shuffled } from './random.js';
 
@@ -197,26 +196,6 @@ export function withScores(text, scores) {
   return lines.join('\n').trim();
 }
 
-// Reads lists as one. A word has its best score, or null if no list gives it one; the personal list decides over the others.
-export function joinLists(sources, personal) {
-  const parts = sources.map(({ bytes, form }) => readList(bytes, form));
-  const own = readPersonal(personal);
-  if (parts.length === 1 && !personal.trim()) return parts[0];
-  const scores = new Map();
-  for (const part of parts) for (const word of part.words) scores.set(word, better(scores.get(word) ?? null, part.scores.get(word) ?? null));
-  const best = parts.reduce((most, part) => Math.max(most, part.best), 0);
-  // a word without a score of its own is as good as the best
-  for (const [word, score] of own.words) scores.set(word, score ?? better(best, scores.get(word) ?? null));
-  for (const word of own.hidden) scores.delete(word);
-  const scored = parts.some((part) => part.scored);
-  const rank = (score) => score ?? scoreOf(UNSCORED, best);
-  const words = scored ? [...scores].sort(([, a], [, b]) => rank(b) - rank(a)).map(([word]) => word) : [...scores.keys()];
-  return {
-    words, scores: scored ? scores : new Map(), scored, best, leftOut: sumOf(parts.map((part) => part.leftOut)), folded: parts.reduce((sum, part) => sum + part.folded, 0),
-    asRead: [...new Set(parts.flatMap((part) => part.asRead))],
-  };
-}
-
 // A list shows how its entries part into words if one in so many has a space or a hyphen. Others may write all phrases in one.
 const PARTED = 100;
 const isParted = (spelling) => /[^ -][ -][^ -]/.test(spelling);
@@ -239,14 +218,6 @@ export function enumerationsOf(words, { sources, personal, plain }) {
     found.get(spelled.replace(/[^A-Za-z]/g, '').toUpperCase())?.add(lengthsOfSpelling(spelled));
   }
   return [...found].filter(([, lengths]) => lengths.size === 1).map(([word, [lengths]]) => [word, lengths]);
-}
-
-const better = (one, other) => (one === null || other === null ? one ?? other : Math.max(one, other));
-
-function sumOf(counts) {
-  const sum = {};
-  for (const one of counts) for (const [reason, count] of Object.entries(one)) sum[reason] = (sum[reason] ?? 0) + count;
-  return sum;
 }
 
 export const wordCount = (count) => `${count.toLocaleString('en')} ${count === 1 ? 'word' : 'words'}`;

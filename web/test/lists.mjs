@@ -1,4 +1,4 @@
-// Tests word lists without a browser: how their lines are read. The expected values are worked out by hand.
+// Tests word lists without a browser: how their lines are read, and what several say of a word. The expected values are worked out by hand.
 //
 //   node web/test/lists.mjs
 //
@@ -7,7 +7,7 @@ import { deepStrictEqual as same } from 'node:assert/strict';
 import { Count } from './count.mjs';
 import { pageModules } from './page-modules.mjs';
 
-const { fieldsOf, formOf, linesOf, lookAt, previewText, readList, withColumn } = await pageModules('list-form', 'list-preview', 'word-list');
+const { Lists, OWN, fieldsOf, formOf, joinLists, linesOf, lookAt, previewText, readList, readSource, withColumn } = await pageModules('joined-lists', 'list-form', 'list-preview', 'lists', 'word-list');
 
 const bytes = (text) => new Uint8Array(Buffer.from(text));
 const form = (separator, word, score, scale = 100) => ({ separator, word, score, scale });
@@ -97,6 +97,54 @@ const CASES = {
     const long = lookAt(bytes(Array(9).fill(`9${'-'.repeat(200)}`).join('\n')));
     same([long.words, long.dropped.length, long.dropped[0].text.length, long.range], [0, 5, 60, null]);
     same(lookAt(new Uint8Array()).rows, []);
+  },
+
+  'the first list that gives a word a score decides'() {
+    const source = (text, more = {}) => ({ bytes: bytes(text), ...more });
+    // each word with its score, and the place of its list
+    const joined = (sources, personal = '') => {
+      const { words, scores, places } = joinLists(sources, personal);
+      return Object.fromEntries(words.map((word) => [word, [scores.get(word) ?? null, places?.get(word) ?? null]]));
+    };
+    const [one, two] = [source('cat;10\ncow;80'), source('cat;90\ndog;70')];
+    same(joined([one, two]), { COW: [80, 1], DOG: [70, 2], CAT: [10, 1] });
+    same(joined([two, one]), { CAT: [90, 1], COW: [80, 2], DOG: [70, 1] });
+    // a list without scores gives none, wherever it stands; a word that no list scores has none
+    same(joined([source('cat\nemu'), one]), { COW: [80, 2], CAT: [10, 2], EMU: [null, 1] });
+    same(joined([one, source('cat\nemu')]), { COW: [80, 1], EMU: [null, 2], CAT: [10, 1] });
+    same(joined([source('cat\nemu'), source('emu\nfox')]), { CAT: [null, 1], EMU: [null, 1], FOX: [null, 2] });
+    // the personal list decides over all, and one list alone has no places
+    same(joined([one, two], 'cat;55\n-dog\nfox'), { COW: [80, 1], FOX: [90, OWN], CAT: [55, OWN] });
+    same([joinLists([one], '').places, joinLists([one], 'fox').places.get('COW')], [null, 1]);
+  },
+
+  'offsets of lists'() {
+    const scores = (text, offset, one = null) => Object.fromEntries([...readSource({ bytes: bytes(text), form: one, offset }).scores].sort());
+    same(scores('cat;50\ncow;5\nfox;95', -10), { CAT: 40, COW: 0, FOX: 85 });
+    same(scores('cat;50\ncow;5\nfox;95', 10), { CAT: 60, COW: 15, FOX: 100 });
+    // behind the scale; a fraction stays what it is
+    same(scores('cat;3\ncow;0', -10, form(';', 0, 1, 5)), { CAT: 50, COW: 0 });
+    same(scores('cat;12.3', -10), { CAT: 2.3 });
+    // a list that goes over 100 stays within its best score
+    same(scores('cat;900\ncow;1000', 50), { CAT: 950, COW: 1000 });
+    same([readSource({ bytes: bytes('cat;50'), offset: -10 }).best, readSource({ bytes: bytes('cat\ncow'), offset: 10 }).scored], [40, false]);
+    // what a list says is weighed with its offset, and not what another one says
+    const { scores: joined } = joinLists([{ bytes: bytes('cat;50'), offset: -20 }, { bytes: bytes('cat;90\ncow;40'), offset: 5 }], '');
+    same([...joined], [['CAT', 30], ['COW', 45]]);
+  },
+
+  'the order of lists'() {
+    const names = (lists) => lists.parts.map(({ name }) => name).join(' ');
+    const none = { name: '', bytes: new Uint8Array() };
+    const lists = Lists.builtIn({ name: 'built-in', bytes: bytes('cat') }).adding('one', bytes('cow')).adding('two', bytes('dog'));
+    // the one that was opened last is used alone, and stands first
+    same([names(lists), lists.chosen.sources.map(({ name }) => name)], ['two one built-in', ['two']]);
+    same([names(lists.raising('one')), names(lists.raising('built-in')), names(lists.raising('two')), names(lists.raising('no such'))], ['one two built-in', 'two built-in one', 'two one built-in', 'two one built-in']);
+    same(lists.raising('two') === lists, true);
+    same(names(new Lists({ parts: [...lists.parts.slice(0, 1), { ...none, isOn: true }, ...lists.parts.slice(1)] }).raising('one')), 'one two built-in ');
+    const both = lists.switching('one', true).shifting('one', -10);
+    same(both.chosen.sources.map(({ name, offset }) => [name, offset]), [['two', 0], ['one', -10]]);
+    same([lists.chosen.sources[0].offset, both.switching('one', false).switching('one', true).chosen.sources[1].offset], [0, -10]);
   },
 
   'the lines of any file are read'() {

@@ -2,7 +2,7 @@
 import { writeFileSync } from 'node:fs';
 import { join } from 'node:path';
 import { largeList } from '../time.mjs';
-import { begin, menu, openFile, openList, openRecord, openWords, saved, slideLeast } from '../doing.mjs';
+import { begin, beginBlank, menu, openFile, openList, openRecord, openWords, saved, slideLeast } from '../doing.mjs';
 import { raiseInTime, raiseToTheEnd, workOfLetter } from '../holding.mjs';
 import { browser, expect, forget, page, picture, reload, room, runAlone } from '../page.mjs';
 
@@ -212,6 +212,51 @@ export const CASES = {
     await browser.until("document.getElementById('personal-summary').textContent === 'none yet'");
     await menu('built-in');
     await page.factsAre(/built-in list, 63,\d+ words/);
+  },
+
+  async 'the order of lists, and their offsets'() {
+    await forget();
+    await reload();
+    for (const [name, text] of [['one.txt', 'cat;50\ncot;40\n'], ['two.txt', 'cat;90\ncut;60\n']]) {
+      writeFileSync(join(room, name), text);
+      await openList(join(room, name));
+      await page.factsAre(new RegExp(name));
+    }
+    await browser.click('#tab-puzzle');
+    await browser.click('#lists [data-name="one.txt"]');
+    await page.factsAre(/2 lists, 3 words/);
+    await beginBlank(3, 1);
+    // each candidate with its score, its list and the name of that
+    const candidates = "[...document.querySelectorAll('#candidates li')].map((row) => `${row.dataset.word} ${row.querySelector('.score').textContent} ${row.querySelector('.from').textContent} ${row.querySelector('.from').title}`).join()";
+    const candidatesAre = async (...wanted) => {
+      await browser.click('#tab-words');
+      await browser.until(`${candidates} === '${wanted.join()}'`);
+      await browser.click('#tab-puzzle');
+    };
+    await candidatesAre('CAT 90 1 from two.txt', 'CUT 60 1 from two.txt', 'COT 40 2 from one.txt');
+    await picture('lists-in-order');
+    const shift = (value) => browser.value(`(() => {
+      const field = document.querySelector('#lists [data-offset="one.txt"]');
+      field.value = '${value}';
+      field.dispatchEvent(new Event('change', { bubbles: true }));
+    })()`);
+    await shift(30);
+    await candidatesAre('CAT 90 1 from two.txt', 'COT 70 2 from one.txt', 'CUT 60 1 from two.txt');
+    await browser.click('#lists [data-raise="one.txt"]');
+    await candidatesAre('CAT 80 1 from one.txt', 'COT 70 1 from one.txt', 'CUT 60 2 from two.txt');
+    // what is no offset changes nothing
+    await shift(1000);
+    await browser.until("document.querySelector('#lists [data-offset=\"one.txt\"]').value === '30'");
+    await reload();
+    await browser.click('#cell-1-1');
+    await candidatesAre('CAT 80 1 from one.txt', 'COT 70 1 from one.txt', 'CUT 60 2 from two.txt');
+    await browser.until("[...document.querySelectorAll('#lists label')].map(({ textContent }) => textContent.trim()).join() === '1 one.txt,2 two.txt,built-in list'");
+    await browser.click('#lists [data-raise="two.txt"]');
+    await candidatesAre('CAT 90 1 from two.txt', 'COT 70 2 from one.txt', 'CUT 60 1 from two.txt');
+    await browser.click('#lists-undo');
+    await candidatesAre('CAT 80 1 from one.txt', 'COT 70 1 from one.txt', 'CUT 60 2 from two.txt');
+    await menu('built-in');
+    await page.factsAre(/built-in list/);
   },
 
   async 'Esc while words are typed'() {
