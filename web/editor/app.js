@@ -257,7 +257,7 @@ async function askKey(told, maySearch) {
 }
 
 const lists = new ListsInUse(editor, {
-  mayEdit, stop: () => filler.stop(), soon, shown: () => facts.show(), toGrid, save: (text, name) => files.saveText(text, name), unforeseen, kept,
+  mayEdit, stop: () => filler.stop(), soon, shown: () => facts.show(), toGrid, save: (text, name) => files.saveText(text, name), makeWorker, unforeseen, kept,
 });
 const puzzles = new NewPuzzle(editor, { mayEdit, soon, toGrid, addVersion: () => shelf.addVersion() });
 const printing = new PrintDialog(editor);

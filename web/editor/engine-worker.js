@@ -6,8 +6,9 @@ import { closeNew } from './kin.js';
 import { Making } from './grids/making.js';
 import { reachOf } from './reach.js';
 import { letterIn, lettersOf, withoutLeast } from './record.js';
-import { joinLists } from './joined-lists.js';
+import { joinLists, linesOfList, readOwn } from './joined-lists.js';
 import { lookAt } from './list-preview.js';
+import { rescore } from './rescoring.js';
 import { enumerationsOf, leftOutText } from './word-list.js';
 
 let module;
@@ -429,6 +430,10 @@ const calls = {
 
   // What a list has before it is taken over.
   lookAtList: ({ bytes, chosen }) => lookAt(bytes, chosen),
+
+  // What a rule changes in a list, in a worker of its own, and a list as a file.
+  rescore: ({ source, rule }) => rescore(readOwn(source), source.rescored ?? '', rule),
+  linesOfList,
 
   probe,
   alternatives,

@@ -1,9 +1,11 @@
 // The word lists in use: their changes, one after another, the least score, and what is said of them.
 import { whyNotKept } from './keep.js';
+import { Aside } from './aside.js';
 import { LeastView, leftOf } from './least.js';
 import { ListsView } from './lists-view.js';
 import { endWarning, refusalText, refuseAsIs, say, sayAsIs, warn } from './messages.js';
 import { $ } from './page.js';
+import { RescoreDialog } from './rescore-dialog.js';
 import { foldedText, leftOutText, wordCount, withScores } from './word-list.js';
 
 const MOST_FORMER = 10;
@@ -23,9 +25,10 @@ export class ListsInUse {
   #regraded = new Map();
   #least;
   #view;
+  #aside;
 
   // `actions`: `mayEdit`, `stop` ends a fill, `soon` looks for dead ends, `shown` is told when other lists are shown, `toGrid`, `save` saves a text,
-  // `unforeseen` takes what fails, `kept` is told what takes a text back that Esc keeps.
+  // `makeWorker` makes a worker, `unforeseen` takes what fails, `kept` is told what takes a text back that Esc keeps.
   constructor(editor, actions) {
     this.#editor = editor;
     this.actions = actions;
@@ -37,6 +40,15 @@ export class ListsInUse {
         threes: (score) => this.#useThrees(score), toGrid: actions.toGrid,
       },
     );
+    const rescoring = new RescoreDialog(
+      {
+        dialog: $('rescore-dialog'), title: $('rescore-title'), kind: $('rescore-kind'), text: $('rescore-text'), how: $('rescore-how'), value: $('rescore-value'),
+        preview: $('rescore-preview'), stop: $('rescore-stop'), told: $('rescore-told'), changes: $('rescore-changes'), take: $('rescore-take'), back: $('rescore-back'),
+      },
+      actions.makeWorker,
+      (name, rescored) => this.change((now) => now.rescoring(name, rescored)).catch(actions.unforeseen),
+    );
+    this.#aside = new Aside(actions.makeWorker);
     this.#view = new ListsView(
       {
         list: $('lists'), undo: $('lists-undo'), summary: $('personal-summary'), edit: $('personal-edit'), export: $('personal-export'), dialog: $('personal-dialog'),
@@ -44,9 +56,16 @@ export class ListsInUse {
       },
       {
         change: (changed) => this.change(changed).catch(actions.unforeseen), undo: () => this.#undo().catch(actions.unforeseen),
-        export: (text) => actions.save(text, 'my-words.txt'), kept: actions.kept,
+        export: (text) => actions.save(text, 'my-words.txt'), kept: actions.kept, exportList: (part) => this.#export(part).catch(actions.unforeseen),
+        rescore: (part) => rescoring.open(part),
       },
     );
+  }
+
+  // Saves a list with its own scores.
+  async #export(part) {
+    const text = await this.#aside.ask('linesOfList', part);
+    if (text !== null) this.actions.save(text, `${part.name.replace(/\.\w+$/, '')}.txt`);
   }
 
   // Takes over the lists that the browser keeps, or those that the editor began with.

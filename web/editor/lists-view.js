@@ -8,7 +8,7 @@ export class ListsView {
   #elements;
 
   // `actions`: `change` takes the lists over that a function makes of them, and promises whether they are in use; `undo` takes the last change back;
-  // `export` saves the personal list; `kept` is told what takes a text back that Esc keeps.
+  // `export` saves the personal list, and `exportList` one of the others; `rescore` asks for other scores of one; `kept` is told what takes a text back that Esc keeps.
   constructor(elements, actions) {
     this.#elements = elements;
     this.actions = actions;
@@ -41,7 +41,10 @@ export class ListsView {
     return Math.abs(shift) <= MOST_OFFSET ? this.actions.change((lists) => lists.shifting(offset, shift)) : this.show(this.lists, !this.#elements.undo.disabled);
   }
 
-  async #press({ remove, raise }) {
+  async #press({ remove, raise, rescore, file }) {
+    const named = (name) => this.lists.parts.find((part) => part.name === name);
+    if (rescore) this.actions.rescore(named(rescore));
+    if (file) await this.actions.exportList(named(file));
     if (remove) await this.actions.change((lists) => lists.removing(remove));
     if (raise) await this.actions.change((lists) => lists.raising(raise));
   }
@@ -91,6 +94,7 @@ function row({ name, offset = 0, isOn, isBuiltIn }, at, place) {
   box.dataset.name = name;
   label.append(box, ` ${place ? `${place} ` : ''}${name}`);
   item.append(label, offsetOf(name, offset), ...(at > 0 ? [button('raise', name, '↑', `Puts ${name} before the list above it, so that it decides before that one`)] : []));
+  item.append(button('rescore', name, 'Rescore…', `Other scores for words of ${name}`), button('file', name, 'Export', `Saves ${name} with its scores`));
   if (!isBuiltIn && !isOn) item.append(button('remove', name, 'Remove'));
   return item;
 }
@@ -105,7 +109,7 @@ function offsetOf(name, offset) {
 
 function button(what, name, textContent, title = '') {
   const made = Object.assign(document.createElement('button'), { type: 'button', textContent, title });
-  if (title) made.setAttribute('aria-label', title);
+  made.setAttribute('aria-label', what === 'raise' ? title : `${textContent} ${name}`);
   made.dataset[what] = name;
   return made;
 }

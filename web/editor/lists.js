@@ -63,6 +63,11 @@ export class Lists {
     return this.#changing(name, { offset });
   }
 
+  // With scores of a list that differ from its file, as lines; null for none.
+  rescoring(name, rescored) {
+    return this.#changing(name, { rescored });
+  }
+
   #changing(name, changed) {
     return this.#with({ parts: this.parts.map((part) => (part.name === name ? { ...part, ...changed } : part)) });
   }
@@ -112,7 +117,7 @@ export class Lists {
   get chosen() {
     const on = this.listed.filter(({ isOn }) => isOn);
     const name = on.length === 1 ? on[0].name : on.length ? `${on.length} lists` : '';
-    return { name: name || (this.personal.trim() ? 'my words' : ''), sources: on.map(({ name: one, bytes, form = null, offset = 0 }) => ({ name: one, bytes, form, offset })), personal: this.personal, least: this.least, weak: this.weak, threes: this.threes, apart: this.apart, target: this.target };
+    return { name: name || (this.personal.trim() ? 'my words' : ''), sources: on.map(({ name: one, bytes, form = null, rescored = null, offset = 0 }) => ({ name: one, bytes, form, rescored, offset })), personal: this.personal, least: this.least, weak: this.weak, threes: this.threes, apart: this.apart, target: this.target };
   }
 }
 

@@ -1,4 +1,4 @@
-// Tests word lists without a browser: how their lines are read, and what several say of a word. The expected values are worked out by hand.
+// Tests word lists without a browser: how their lines are read, what several say of a word, and other scores for words. The expected values are worked out by hand.
 //
 //   node web/test/lists.mjs
 //
@@ -7,7 +7,9 @@ import { deepStrictEqual as same } from 'node:assert/strict';
 import { Count } from './count.mjs';
 import { pageModules } from './page-modules.mjs';
 
-const { Lists, OWN, fieldsOf, formOf, joinLists, linesOf, lookAt, previewText, readList, readSource, withColumn } = await pageModules('joined-lists', 'list-form', 'list-preview', 'lists', 'word-list');
+const {
+  Lists, OWN, faultOf, fieldsOf, formOf, joinLists, linesOf, linesOfList, lookAt, previewText, readList, readOwn, readSource, rescore, rescoredText, withColumn,
+} = await pageModules('joined-lists', 'list-form', 'list-preview', 'lists', 'rescoring', 'word-list');
 
 const bytes = (text) => new Uint8Array(Buffer.from(text));
 const form = (separator, word, score, scale = 100) => ({ separator, word, score, scale });
@@ -145,6 +147,66 @@ const CASES = {
     const both = lists.switching('one', true).shifting('one', -10);
     same(both.chosen.sources.map(({ name, offset }) => [name, offset]), [['two', 0], ['one', -10]]);
     same([lists.chosen.sources[0].offset, both.switching('one', false).switching('one', true).chosen.sources[1].offset], [0, -10]);
+  },
+
+  'words that a rule finds, and their scores'() {
+    const list = { bytes: bytes('cat;80\ncats;70\nbat;60\ntab;5\nice cream;50') };
+    const changes = (rule, source = list) => rescore(readOwn(source), source.rescored ?? '', rule).first.map(({ word, from, to }) => `${word} ${from} ${to}`).sort();
+    const rule = (kind, text, how, value) => ({ kind, text, how, value });
+    // a pattern is for whole words; small letters are the same
+    same(changes(rule('pattern', '?AT', 'to', 10)), ['BAT 60 10', 'CAT 80 10']);
+    same(changes(rule('pattern', '?at*', 'to', 10)), ['BAT 60 10', 'CAT 80 10', 'CATS 70 10']);
+    same(changes(rule('pattern', 'CAT', 'by', -100)), ['CAT 80 0']);
+    same(changes(rule('pattern', '*', 'by', 40)), ['BAT 60 100', 'CAT 80 100', 'CATS 70 100', 'ICECREAM 50 90', 'TAB 5 45']);
+    // a regular expression is looked for anywhere, in the letters alone
+    same(changes(rule('regular', 'at', 'to', 10)), ['BAT 60 10', 'CAT 80 10', 'CATS 70 10']);
+    same(changes(rule('regular', '^.at$|ecr', 'by', 0.5)), ['BAT 60 60.5', 'CAT 80 80.5', 'ICECREAM 50 50.5']);
+    // a word that has the score already does not change
+    same(rescore(readOwn(list), '', rule('pattern', '?AT', 'to', 80)), { found: 2, changed: 1, first: [{ word: 'BAT', from: 60, to: 80 }], rescored: 'BAT;80\n' });
+    // a word without a score only gets one that is given; a list that goes over 100 stays within its best score
+    const plain = { bytes: bytes('cat\ndog') };
+    same([changes(rule('pattern', 'CAT', 'by', 5), plain), changes(rule('pattern', 'CAT', 'to', 5), plain)], [[], ['CAT null 5']]);
+    same(changes(rule('pattern', '*', 'to', 5000), { bytes: bytes('cat;900\ndog;1000') }), ['CAT 900 1000']);
+  },
+
+  'a hundred changes are shown, and all are made'() {
+    const letters = 'ABCDEFGHIJKLMNOPQRSTUVWXYZ';
+    const lines = [...letters].flatMap((one) => [...letters].map((other) => `${one}${other}A;50`));
+    const source = { bytes: bytes(lines.join('\n')) };
+    const { found, changed, first, rescored } = rescore(readOwn(source), '', { kind: 'pattern', text: '??A', how: 'to', value: 20 });
+    same([found, changed, first.length, rescored.split('\n').filter(Boolean).length], [676, 676, 100, 676]);
+    same(rescoredText({ found, changed }), '676 words found; all change; the first 100 are here.');
+    same([{ found: 0, changed: 0 }, { found: 1, changed: 1 }, { found: 3, changed: 0 }, { found: 1200, changed: 2 }].map(rescoredText), [
+      'No word of the list is found.', '1 word found; all changes.', '3 words found; none changes.', '1,200 words found; 2 words change.',
+    ]);
+  },
+
+  'rules that find nothing'() {
+    const fault = (kind, text, how = 'to', value = 50) => faultOf({ kind, text, how, value });
+    same([fault('pattern', '?at*'), fault('regular', '^.at$'), fault('pattern', 'cat', 'by', -10)], ['', '', '']);
+    same([fault('pattern', ' '), fault('regular', '')], ['type a pattern, such as ?AT or *ING', 'type a regular expression, such as ING$']);
+    same(['c.t', 'c[au]t', 'ice cream'].map((text) => fault('pattern', text)), Array(3).fill('a pattern has the letters A to Z, ? and * alone'));
+    same(['(', '[', '*'].map((text) => fault('regular', text).startsWith('that is no regular expression: ')), [true, true, true]);
+    same([fault('pattern', 'cat', 'to', NaN), fault('pattern', 'cat', 'to', -1), fault('pattern', 'cat', 'by', Infinity)], ['a score is a number from 0 on', 'a score is a number from 0 on', 'type a number']);
+  },
+
+  'scores that differ from the file'() {
+    const source = { bytes: bytes('cat;80\nice cream;70\nbat;60\ncow;-1'), rescored: 'BAT;90\nCAT;12.5\nEMU;70\n' };
+    // a word that the list does not have is none of it
+    same([...readOwn(source).scores].sort(), [['BAT', 90], ['CAT', 12.5], ['ICECREAM', 70]]);
+    same([readOwn(source).words, readOwn(source).best], [['BAT', 'ICECREAM', 'CAT'], 90]);
+    // the next rule goes on from there, and the offset comes behind it
+    same(rescore(readOwn(source), source.rescored, { kind: 'pattern', text: '?AT', how: 'by', value: -2.5 }).rescored, 'BAT;87.5\nCAT;10\nEMU;70\n');
+    same([...readSource({ ...source, offset: -20 }).scores].sort(), [['BAT', 70], ['CAT', 0], ['ICECREAM', 50]]);
+    // a file of it has neither the offset nor what is left out
+    same(linesOfList({ ...source, offset: -20 }), 'BAT;90\nCAT;12.5\nICECREAM;70\n');
+    same([linesOfList({ bytes: bytes('cow\ncat') }), linesOfList({ bytes: bytes('cow\ncat'), rescored: 'COW;5\n' })], ['CAT\nCOW\n', 'CAT\nCOW;5\n']);
+    same(linesOfList({ bytes: bytes(linesOfList(source)) }), linesOfList(source));
+    // the list stays one that can be used with others
+    const { scores, places } = joinLists([source, { bytes: bytes('cat;99\nfox;20') }], '');
+    same([[...scores].sort(), [...places].sort()], [[['BAT', 90], ['CAT', 12.5], ['FOX', 20], ['ICECREAM', 70]], [['BAT', 1], ['CAT', 1], ['FOX', 2], ['ICECREAM', 1]]]);
+    const lists = new Lists({ parts: [{ name: 'a', bytes: bytes('cat;1'), isOn: true }] }).rescoring('a', 'CAT;7\n');
+    same([lists.chosen.sources[0].rescored, lists.rescoring('a', null).chosen.sources[0].rescored], ['CAT;7\n', null]);
   },
 
   'the lines of any file are read'() {

@@ -259,6 +259,78 @@ export const CASES = {
     await page.factsAre(/built-in list/);
   },
 
+  async 'other scores for words of a list'() {
+    await forget();
+    await reload();
+    const name = 'own-scores.dict';
+    const long = `${'a'.repeat(60)}b`;
+    writeFileSync(join(room, name), `cat;80\ncats;70\nbat;60\ntab;5\n${long};1\n`);
+    await openList(join(room, name));
+    await page.factsAre(/own-scores.dict, 5 words/);
+    await browser.click('#tab-puzzle');
+    const press = (what) => browser.click(`#lists [data-${what}="${name}"]`);
+    const lines = async () => (await saved('own-scores.txt', () => press('file'))).toString().split('\n').filter((line) => line.length < 60).join(' ').trim();
+    const set = (id, value) => browser.value(`(() => {
+      const field = document.getElementById('rescore-${id}');
+      field.value = ${JSON.stringify(value)};
+      field.dispatchEvent(new Event('input', { bubbles: true }));
+    })()`);
+    const toldIs = (text) => browser.until(`document.getElementById('rescore-told').textContent === ${JSON.stringify(text)}`);
+    const asking = async (kind, text, how, value) => {
+      for (const [id, one] of Object.entries({ kind, text, how, value })) await set(id, one);
+      await browser.value("document.getElementById('rescore-text').focus()");
+      await browser.press('Enter');
+    };
+    await press('rescore');
+    await asking('pattern', '?at', 'to', '10');
+    await toldIs('2 words found; all change.');
+    const shown = await browser.value("[...document.querySelectorAll('#rescore-changes tr')].map((row) => [...row.children].map(({ textContent }) => textContent).join(' ')).join()");
+    expect(shown === 'Word Now Then,CAT 80 10,BAT 60 10', `shown: ${shown}`);
+    await picture('rescore');
+    // Esc changes nothing, and what is typed after the preview asks anew
+    await browser.press('Escape');
+    expect((await lines()) === 'BAT;60 CAT;80 CATS;70 TAB;5', 'a score is changed');
+    await press('rescore');
+    await asking('regular', 'at', 'to', '10');
+    await toldIs('3 words found; all change.');
+    await set('text', '^.at');
+    expect(await browser.value("document.getElementById('rescore-take').disabled"), 'what is not shown can be taken over');
+    await asking('regular', '(', 'to', '10');
+    await browser.until("document.getElementById('rescore-told').textContent.startsWith('that is no regular expression')");
+    // one that has no end is stopped
+    await asking('regular', '^(A+)+$', 'to', '10');
+    await browser.click('#rescore-stop');
+    await toldIs('Stopped: nothing is changed.');
+    await asking('regular', '^.at', 'by', '-20');
+    await toldIs('3 words found; all change.');
+    // Enter takes over what is shown
+    await browser.press('Enter');
+    await page.statusIs(/^own-scores.dict: 5 words, the best scores first$/i);
+    expect((await lines()) === 'BAT;40 CAT;60 CATS;50 TAB;5', 'the scores are others');
+    await beginBlank(3, 1);
+    await browser.click('#tab-words');
+    await browser.until("[...document.querySelectorAll('#candidates li')].map((row) => `${row.dataset.word} ${row.querySelector('.score').textContent}`).join() === 'CAT 60,BAT 40,TAB 5'");
+    await browser.click('#tab-puzzle');
+    await press('rescore');
+    await asking('pattern', 'T*', 'to', '95');
+    await toldIs('1 word found; all changes.');
+    await browser.press('Enter');
+    await browser.until("!document.getElementById('rescore-dialog').open");
+    await browser.until("!document.getElementById('lists-undo').disabled && document.getElementById('least').max === '95'");
+    await browser.click('#lists-undo');
+    await browser.until("document.getElementById('least').max === '60'");
+    expect((await lines()) === 'BAT;40 CAT;60 CATS;50 TAB;5', 'undo leaves other scores');
+    await reload();
+    await browser.click('#tab-puzzle');
+    expect((await lines()) === 'BAT;40 CAT;60 CATS;50 TAB;5', 'the scores are not kept');
+    await press('rescore');
+    await browser.click('#rescore-back');
+    await browser.until("document.getElementById('least').max === '80'");
+    expect((await lines()) === 'BAT;60 CAT;80 CATS;70 TAB;5', 'the scores of the file are not back');
+    await menu('built-in');
+    await page.factsAre(/built-in list/);
+  },
+
   async 'Esc while words are typed'() {
     const summaryIs = (text) => browser.until(`document.getElementById('personal-summary').textContent === '${text}'`);
     const isClosed = () => browser.until("!document.getElementById('personal-dialog').open");
