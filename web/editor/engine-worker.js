@@ -14,10 +14,13 @@ import { enumerationsOf, leftOutText } from './word-list.js';
 let module;
 let xw;
 // the score of each word, if the list has scores; a word that has none has null
+/** @type {{ get: (word: string) => number | null | undefined }} */
 let scores = new Map();
+let isScored = false;
 let bestScore = 0;
-// the place of the list that each word is from; or null
-let places = null;
+// tells the place of the list that a word is from; or null
+/** @type {((word: string) => number) | null} */
+let placeOf = null;
 
 const ask = (line) => xw.line(line);
 
@@ -119,7 +122,7 @@ function lettersAt(cells, at) {
 }
 
 // The scores of words, and the places of the lists that they are from; each null where the lists have none.
-const knownOf = (words) => ({ scores: scores.size ? words.map((word) => scores.get(word) ?? null) : null, places: places && words.map((word) => places.get(word) ?? null) });
+const knownOf = (words) => ({ scores: isScored ? words.map((word) => scores.get(word) ?? null) : null, places: placeOf && words.map(placeOf) });
 
 // The words that an entered light could have: those that fit what crosses it as it stands, and those that would if its crossing lights were
 // without their letters in pencil, each with the names of the crossing lights that it needs changed. All is put back before the call ends.
@@ -265,19 +268,18 @@ const MOST_JUDGED = 2000;
 const MOST_OTHERS = 100;
 
 // The word list for the engine, with a grade for each word that has a score.
-function graded(words, scoresRead, best) {
-  if (!scoresRead.size) return words.join('\n');
+function graded(words, known, best) {
   const line = (word, score) => (score === null ? word : `${word};${gradeOf(score, best)}`);
-  return words.map((word) => line(word, scoresRead.get(word) ?? null)).join('\n');
+  return words.map((word, at) => line(word, known[at])).join('\n');
 }
 
 // The grade that the engine has for a word of a list by its score, or by none.
 const gradeInList = (score, best) => (score === null ? UNSCORED : gradeOf(score, best));
 
 // How many words have each grade.
-function countByGrade(words, scoresRead, best) {
+function countByGrade(known, best) {
   const byGrade = new Uint32Array(MOST + 1);
-  for (const word of words) byGrade[gradeInList(scoresRead.get(word) ?? null, best)]++;
+  for (const score of known) byGrade[gradeInList(score, best)]++;
   return byGrade;
 }
 
@@ -362,16 +364,18 @@ const calls = {
 
   // Opens a session over word lists, and replays a record. If it cannot, the session before stays.
   open({ sources, personal, least, threes, record }) {
-    const { words: all, scores: scoresRead, places: placesRead, ...told } = joinLists(sources, personal);
+    const { words: all, scores: scoresRead, placeOf: placeRead, ...told } = joinLists(sources, personal);
     const words = threes ? all.filter((word) => word.length !== 3 || (scoresRead.get(word) ?? threes) >= threes) : all;
     if (sources.length && !words.length) throw Object.assign(new Error('no word'), { status: 'NoWord', answer: leftOutText(told.leftOut) });
-    const other = Xw.open(module, { list: graded(words, scoresRead, told.best), record });
+    const known = words.map((word) => scoresRead.get(word) ?? null);
+    const other = Xw.open(module, { list: told.scored ? graded(words, known, told.best) : words.join('\n'), record });
     xw?.close();
     xw = other;
     scores = scoresRead;
-    places = placesRead;
+    isScored = told.scored;
+    placeOf = placeRead;
     bestScore = told.best;
-    const byGrade = countByGrade(words, scoresRead, told.best);
+    const byGrade = countByGrade(known, told.best);
     const grade = told.scored ? leastGrade(least, told.best, byGrade) : 0;
     if (grade) ask(`least ${grade}`);
     ask('watch on');

@@ -1,7 +1,7 @@
 // Several word lists as one, with the personal list. The worker has this module.
 import { MOST, UNSCORED, scoreOf } from './grades.js';
 import { scoreLines, scoresIn } from './rescoring.js';
-import { readList, readPersonal } from './word-list.js';
+import { bestFirst, readList, readPersonal } from './word-list.js';
 
 // A list as it is read: `form` says how its lines have words and scores, and is null where they tell it themselves; `rescored` has the
 // scores that differ from the file, as lines, and `offset` is added to all.
@@ -18,17 +18,14 @@ const shifted = (score, offset, best) => (score === null ? null : Math.max(0, Ma
 export function readOwn(source) {
   const list = readList(source.bytes, source.form ?? null);
   if (!source.rescored) return list;
-  const scores = new Map(list.words.map((word) => [word, list.scores.get(word) ?? null]));
-  for (const [word, score] of scoresIn(source.rescored)) if (scores.has(word)) scores.set(word, score);
-  const best = [...scores.values()].reduce((most, score) => Math.max(most, score ?? 0), 0);
-  return { ...list, words: bestFirst(scores, best), scores, best, scored: true };
+  const { known } = list;
+  for (const [word, score] of scoresIn(source.rescored)) if (known.has(word)) known.set(word, score);
+  const best = [...known.values()].reduce((most, score) => Math.max(most, score ?? 0), 0);
+  return { ...list, words: ranked(list.words, known, best), scores: known, best, scored: true };
 }
 
 // Words with the best scores first.
-function bestFirst(scores, best) {
-  const rank = (score) => score ?? scoreOf(UNSCORED, best);
-  return [...scores].sort(([, one], [, other]) => rank(other) - rank(one)).map(([word]) => word);
-}
+const ranked = (words, scores, best) => bestFirst(words, (word) => scores.get(word) ?? scoreOf(UNSCORED, best));
 
 // Reads a list, with its offset added to its scores.
 /** @param {Source} source */
@@ -36,24 +33,46 @@ export function readSource(source) {
   const { offset = 0 } = source;
   const list = readOwn(source);
   if (!offset || !list.scored) return list;
-  const scores = new Map([...list.scores].map(([word, score]) => [word, shifted(score, offset, list.best)]));
-  return { ...list, scores, best: shifted(list.best, offset, list.best) };
+  for (const [word, score] of list.known) list.known.set(word, shifted(score, offset, list.best));
+  return { ...list, best: shifted(list.best, offset, list.best) };
 }
 
-// The score of each word in the first list that gives it one, or null if none does; and the place of that list, from 1, or of the first that has the word.
-function firstScores(lists) {
-  const [scores, places] = [new Map(), new Map()];
-  const take = (word, score, place) => {
-    const had = scores.get(word);
-    if (had !== undefined && (had !== null || score === null)) return;
-    scores.set(word, score);
-    places.set(word, place);
-  };
-  lists.forEach((list, at) => list.words.forEach((word) => take(word, list.scores.get(word) ?? null, at + 1)));
-  return { scores, places };
-}
+// What several lists say of words, which are looked up in each: lists are large, so they are not put together once more.
+class Several {
+  #lists;
+  #own;
+  #best;
 
-const better = (one, other) => (one === null || other === null ? one ?? other : Math.max(one, other));
+  /** @param {{ known: Map<string, number | null>, best: number }[]} lists */
+  constructor(lists, own) {
+    this.#lists = lists;
+    this.#own = own;
+    this.#best = lists.reduce((most, { best }) => Math.max(most, best), 0);
+  }
+
+  get best() {
+    return this.#best;
+  }
+
+  // The place of the list that decides over a word: OWN, that of the first list that gives it a score, or else of the first that has it; 0 is also that of none.
+  placeOf(word) {
+    return this.#own.words.has(word) ? OWN : this.#decides(word) + 1;
+  }
+
+  #decides(word) {
+    const first = this.#lists.findIndex(({ known }) => (known.get(word) ?? null) !== null);
+    return first < 0 ? this.#lists.findIndex(({ known }) => known.has(word)) : first;
+  }
+
+  // The score of a word, or null. One of the personal list that has none there is as good as the best.
+  get(word) {
+    const own = this.#own.words.get(word);
+    if (this.#own.hidden.has(word)) return null;
+    if (own !== undefined && own !== null) return own;
+    const score = this.#lists[this.#decides(word)]?.known.get(word) ?? null;
+    return own === undefined ? score : Math.max(this.#best, score ?? 0);
+  }
+}
 
 function sumOf(counts) {
   const sum = {};
@@ -61,30 +80,26 @@ function sumOf(counts) {
   return sum;
 }
 
-// Reads lists as one. Of several that have a word, the first one that gives it a score decides; the personal list decides over all. `places` has where each
-// word is from, as OWN or the place of its list; it is null if there is one list alone.
+// Reads lists as one. Of several that have a word, the first one that gives it a score decides; the personal list decides over all. `placeOf` tells where a word
+// is from, as OWN or the place of its list; it is null if there is one list alone.
 /** @param {Source[]} sources */
 export function joinLists(sources, personal) {
   const lists = sources.map(readSource);
-  if (lists.length === 1 && !personal.trim()) return { ...lists[0], places: null };
+  if (lists.length === 1 && !personal.trim()) return { ...toldOf(lists), words: lists[0].words, scores: lists[0].scores, placeOf: null };
   const own = readPersonal(personal);
-  const { scores, places } = firstScores(lists);
-  const best = lists.reduce((most, list) => Math.max(most, list.best), 0);
-  // a word without a score of its own is as good as the best
-  for (const [word, score] of own.words) scores.set(word, score ?? better(best, scores.get(word) ?? null));
-  for (const word of own.words.keys()) places.set(word, OWN);
-  for (const word of own.hidden) scores.delete(word);
+  const several = new Several(lists, own);
   const scored = lists.some((list) => list.scored);
-  const words = scored ? bestFirst(scores, best) : [...scores.keys()];
-  return {
-    words, scores: scored ? scores : new Map(), scored, best, leftOut: sumOf(lists.map((list) => list.leftOut)), folded: lists.reduce((sum, list) => sum + list.folded, 0),
-    asRead: [...new Set(lists.flatMap((list) => list.asRead))], places,
-  };
+  const ofList = (list, at) => list.words.filter((word) => several.placeOf(word) === at + 1 && !own.hidden.has(word));
+  const all = [...lists.flatMap(ofList), ...[...own.words.keys()].filter((word) => !own.hidden.has(word))];
+  return { ...toldOf(lists), words: scored ? ranked(all, several, several.best) : all, scores: scored ? several : new Map(), placeOf: (word) => several.placeOf(word) };
 }
+
+// What is told of lists beside their words.
+const toldOf = (lists) => ({
+  scored: lists.some((list) => list.scored), best: lists.reduce((most, { best }) => Math.max(most, best), 0), leftOut: sumOf(lists.map((list) => list.leftOut)),
+  folded: lists.reduce((sum, list) => sum + list.folded, 0), asRead: [...new Set(lists.flatMap((list) => list.asRead))],
+});
 
 // A list with its own scores, as lines of a file.
 /** @param {Source} source */
-export function linesOfList(source) {
-  const { words, scores } = readOwn(source);
-  return scoreLines(new Map(words.map((word) => [word, scores.get(word) ?? null])));
-}
+export const linesOfList = (source) => scoreLines(readOwn(source).known);

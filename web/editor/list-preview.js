@@ -21,8 +21,8 @@ export function lookAt(bytes, chosen = {}) {
   const lines = linesOf(listText(bytes));
   const form = formOf(lines, chosen);
   const { words, scores, leftOut, dropped, folded } = readLines(lines, form);
-  const known = [...scores.values()];
-  const range = known.length ? /** @type {[number, number]} */ ([known.at(-1), known[0]]) : null;
+  // the best scores are first
+  const range = scores.size ? /** @type {[number, number]} */ ([scores.get(words.at(-1)), scores.get(words[0])]) : null;
   return { form, rows: lines.slice(0, SHOWN).map((line) => fieldsOf(line, form)), words: words.length, range, leftOut, dropped, folded };
 }
 

@@ -75,32 +75,66 @@ function isAlphabetical(spellings) {
   return 10 * ordered > 9 * (spellings.length - 1);
 }
 
-// The numbers of lines by their scores, the best first.
-function bestFirst(order, lines) {
-  /** @type {Map<number, number[]>} */
+// Things by their scores, the best first; equal ones stay in their order.
+/**
+ * @template T
+ * @param {T[]} things
+ * @param {(thing: T) => number} scoreOf
+ */
+export function bestFirst(things, scoreOf) {
+  /** @type {Map<number, T[]>} */
   const byScore = new Map();
-  for (const at of order) {
-    const score = lines[at].score ?? 0;
-    if (byScore.has(score)) byScore.get(score).push(at);
-    else byScore.set(score, [at]);
+  for (const thing of things) {
+    const score = scoreOf(thing);
+    const equal = byScore.get(score);
+    if (equal) equal.push(thing);
+    else byScore.set(score, [thing]);
   }
-  return [...byScore].sort(([one], [other]) => other - one).flatMap(([, some]) => some);
-}
-
-// The numbers of lines with the best scores first. Equal ones come in an order that says nothing, and not in that of the alphabet. A list without scores that
-// is in another order keeps it.
-function inOrder(lines, scored) {
-  const order = lines.map((_, at) => at);
-  const mixed = scored || isAlphabetical(lines.map(({ spelling }) => spelling)) ? shuffled(order, randoms(lines.length)) : order;
-  return scored ? bestFirst(mixed, lines) : mixed;
+  return [...byScore].sort(([one], [other]) => other - one).flatMap(([, equal]) => equal);
 }
 
 // The letters of a spelling without accents, in capitals.
 const capitals = (spelled) => (/^[A-Z]*$/.test(spelled) ? spelled : spelled.replace(/[^A-Za-z]/g, '').toUpperCase());
 
-// Reads a list: its words in capitals, each once, the best scores first if it has scores; the scores of these words; the best score of the list; how many lines
-// are left out, by reason, and the first few of them; how many words were spelled with accents; and how its scores were read. `form` says how its lines have
-// words and scores; without it they tell that.
+// What lines have, each in the order of the file: their letters and scores; the numbers of those that are left out, with why; of those with accents; and for
+// each word the number of its line, which is that of its best score.
+function columnsOf(lines, form) {
+  const scored = form.score !== null;
+  const [letters, scores] = [new Array(lines.length), new Float64Array(lines.length)];
+  /** @type {Map<number, string>} */
+  const leftOut = new Map();
+  /** @type {Map<string, number>} */
+  const found = new Map();
+  const folded = [];
+  lines.forEach((line, at) => {
+    const { spelling, score } = parsed(line, form);
+    const spelled = unaccented(spelling);
+    const word = capitals(spelled);
+    const reason = reasonToLeave(spelled, word, score, scored);
+    letters[at] = word;
+    scores[at] = score ?? 0;
+    if (reason) return leftOut.set(at, reason);
+    if (spelled !== spelling) folded.push(at);
+    const other = found.get(word);
+    const isBetter = other === undefined || scores[other] < score;
+    if (isBetter) found.set(word, at);
+    if (other !== undefined) leftOut.set(isBetter ? other : at, 'repeated');
+  });
+  return { letters, scores, leftOut, found, folded };
+}
+
+// The numbers of lines with the best scores first. Equal ones come in an order that says nothing, and not in that of the alphabet. A list without scores that
+// is in another order keeps it.
+function inOrder(lines, form, scores) {
+  const order = lines.map((_, at) => at);
+  const isMixed = form.score !== null || isAlphabetical(lines.map((line) => parsed(line, form).spelling));
+  const mixed = isMixed ? shuffled(order, randoms(lines.length)) : order;
+  return form.score === null ? mixed : bestFirst(mixed, (at) => scores[at]);
+}
+
+// Reads a list: its words in capitals, each once, the best scores first if it has scores; `known` has the score of each, or null, and `scores` the same if
+// there are scores; the best score of the list; how many lines are left out, by reason, and the first few of them; how many words were spelled with accents; and how its scores were read. `form` says how its
+// lines have words and scores; without it they tell that.
 /** @param {import('./list-form.js').Form | null} form */
 export function readList(bytes, form = null) {
   const lines = linesOf(listText(bytes));
@@ -108,24 +142,17 @@ export function readList(bytes, form = null) {
 }
 
 /** @param {import('./list-form.js').Form} form */
-export function readLines(whole, form) {
+export function readLines(lines, form) {
   const scored = form.score !== null;
-  const lines = whole.map((line) => parsed(line, form));
-  const words = new Map();
-  const leftOut = [];
-  let folded = 0;
-  for (const at of inOrder(lines, scored)) {
-    const { spelling, score } = lines[at];
-    const spelled = unaccented(spelling);
-    const letters = capitals(spelled);
-    const reason = reasonToLeave(spelled, letters, score, scored) ?? (words.has(letters) ? 'repeated' : null);
-    if (reason) leftOut.push({ at, reason });
-    else words.set(letters, toHundred(score, form.scale));
-    if (!reason && spelled !== spelling) folded++;
-  }
-  const best = scored ? toHundred(lines.reduce((most, { score }) => Math.max(most, score ?? 0), 0), form.scale) : 0;
+  const { letters, scores, leftOut, found, folded } = columnsOf(lines, form);
+  const words = inOrder(lines, form, scores).filter((at) => !leftOut.has(at)).map((at) => letters[at]);
+  const best = scored ? toHundred(scores.reduce((most, score) => Math.max(most, score), 0), form.scale) : 0;
+  /** @type {Map<string, number | null>} */
+  const known = found;
+  for (const [word, at] of found) known.set(word, scored ? toHundred(scores[at], form.scale) : null);
   return {
-    words: [...words.keys()], scores: scored ? words : new Map(), scored, best, leftOut: countsOf(leftOut), dropped: firstOf(leftOut, whole), folded, asRead: formTexts(form),
+    words, known, scores: scored ? known : new Map(), scored, best, leftOut: countsOf([...leftOut.values()]), dropped: firstOf(leftOut, lines), folded: folded.filter((at) => !leftOut.has(at)).length,
+    asRead: formTexts(form),
   };
 }
 
@@ -134,15 +161,15 @@ const MOST_NAMED = 5;
 const MOST_OF_LINE = 60;
 
 // How many lines are left out for each reason.
-function countsOf(leftOut) {
+function countsOf(reasons) {
   /** @type {Record<string, number>} */
   const counts = {};
-  for (const { reason } of leftOut) counts[reason] = (counts[reason] ?? 0) + 1;
+  for (const reason of reasons) counts[reason] = (counts[reason] ?? 0) + 1;
   return counts;
 }
 
 // The first lines that are left out, and why.
-const firstOf = (leftOut, whole) => [...leftOut].sort((one, other) => one.at - other.at).slice(0, MOST_NAMED).map(({ at, reason }) => ({ text: whole[at].slice(0, MOST_OF_LINE), why: WHY[reason](1) }));
+const firstOf = (leftOut, lines) => [...leftOut].sort(([one], [other]) => one - other).slice(0, MOST_NAMED).map(([at, reason]) => ({ text: lines[at].slice(0, MOST_OF_LINE), why: WHY[reason](1) }));
 
 // A line of the personal list: { letters, isHidden, score, spelling }. `letters` is '' if it has no word.
 function personalLine(line) {

@@ -105,8 +105,8 @@ const CASES = {
     const source = (text, more = {}) => ({ bytes: bytes(text), ...more });
     // each word with its score, and the place of its list
     const joined = (sources, personal = '') => {
-      const { words, scores, places } = joinLists(sources, personal);
-      return Object.fromEntries(words.map((word) => [word, [scores.get(word) ?? null, places?.get(word) ?? null]]));
+      const { words, scores, placeOf } = joinLists(sources, personal);
+      return Object.fromEntries(words.map((word) => [word, [scores.get(word) ?? null, placeOf?.(word) ?? null]]));
     };
     const [one, two] = [source('cat;10\ncow;80'), source('cat;90\ndog;70')];
     same(joined([one, two]), { COW: [80, 1], DOG: [70, 2], CAT: [10, 1] });
@@ -117,7 +117,7 @@ const CASES = {
     same(joined([source('cat\nemu'), source('emu\nfox')]), { CAT: [null, 1], EMU: [null, 1], FOX: [null, 2] });
     // the personal list decides over all, and one list alone has no places
     same(joined([one, two], 'cat;55\n-dog\nfox'), { COW: [80, 1], FOX: [90, OWN], CAT: [55, OWN] });
-    same([joinLists([one], '').places, joinLists([one], 'fox').places.get('COW')], [null, 1]);
+    same([joinLists([one], '').placeOf, joinLists([one], 'fox').placeOf('COW')], [null, 1]);
   },
 
   'offsets of lists'() {
@@ -131,8 +131,8 @@ const CASES = {
     same(scores('cat;900\ncow;1000', 50), { CAT: 950, COW: 1000 });
     same([readSource({ bytes: bytes('cat;50'), offset: -10 }).best, readSource({ bytes: bytes('cat\ncow'), offset: 10 }).scored], [40, false]);
     // what a list says is weighed with its offset, and not what another one says
-    const { scores: joined } = joinLists([{ bytes: bytes('cat;50'), offset: -20 }, { bytes: bytes('cat;90\ncow;40'), offset: 5 }], '');
-    same([...joined], [['CAT', 30], ['COW', 45]]);
+    const { words, scores: joined } = joinLists([{ bytes: bytes('cat;50'), offset: -20 }, { bytes: bytes('cat;90\ncow;40'), offset: 5 }], '');
+    same(words.map((word) => [word, joined.get(word)]), [['COW', 45], ['CAT', 30]]);
   },
 
   'the order of lists'() {
@@ -203,8 +203,8 @@ const CASES = {
     same([linesOfList({ bytes: bytes('cow\ncat') }), linesOfList({ bytes: bytes('cow\ncat'), rescored: 'COW;5\n' })], ['CAT\nCOW\n', 'CAT\nCOW;5\n']);
     same(linesOfList({ bytes: bytes(linesOfList(source)) }), linesOfList(source));
     // the list stays one that can be used with others
-    const { scores, places } = joinLists([source, { bytes: bytes('cat;99\nfox;20') }], '');
-    same([[...scores].sort(), [...places].sort()], [[['BAT', 90], ['CAT', 12.5], ['FOX', 20], ['ICECREAM', 70]], [['BAT', 1], ['CAT', 1], ['FOX', 2], ['ICECREAM', 1]]]);
+    const { words, scores, placeOf } = joinLists([source, { bytes: bytes('cat;99\nfox;20') }], '');
+    same(words.map((word) => [word, scores.get(word), placeOf(word)]), [['BAT', 90, 1], ['ICECREAM', 70, 1], ['FOX', 20, 2], ['CAT', 12.5, 1]]);
     const lists = new Lists({ parts: [{ name: 'a', bytes: bytes('cat;1'), isOn: true }] }).rescoring('a', 'CAT;7\n');
     same([lists.chosen.sources[0].rescored, lists.rescoring('a', null).chosen.sources[0].rescored], ['CAT;7\n', null]);
   },
