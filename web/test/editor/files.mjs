@@ -2,6 +2,7 @@
 import { mkdirSync, readdirSync, rmSync, writeFileSync } from 'node:fs';
 import { join } from 'node:path';
 import { Xw, toBytes } from '../../dist/xw.js';
+import { takeList } from '../browser.mjs';
 import { begin, faultsShown, hush, menu, openAnyway, openFile, openList, openRecord, print, saved } from '../doing.mjs';
 import { isDrafted } from '../holding.mjs';
 import { browser, expect, module, page, picture, pictures, reload, room, runAlone } from '../page.mjs';
@@ -414,6 +415,7 @@ export const CASES = {
     expect((await page.rows()).join() === 'CAT,A#O,TEE', `the grid is ${await page.rows()}`);
     await page.factsAre(/built-in list/);
     await asked('list');
+    await takeList(browser);
     await page.factsAre(/rows.txt, 3 words/);
     await menu('built-in');
     await page.factsAre(/built-in list/);
