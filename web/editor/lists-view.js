@@ -87,12 +87,12 @@ export class ListsView {
 }
 
 // `at` is the place of a list among all, and `place` that among those in use, if there are several.
-function row({ name, offset = 0, isOn, isBuiltIn }, at, place) {
+function row({ name, offset = 0, rescored, isOn, isBuiltIn }, at, place) {
   const item = document.createElement('li');
   const label = document.createElement('label');
   const box = Object.assign(document.createElement('input'), { type: 'checkbox', checked: isOn });
   box.dataset.name = name;
-  label.append(box, ` ${place ? `${place} ` : ''}${name}`);
+  label.append(box, ` ${place ? `${place} ` : ''}${name}${rescored ? ', rescored' : ''}`);
   item.append(label, offsetOf(name, offset), ...(at > 0 ? [button('raise', name, '↑', `Puts ${name} before the list above it, so that it decides before that one`)] : []));
   item.append(button('rescore', name, 'Rescore…', `Other scores for words of ${name}`), button('file', name, 'Export', `Saves ${name} with its scores`));
   if (!isBuiltIn && !isOn) item.append(button('remove', name, 'Remove'));

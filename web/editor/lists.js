@@ -45,13 +45,15 @@ export class Lists {
     return new Lists({ ...this, ...changed });
   }
 
-  // With one more list, which is used in place of the others, and decides before them. These stay, off.
+  // With one more list, which is used in place of the others, and decides before them. These stay, off. One that is there already keeps its offset and its
+  // scores.
   adding(name, bytes, form = null) {
-    const others = this.parts.filter((part) => part.name !== name || !isSameBytes(part.bytes, bytes)).map((part) => ({ ...part, isOn: false }));
+    const same = this.parts.find((part) => part.name === name && isSameBytes(part.bytes, bytes));
+    const others = this.parts.filter((part) => part !== same).map((part) => ({ ...part, isOn: false }));
     const isTaken = (wanted) => others.some((part) => part.name === wanted);
     let free = name;
     for (let count = 2; isTaken(free); count++) free = `${name} (${count})`;
-    return this.#with({ parts: [{ name: free, bytes, form, isOn: true }, ...others], least: 0, weak: null, threes: 0, target: null });
+    return this.#with({ parts: [{ ...same, name: free, bytes, form, isOn: true }, ...others], least: 0, weak: null, threes: 0, target: null });
   }
 
   switching(name, isOn) {

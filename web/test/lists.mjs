@@ -146,6 +146,10 @@ const CASES = {
     same(names(new Lists({ parts: [...lists.parts.slice(0, 1), { ...none, isOn: true }, ...lists.parts.slice(1)] }).raising('one')), 'one two built-in ');
     const both = lists.switching('one', true).shifting('one', -10);
     same(both.chosen.sources.map(({ name, offset }) => [name, offset]), [['two', 0], ['one', -10]]);
+    // a list that is opened again keeps what was made of it; another one of its name has a name of its own
+    const again = both.rescoring('one', 'COW;7\n').adding('one', bytes('cow'), form(';', 0, 1));
+    same([names(again), again.chosen.sources.map(({ bytes: _, ...told }) => told)], ['one two built-in', [{ name: 'one', form: form(';', 0, 1), rescored: 'COW;7\n', offset: -10 }]]);
+    same(names(both.adding('one', bytes('cat'))), 'one (2) two one built-in');
     same([lists.chosen.sources[0].offset, both.switching('one', false).switching('one', true).chosen.sources[1].offset], [0, -10]);
   },
 
