@@ -59,15 +59,21 @@ class Several {
     return this.#own.words.has(word) ? OWN : this.#decides(word) + 1;
   }
 
+  // The number of the list that decides over a word, or -1. Each is looked through once, since there are many words.
   #decides(word) {
-    const first = this.#lists.findIndex(({ known }) => (known.get(word) ?? null) !== null);
-    return first < 0 ? this.#lists.findIndex(({ known }) => known.has(word)) : first;
+    let first = -1;
+    for (let at = 0; at < this.#lists.length; at++) {
+      const score = this.#lists[at].known.get(word);
+      if (score !== undefined && score !== null) return at;
+      if (score === null && first < 0) first = at;
+    }
+    return first;
   }
 
   // The score of a word, or null. One of the personal list that has none there is as good as the best.
   get(word) {
-    const own = this.#own.words.get(word);
     if (this.#own.hidden.has(word)) return null;
+    const own = this.#own.words.get(word);
     if (own !== undefined && own !== null) return own;
     const score = this.#lists[this.#decides(word)]?.known.get(word) ?? null;
     return own === undefined ? score : Math.max(this.#best, score ?? 0);
