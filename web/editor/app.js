@@ -23,6 +23,7 @@ import { whenIdle } from './idle.js';
 import { ImprovingView } from './improving.js';
 import { Leaving } from './leaving.js';
 import { LibraryView } from './library.js';
+import { ListDialog } from './list-dialog.js';
 import { ListsInUse } from './lists-in-use.js';
 import { leaveDialogsTo, takeActions, takeMenu, takeParts, toNextPane } from './menu.js';
 import { refuse, useMessages } from './messages.js';
@@ -193,8 +194,15 @@ async function useMended(letters) {
 
 // Files, lists and puzzles.
 
+const listDialog = new ListDialog(
+  {
+    dialog: $('list-dialog'), told: $('list-told'), separator: $('list-separator'), word: $('list-word'), score: $('list-score'), scale: $('list-scale'), scaleRow: $('list-scale-row'),
+    lines: $('list-lines'), left: $('list-left'),
+  },
+  (bytes, chosen) => editor.engine.call('lookAtList', { bytes, chosen }),
+);
 const files = new Files(editor, {
-  mayEdit, toGrid, toClue, opened: toGrid, changeLists: (changed, name, bytes) => lists.change(changed, name, bytes), addPuzzles: (text) => shelf.addAll(text),
+  mayEdit, toGrid, toClue, opened: toGrid, changeLists: (changed, name) => lists.change(changed, name), askList: (name, bytes) => listDialog.ask(name, bytes), addPuzzles: (text) => shelf.addAll(text),
   saved: () => shelf.saved(), askRows, askFile, askAnyway, askKey, words: () => allWords.get(), takeClues: (changes) => edits.takeClues(changes),
   askClues: (name, found) => askClues(editor, { dialog: $('table-dialog'), told: $('table-told'), changes: $('table-changes'), others: $('table-others') }, name, found),
 });
@@ -249,7 +257,7 @@ async function askKey(told, maySearch) {
 }
 
 const lists = new ListsInUse(editor, {
-  mayEdit, stop: () => filler.stop(), soon, shown: () => facts.show(), toGrid, save: (text, name) => files.saveText(text, name), unforeseen, kept,
+  mayEdit, stop: () => filler.stop(), soon, shown: () => facts.show(), toGrid, save: (text, name) => files.saveText(text, name), makeWorker, unforeseen, kept,
 });
 const puzzles = new NewPuzzle(editor, { mayEdit, soon, toGrid, addVersion: () => shelf.addVersion() });
 const printing = new PrintDialog(editor);

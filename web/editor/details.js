@@ -4,7 +4,7 @@ import { lettersByColour, nameOfColour } from './colours.js';
 import { faultsOf } from './faults.js';
 import { languagesFor } from './language.js';
 import { refuse, say } from './messages.js';
-import { all, speakIn } from './page.js';
+import { all, option, speakIn } from './page.js';
 import { parseRecord } from './record.js';
 import { warningsOf } from './rules.js';
 import { termed } from './terms.js';
@@ -63,8 +63,8 @@ export class DetailsView {
   #showLanguage() {
     const { language } = this.#editor;
     const { panel, language: choice } = this.#elements;
-    const options = languagesFor(language).map(({ code, name }) => Object.assign(document.createElement('option'), { value: code, textContent: name }));
-    choice.replaceChildren(Object.assign(document.createElement('option'), { value: '', textContent: 'not said' }), ...options);
+    const options = languagesFor(language).map(({ code, name }) => option(code, name));
+    choice.replaceChildren(option('', 'not said'), ...options);
     choice.value = language;
     choice.dataset.shown = language;
     for (const field of all('#title, #notes', panel)) speakIn(field, language);

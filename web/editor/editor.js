@@ -425,7 +425,7 @@ export class Editor extends EditorState {
     });
   }
 
-  // Opens the session anew over another list.
+  // Opens the session anew over another list. Returns the fault if the engine refuses it, or null.
   useList(list) {
     return this.inOrder(async () => {
       const old = this.list;
@@ -436,7 +436,7 @@ export class Editor extends EditorState {
         return null;
       } catch (fault) {
         this.change({ list: old });
-        return fault.status;
+        return fault;
       }
     });
   }

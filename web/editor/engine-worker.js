@@ -6,13 +6,21 @@ import { closeNew } from './kin.js';
 import { Making } from './grids/making.js';
 import { reachOf } from './reach.js';
 import { letterIn, lettersOf, withoutLeast } from './record.js';
-import { enumerationsOf, joinLists } from './word-list.js';
+import { joinLists, linesOfList, readOwn } from './joined-lists.js';
+import { lookAt } from './list-preview.js';
+import { rescore } from './rescoring.js';
+import { enumerationsOf, leftOutText } from './word-list.js';
 
 let module;
 let xw;
 // the score of each word, if the list has scores; a word that has none has null
+/** @type {{ get: (word: string) => number | null | undefined }} */
 let scores = new Map();
+let isScored = false;
 let bestScore = 0;
+// tells the place of the list that a word is from; or null
+/** @type {((word: string) => number) | null} */
+let placeOf = null;
 
 const ask = (line) => xw.line(line);
 
@@ -113,6 +121,9 @@ function lettersAt(cells, at) {
   return /[A-Z]/.test(pattern) ? new Set(asked(answers.match(pattern)).map((word) => word[at])) : null;
 }
 
+// The scores of words, and the places of the lists that they are from; each null where the lists have none.
+const knownOf = (words) => ({ scores: isScored ? words.map((word) => scores.get(word) ?? null) : null, places: placeOf && words.map(placeOf) });
+
 // The words that an entered light could have: those that fit what crosses it as it stands, and those that would if its crossing lights were
 // without their letters in pencil, each with the names of the crossing lights that it needs changed. All is put back before the call ends.
 function alternatives({ light, pencil }) {
@@ -136,7 +147,7 @@ function alternatives({ light, pencil }) {
   const changes = (other) => other.needs.length || Infinity;
   const others = wide.map((word) => ({ word, needs: needs(word) })).sort((a, b) => (changes(a) === changes(b) ? 0 : changes(a) - changes(b))).slice(0, MOST_OTHERS);
   const told = [...fit, ...others.map(({ word }) => word)];
-  return { fit, others, scores: scores.size ? told.map((word) => scores.get(word) ?? null) : null };
+  return { fit, others, ...knownOf(told) };
 }
 
 // The lights that cross one: their names and cells, the number of the cell in them that is shared, and the number of that cell in the other light.
@@ -257,19 +268,18 @@ const MOST_JUDGED = 2000;
 const MOST_OTHERS = 100;
 
 // The word list for the engine, with a grade for each word that has a score.
-function graded(words, scoresRead, best) {
-  if (!scoresRead.size) return words.join('\n');
+function graded(words, known, best) {
   const line = (word, score) => (score === null ? word : `${word};${gradeOf(score, best)}`);
-  return words.map((word) => line(word, scoresRead.get(word) ?? null)).join('\n');
+  return words.map((word, at) => line(word, known[at])).join('\n');
 }
 
 // The grade that the engine has for a word of a list by its score, or by none.
 const gradeInList = (score, best) => (score === null ? UNSCORED : gradeOf(score, best));
 
 // How many words have each grade.
-function countByGrade(words, scoresRead, best) {
+function countByGrade(known, best) {
   const byGrade = new Uint32Array(MOST + 1);
-  for (const word of words) byGrade[gradeInList(scoresRead.get(word) ?? null, best)]++;
+  for (const score of known) byGrade[gradeInList(score, best)]++;
   return byGrade;
 }
 
@@ -354,15 +364,18 @@ const calls = {
 
   // Opens a session over word lists, and replays a record. If it cannot, the session before stays.
   open({ sources, personal, least, threes, record }) {
-    const { words: all, scores: scoresRead, ...told } = joinLists(sources, personal);
+    const { words: all, scores: scoresRead, placeOf: placeRead, ...told } = joinLists(sources, personal);
     const words = threes ? all.filter((word) => word.length !== 3 || (scoresRead.get(word) ?? threes) >= threes) : all;
-    if (sources.length && !words.length) throw Object.assign(new Error('no word'), { status: 'NoWord', answer: '' });
-    const other = Xw.open(module, { list: graded(words, scoresRead, told.best), record });
+    if (sources.length && !words.length) throw Object.assign(new Error('no word'), { status: 'NoWord', answer: leftOutText(told.leftOut) });
+    const known = words.map((word) => scoresRead.get(word) ?? null);
+    const other = Xw.open(module, { list: told.scored ? graded(words, known, told.best) : words.join('\n'), record });
     xw?.close();
     xw = other;
     scores = scoresRead;
+    isScored = told.scored;
+    placeOf = placeRead;
     bestScore = told.best;
-    const byGrade = countByGrade(words, scoresRead, told.best);
+    const byGrade = countByGrade(known, told.best);
     const grade = told.scored ? leastGrade(least, told.best, byGrade) : 0;
     if (grade) ask(`least ${grade}`);
     ask('watch on');
@@ -398,10 +411,10 @@ const calls = {
     return ask(line);
   },
 
-  // The feasible words of a light, packed, with the scores of those that have one.
+  // The feasible words of a light, packed, with the scores of those that have one, and the places of their lists.
   words({ light }) {
     const words = asked(answers.words(light));
-    return { words: answers.packed(words), scores: scores.size ? words.map((word) => scores.get(word) ?? null) : null };
+    return { words: answers.packed(words), ...knownOf(words) };
   },
 
   // The scores of words, or null for those that have none.
@@ -418,6 +431,13 @@ const calls = {
   enumerations({ words, sources, personal, plain }) {
     return enumerationsOf(words, { sources, personal, plain });
   },
+
+  // What a list has before it is taken over.
+  lookAtList: ({ bytes, chosen }) => lookAt(bytes, chosen),
+
+  // What a rule changes in a list, in a worker of its own, and a list as a file.
+  rescore: ({ source, rule }) => rescore(readOwn(source), source.rescored ?? '', rule),
+  linesOfList,
 
   probe,
   alternatives,
@@ -456,7 +476,7 @@ async function answer({ id, call, sent }) {
 }
 
 // Calls are answered in order. But those that leave all as it was wait until no other is there, so that a key is answered ahead of them.
-const QUERIES = new Set(['ask', 'words', 'probe', 'alternatives', 'fillsWithout', 'grades', 'enumerations']);
+const QUERIES = new Set(['ask', 'words', 'probe', 'alternatives', 'fillsWithout', 'grades', 'enumerations', 'lookAtList']);
 
 let last = Promise.resolve();
 const queries = [];

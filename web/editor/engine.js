@@ -5,6 +5,7 @@ export class EngineFault extends Error {
     super(`${status} ${answer}`);
     this.status = status;
     this.answer = answer;
+    this.answer = answer;
   }
 }
 

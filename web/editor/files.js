@@ -239,9 +239,13 @@ export class Files {
     return this.#opened(name, dropped.phrases);
   }
 
-  openList(name, bytes) {
+  // Shows how a list is read, and takes it over if the user agrees.
+  async openList(name, bytes) {
     say(`reading ${name} …`, 'busy', true);
-    return this.actions.changeLists((lists) => lists.adding(name, bytes), name, bytes);
+    const form = await this.actions.askList(name, bytes);
+    if (!form) return this.#refuse(`${name} is not opened`);
+    say(`reading ${name} …`, 'busy', true);
+    return this.actions.changeLists((lists) => lists.adding(name, bytes, form), name);
   }
 
   // The name for a file of this puzzle, with an ending.

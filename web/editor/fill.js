@@ -74,8 +74,9 @@ export class Filler {
   // A fill of words with scores is raised in other workers, which load each new list ahead.
   #warm() {
     const { sources, scored } = this.#editor.list;
-    if (!scored || (sources.length === this.#warmed.length && sources.every((bytes, at) => bytes === this.#warmed[at]))) return;
-    this.#warmed = sources;
+    const bytes = sources.map((source) => source.bytes);
+    if (!scored || (bytes.length === this.#warmed.length && bytes.every((one, at) => one === this.#warmed[at]))) return;
+    this.#warmed = bytes;
     this.#helpers.warm();
   }
 

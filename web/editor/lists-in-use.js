@@ -1,10 +1,12 @@
 // The word lists in use: their changes, one after another, the least score, and what is said of them.
 import { whyNotKept } from './keep.js';
+import { Aside } from './aside.js';
 import { LeastView, leftOf } from './least.js';
 import { ListsView } from './lists-view.js';
 import { endWarning, refusalText, refuseAsIs, say, sayAsIs, warn } from './messages.js';
 import { $ } from './page.js';
-import { foldedText, leftOutText, readList, wordCount, withScores } from './word-list.js';
+import { RescoreDialog } from './rescore-dialog.js';
+import { foldedText, leftOutText, wordCount, withScores } from './word-list.js';
 
 const MOST_FORMER = 10;
 
@@ -23,9 +25,10 @@ export class ListsInUse {
   #regraded = new Map();
   #least;
   #view;
+  #aside;
 
   // `actions`: `mayEdit`, `stop` ends a fill, `soon` looks for dead ends, `shown` is told when other lists are shown, `toGrid`, `save` saves a text,
-  // `unforeseen` takes what fails, `kept` is told what takes a text back that Esc keeps.
+  // `makeWorker` makes a worker, `unforeseen` takes what fails, `kept` is told what takes a text back that Esc keeps.
   constructor(editor, actions) {
     this.#editor = editor;
     this.actions = actions;
@@ -37,6 +40,15 @@ export class ListsInUse {
         threes: (score) => this.#useThrees(score), toGrid: actions.toGrid,
       },
     );
+    const rescoring = new RescoreDialog(
+      {
+        dialog: $('rescore-dialog'), title: $('rescore-title'), kind: $('rescore-kind'), text: $('rescore-text'), how: $('rescore-how'), value: $('rescore-value'),
+        preview: $('rescore-preview'), stop: $('rescore-stop'), told: $('rescore-told'), changes: $('rescore-changes'), take: $('rescore-take'), back: $('rescore-back'),
+      },
+      actions.makeWorker,
+      (name, rescored) => this.change((now) => now.rescoring(name, rescored)).catch(actions.unforeseen),
+    );
+    this.#aside = new Aside(actions.makeWorker);
     this.#view = new ListsView(
       {
         list: $('lists'), undo: $('lists-undo'), summary: $('personal-summary'), edit: $('personal-edit'), export: $('personal-export'), dialog: $('personal-dialog'),
@@ -44,9 +56,16 @@ export class ListsInUse {
       },
       {
         change: (changed) => this.change(changed).catch(actions.unforeseen), undo: () => this.#undo().catch(actions.unforeseen),
-        export: (text) => actions.save(text, 'my-words.txt'), kept: actions.kept,
+        export: (text) => actions.save(text, 'my-words.txt'), kept: actions.kept, exportList: (part) => this.#export(part).catch(actions.unforeseen),
+        rescore: (part) => rescoring.open(part),
       },
     );
+  }
+
+  // Saves a list with its own scores.
+  async #export(part) {
+    const text = await this.#aside.ask('linesOfList', part);
+    if (text !== null) this.actions.save(text, `${part.name.replace(/\.\w+$/, '')}.txt`);
   }
 
   // Takes over the lists that the browser keeps, or those that the editor began with.
@@ -64,13 +83,13 @@ export class ListsInUse {
     return true;
   }
 
-  // Uses the word lists that a function makes of those in use, if the engine takes them. `name` and `bytes` are those of a list that is opened, and `said`
+  // Uses the word lists that a function makes of those in use, if the engine takes them. `name` is that of a list that is opened, and `said`
   // is what is said then. Returns whether they are in use.
-  change(changed, name = '', bytes = new Uint8Array(), said = '') {
+  change(changed, name = '', said = '') {
     return this.#inOrder(async () => {
       const before = this.#lists;
       const other = changed(before);
-      if (other === before || !(await this.#use(other, name, bytes, said))) return false;
+      if (other === before || !(await this.#use(other, name, said))) return false;
       this.#former.push(before);
       if (this.#former.length > MOST_FORMER) this.#former.shift();
       return true;
@@ -103,7 +122,7 @@ export class ListsInUse {
       const scores = this.#regraded;
       this.#regraded = new Map();
       return scores.size ? now.withPersonal(withScores(now.personal, scores)) : now;
-    }, 'My words', new Uint8Array(), said);
+    }, 'My words', said);
   }
 
   // Promises the enumerations of words, by word, as far as the lists show them.
@@ -113,13 +132,13 @@ export class ListsInUse {
   }
 
   // Has the engine use other lists, and says what they have, or why it refuses them. Returns whether they are in use.
-  async #use(other, name = '', bytes = new Uint8Array(), said = '') {
+  async #use(other, name = '', said = '') {
     if (!this.actions.mayEdit()) return false;
     this.actions.stop();
     const fault = await this.#editor.useList(other.chosen);
     if (fault) {
-      const why = fault === 'NoWord' ? leftOutText(readList(bytes).leftOut) : '';
-      refuseAsIs(`${name || 'the lists'}: ${[refusalText(fault), why].filter(Boolean).join('; ')}`);
+      const why = fault.status === 'NoWord' ? fault.answer : '';
+      refuseAsIs(`${name || 'the lists'}: ${[refusalText(fault.status), why].filter(Boolean).join('; ')}`);
       this.show();
       return false;
     }
@@ -185,7 +204,7 @@ export class ListsInUse {
   // Uses another least score of words of three letters.
   async #useThrees(threes) {
     const said = threes ? `words of three letters have ${threes} or more` : 'words of three letters have any score';
-    if (await this.change((now) => now.choosing({ threes }), 'the lists', new Uint8Array(), said)) this.actions.soon();
+    if (await this.change((now) => now.choosing({ threes }), 'the lists', said)) this.actions.soon();
     this.actions.toGrid();
   }
 }

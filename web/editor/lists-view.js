@@ -2,16 +2,18 @@
 import { openDialog } from './dialogs.js';
 import { joinPersonal, listText, readPersonal } from './word-list.js';
 
+const MOST_OFFSET = 100;
+
 export class ListsView {
   #elements;
 
   // `actions`: `change` takes the lists over that a function makes of them, and promises whether they are in use; `undo` takes the last change back;
-  // `export` saves the personal list; `kept` is told what takes a text back that Esc keeps.
+  // `export` saves the personal list, and `exportList` one of the others; `rescore` asks for other scores of one; `kept` is told what takes a text back that Esc keeps.
   constructor(elements, actions) {
     this.#elements = elements;
     this.actions = actions;
-    elements.list.addEventListener('change', ({ target }) => actions.change((lists) => lists.switching(target.dataset.name, target.checked)));
-    elements.list.addEventListener('click', ({ target }) => target.dataset.remove && actions.change((lists) => lists.removing(target.dataset.remove)));
+    elements.list.addEventListener('change', ({ target }) => this.#change(target));
+    elements.list.addEventListener('click', ({ target }) => this.#press(target.dataset));
     elements.undo.addEventListener('click', () => actions.undo());
     elements.edit.addEventListener('click', () => this.#edit());
     elements.import.addEventListener('click', () => elements.file.click());
@@ -24,10 +26,27 @@ export class ListsView {
   show(lists, canUndo) {
     this.lists = lists;
     this.#elements.undo.disabled = !canUndo;
-    this.#elements.list.replaceChildren(...lists.parts.filter(({ bytes }) => bytes.length).map((part) => row(part)));
+    const on = lists.listed.filter(({ isOn }) => isOn);
+    this.#elements.list.replaceChildren(...lists.listed.map((part, at) => row(part, at, on.length > 1 ? on.indexOf(part) + 1 : 0)));
     const { words, hidden } = readPersonal(lists.personal);
     this.#elements.summary.textContent = words.size + hidden.size ? `${words.size} added, ${hidden.size} hidden` : 'none yet';
     this.#elements.export.disabled = !lists.personal.trim();
+  }
+
+  // A box that switches a list on or off, or its offset.
+  #change({ dataset: { name, offset }, checked, value }) {
+    if (name) return this.actions.change((lists) => lists.switching(name, checked));
+    const shift = Math.round(Number(value));
+    // what is no number leaves all as it is
+    return Math.abs(shift) <= MOST_OFFSET ? this.actions.change((lists) => lists.shifting(offset, shift)) : this.show(this.lists, !this.#elements.undo.disabled);
+  }
+
+  async #press({ remove, raise, rescore, file }) {
+    const named = (name) => this.lists.parts.find((part) => part.name === name);
+    if (rescore) this.actions.rescore(named(rescore));
+    if (file) await this.actions.exportList(named(file));
+    if (remove) await this.actions.change((lists) => lists.removing(remove));
+    if (raise) await this.actions.change((lists) => lists.raising(raise));
   }
 
   #edit() {
@@ -67,17 +86,30 @@ export class ListsView {
   }
 }
 
-function row({ name, isOn, isBuiltIn }) {
+// `at` is the place of a list among all, and `place` that among those in use, if there are several.
+function row({ name, offset = 0, rescored, isOn, isBuiltIn }, at, place) {
   const item = document.createElement('li');
   const label = document.createElement('label');
   const box = Object.assign(document.createElement('input'), { type: 'checkbox', checked: isOn });
   box.dataset.name = name;
-  label.append(box, ` ${name}`);
-  item.append(label);
-  if (!isBuiltIn && !isOn) {
-    const remove = Object.assign(document.createElement('button'), { type: 'button', textContent: 'Remove' });
-    remove.dataset.remove = name;
-    item.append(remove);
-  }
+  label.append(box, ` ${place ? `${place} ` : ''}${name}${rescored ? ', rescored' : ''}`);
+  item.append(label, offsetOf(name, offset), ...(at > 0 ? [button('raise', name, '↑', `Puts ${name} before the list above it, so that it decides before that one`)] : []));
+  item.append(button('rescore', name, 'Rescore…', `Other scores for words of ${name}`), button('file', name, 'Export', `Saves ${name} with its scores`));
+  if (!isBuiltIn && !isOn) item.append(button('remove', name, 'Remove'));
   return item;
+}
+
+// What is added to each score of a list.
+function offsetOf(name, offset) {
+  const field = Object.assign(document.createElement('input'), { type: 'number', min: -MOST_OFFSET, max: MOST_OFFSET, value: String(offset), title: `Added to each score of ${name}` });
+  field.setAttribute('aria-label', `Offset of ${name}`);
+  field.dataset.offset = name;
+  return field;
+}
+
+function button(what, name, textContent, title = '') {
+  const made = Object.assign(document.createElement('button'), { type: 'button', textContent, title });
+  made.setAttribute('aria-label', what === 'raise' ? title : `${textContent} ${name}`);
+  made.dataset[what] = name;
+  return made;
 }

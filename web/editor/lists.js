@@ -1,10 +1,14 @@
 // The word lists: several, each on or off, and the personal list, which stays over puzzles.
 import { keepLists, keptLists } from './keep.js';
 
+/** @typedef {import('./joined-lists.js').Source & { name: string, isOn: boolean, isBuiltIn?: boolean }} Part */
+
 export class Lists {
-  // { name, bytes, isOn, isBuiltIn }; the personal list as text; the least score of a word, that of a word of three letters, and the score below which words
-  // are marked, or null for the usual one; and whether candidates and fills have no words that are close to others
+  // in the order in which they decide
+  /** @type {Part[]} */
   parts = [];
+  // the personal list as text; the least score of a word, that of a word of three letters, and the score below which words are marked, or null for the usual
+  // one; and whether candidates and fills have no words that are close to others
   personal = '';
   least = 0;
   threes = 0;
@@ -33,7 +37,7 @@ export class Lists {
 
   // Keeps them. The built-in list is in the page already.
   keep() {
-    const parts = this.parts.map(({ name, bytes, isOn, isBuiltIn }) => (isBuiltIn ? { name, isOn, isBuiltIn } : { name, bytes, isOn }));
+    const parts = this.parts.map(({ isBuiltIn, bytes, ...part }) => (isBuiltIn ? { ...part, isBuiltIn } : { ...part, bytes }));
     return keepLists({ ...this, parts });
   }
 
@@ -41,17 +45,47 @@ export class Lists {
     return new Lists({ ...this, ...changed });
   }
 
-  // With one more list, which is used in place of the others. These stay, off.
-  adding(name, bytes) {
-    const others = this.parts.filter((part) => part.name !== name || !isSameBytes(part.bytes, bytes)).map((part) => ({ ...part, isOn: false }));
+  // With one more list, which is used in place of the others, and decides before them. These stay, off. One that is there already keeps its offset and its
+  // scores.
+  adding(name, bytes, form = null) {
+    const same = this.parts.find((part) => part.name === name && isSameBytes(part.bytes, bytes));
+    const others = this.parts.filter((part) => part !== same).map((part) => ({ ...part, isOn: false }));
     const isTaken = (wanted) => others.some((part) => part.name === wanted);
     let free = name;
     for (let count = 2; isTaken(free); count++) free = `${name} (${count})`;
-    return this.#with({ parts: [...others, { name: free, bytes, isOn: true }], least: 0, weak: null, threes: 0, target: null });
+    return this.#with({ parts: [{ ...same, name: free, bytes, form, isOn: true }, ...others], least: 0, weak: null, threes: 0, target: null });
   }
 
   switching(name, isOn) {
-    return this.#with({ parts: this.parts.map((part) => (part.name === name ? { ...part, isOn } : part)) });
+    return this.#changing(name, { isOn });
+  }
+
+  // With an offset for the scores of a list.
+  shifting(name, offset) {
+    return this.#changing(name, { offset });
+  }
+
+  // With scores of a list that differ from its file, as lines; null for none.
+  rescoring(name, rescored) {
+    return this.#changing(name, { rescored });
+  }
+
+  #changing(name, changed) {
+    return this.#with({ parts: this.parts.map((part) => (part.name === name ? { ...part, ...changed } : part)) });
+  }
+
+  // With a list one place up, where it decides before the one that was there. A list without words has no place.
+  raising(name) {
+    const listed = this.listed;
+    const at = listed.findIndex((part) => part.name === name);
+    if (at < 1) return this;
+    [listed[at - 1], listed[at]] = [listed[at], listed[at - 1]];
+    return this.#with({ parts: [...listed, ...this.parts.filter((part) => !listed.includes(part))] });
+  }
+
+  // The lists that have words, in their order.
+  get listed() {
+    return this.parts.filter(({ bytes }) => bytes.length);
   }
 
   // With the built-in list alone in use.
@@ -83,10 +117,14 @@ export class Lists {
 
   // What the engine opens.
   get chosen() {
-    const on = this.parts.filter(({ isOn, bytes }) => isOn && bytes.length);
+    const on = this.listed.filter(({ isOn }) => isOn);
     const name = on.length === 1 ? on[0].name : on.length ? `${on.length} lists` : '';
-    return { name: name || (this.personal.trim() ? 'my words' : ''), sources: on.map(({ bytes }) => bytes), personal: this.personal, least: this.least, weak: this.weak, threes: this.threes, apart: this.apart, target: this.target };
+    return { name: name || (this.personal.trim() ? 'my words' : ''), sources: on.map(({ name: one, bytes, form = null, rescored = null, offset = 0 }) => ({ name: one, bytes, form, rescored, offset })), personal: this.personal, least: this.least, weak: this.weak, threes: this.threes, apart: this.apart, target: this.target };
   }
 }
 
-const isSameBytes = (one, other) => one.length === other.length && one.every((byte, at) => byte === other[at]);
+function isSameBytes(one, other) {
+  let at = one.length === other.length ? 0 : -1;
+  while (at >= 0 && at < one.length && one[at] === other[at]) at++;
+  return at === one.length;
+}

@@ -21,6 +21,8 @@ export function put(element, name, value) {
   if (element[name] !== value) element[name] = value;
 }
 
+export const option = (value, textContent) => Object.assign(document.createElement('option'), { value, textContent });
+
 // Says which language the text of an element is in, or with '' that nothing says it.
 export function speakIn(element, language) {
   if (language) put(element, 'lang', language);

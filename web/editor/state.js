@@ -20,7 +20,7 @@ import { Board } from './board.js';
 /**
  * @typedef {{
  *   name: string, words: number, scored: boolean, best: number, byGrade: Uint32Array, leftOut: Record<string, number>, folded: number, asRead: string[],
- *   least: number, grade: number, weak: number, threes: number, apart: boolean, target: number | null, sources: Uint8Array[], personal: string,
+ *   least: number, grade: number, weak: number, threes: number, apart: boolean, target: number | null, sources: import('./joined-lists.js').Source[], personal: string,
  * }} WordList
  */
 

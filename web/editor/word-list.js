@@ -1,7 +1,7 @@
 // Word lists: which lines are words, and why others are left out. The worker has this module too.
 import { toText } from '../xw.js';
 import { lengthsOfSpelling } from './enumeration.js';
-import { UNSCORED, scoreOf } from './grades.js';
+import { formTexts, formerForm, isMost, linesOf, parsed, toHundred } from './list-form.js';
 import { randoms, shuffled } from './random.js';
 
 // The text of a list, or of its beginning, in UTF-8, in UTF-16 with its byte order mark, or in Windows-1252.
@@ -17,37 +17,6 @@ export function listText(bytes) {
   }
 }
 
-const isMost = (count, lines) => 2 * count > lines.length;
-
-// How the lines of a list have scores, and what is said of it: behind a separator, which is usual, behind blanks, or before the word.
-const FORMS = [
-  { line: /^(?<spelling>.*?)[;,\t]\s*(?<score>-?\d+(?:\.\d+)?)/, told: '' },
-  { line: /^(?<spelling>.*(?<=\S)) {1,20}(?<score>-?\d{1,15}(?:\.\d{1,15})?)\s*$/, told: 'the scores are behind blanks' },
-  { line: /^\s{0,20}(?<score>-?\d{1,15}(?:\.\d{1,15})?) {0,20}[;,\t]\s{0,20}(?<spelling>.*\p{L}.*)$/u, told: 'the scores are before the words' },
-];
-// how many lines tell the form of a list
-const TELLING = 1000;
-
-// The form of a list: the first one that most lines have.
-const formOf = (lines) => FORMS.find(({ line }) => isMost(lines.filter((one) => line.test(one)).length, lines)) ?? FORMS[0];
-
-// The lines that are not blank, each whole, and as the spelling of a word and its score, which is null if the line has none; and what is said of the form
-// that they have. A byte order mark is taken off the first line by the decoder, and off any other where files were put together.
-function readLines(text) {
-  const all = text.split(/\r\n?|\n/).filter((line) => line.trim()).map((line) => (line.charCodeAt(0) === 0xfeff ? line.slice(1) : line));
-  const form = formOf(all.slice(0, TELLING));
-  const lines = all.map((whole) => {
-    const { spelling, score } = form.line.exec(whole)?.groups ?? {};
-    return score === undefined ? { whole, spelling: whole, score: null } : { whole, spelling, score: Number(score) };
-  });
-  return { lines, told: form.told };
-}
-
-export const listLines = (text) => readLines(text).lines;
-
-// Whether scores are shares of one: all from 0 to 1, and some between.
-const areShares = (scores) => scores.every((score) => score >= 0 && score <= 1) && scores.some((score) => !Number.isInteger(score));
-
 // A phrase of up to six words, which may have signs in them.
 const PHRASE = /^[\p{L}\p{M}\p{N}.'’‘!?&/+–-]+( [\p{L}\p{M}\p{N}.'’‘!?&/+–-]+){0,5}$/u;
 
@@ -58,10 +27,17 @@ function isSpelling(spelling) {
   return bare.length <= 60 && PHRASE.test(bare) && 2 * bare.replace(/[^\p{L}]/gu, '').length > bare.length;
 }
 
+// The words of a list as its lines spell them.
+function listLines(text, chosen = null) {
+  const lines = linesOf(text);
+  const form = chosen ?? formerForm(lines);
+  return lines.map((line) => parsed(line, form).spelling);
+}
+
 // Whether most lines of a text are words, so that it is a word list.
 export function isWordList(text) {
-  const lines = listLines(text).filter(({ spelling }) => !spelling.startsWith('#'));
-  return isMost(lines.filter(({ spelling }) => isSpelling(spelling)).length, lines);
+  const lines = listLines(text).filter((spelling) => !spelling.startsWith('#'));
+  return isMost(lines.filter(isSpelling).length, lines.length);
 }
 
 // Why a line is left out.
@@ -93,53 +69,107 @@ function reasonToLeave(spelling, letters, score, isScored) {
   return letters.length > 255 ? 'long' : null;
 }
 
-// Whether lines are in the order of the alphabet, but for some.
-function isAlphabetical(lines) {
-  const ordered = lines.filter(({ spelling }, at) => at > 0 && lines[at - 1].spelling <= spelling).length;
-  return 10 * ordered > 9 * (lines.length - 1);
+// Whether spellings are in the order of the alphabet, but for some.
+function isAlphabetical(spellings) {
+  const ordered = spellings.filter((spelling, at) => at > 0 && spellings[at - 1] <= spelling).length;
+  return 10 * ordered > 9 * (spellings.length - 1);
 }
 
-// Lines with the best scores first. Equal ones come in an order that says nothing, and not in that of the alphabet. A list without scores that is
-// in another order keeps it.
-function inOrder(lines, scored) {
-  const mixed = scored || isAlphabetical(lines) ? shuffled(lines, randoms(lines.length)) : lines;
-  return scored ? mixed.sort((a, b) => b.score - a.score) : mixed;
+// Things by their scores, the best first; equal ones stay in their order.
+/**
+ * @template T
+ * @param {T[]} things
+ * @param {(thing: T) => number} scoreOf
+ */
+export function bestFirst(things, scoreOf) {
+  /** @type {Map<number, T[]>} */
+  const byScore = new Map();
+  for (const thing of things) {
+    const score = scoreOf(thing);
+    const equal = byScore.get(score);
+    if (equal) equal.push(thing);
+    else byScore.set(score, [thing]);
+  }
+  return [...byScore].sort(([one], [other]) => other - one).flatMap(([, equal]) => equal);
 }
 
-// The lines of a list; whether most have a score; and how the scores were read, in a few words, unless that is usual. Shares of one become scores from 0
-// to 100.
-function scoredLines(bytes) {
-  const { lines, told } = readLines(listText(bytes));
-  const scores = lines.map(({ score }) => score).filter((score) => score !== null);
-  const scored = isMost(scores.length, lines);
-  const isScaled = scored && areShares(scores);
+// The letters of a spelling without accents, in capitals.
+const capitals = (spelled) => (/^[A-Z]*$/.test(spelled) ? spelled : spelled.replace(/[^A-Za-z]/g, '').toUpperCase());
+
+// What lines have, each in the order of the file: their letters and scores; the numbers of those that are left out, with why; of those with accents; and for
+// each word the number of its line, which is that of its best score.
+function columnsOf(lines, form) {
+  const scored = form.score !== null;
+  const [letters, scores] = [new Array(lines.length), new Float64Array(lines.length)];
+  /** @type {Map<number, string>} */
+  const leftOut = new Map();
+  /** @type {Map<string, number>} */
+  const found = new Map();
+  const folded = [];
+  lines.forEach((line, at) => {
+    const { spelling, score } = parsed(line, form);
+    const spelled = unaccented(spelling);
+    const word = capitals(spelled);
+    const reason = reasonToLeave(spelled, word, score, scored);
+    letters[at] = word;
+    scores[at] = score ?? 0;
+    if (reason) return leftOut.set(at, reason);
+    if (spelled !== spelling) folded.push(at);
+    const other = found.get(word);
+    const isBetter = other === undefined || scores[other] < score;
+    if (isBetter) found.set(word, at);
+    if (other !== undefined) leftOut.set(isBetter ? other : at, 'repeated');
+  });
+  return { letters, scores, leftOut, found, folded };
+}
+
+// The numbers of lines with the best scores first. Equal ones come in an order that says nothing, and not in that of the alphabet. A list without scores that
+// is in another order keeps it.
+function inOrder(lines, form, scores) {
+  const order = lines.map((_, at) => at);
+  const isMixed = form.score !== null || isAlphabetical(lines.map((line) => parsed(line, form).spelling));
+  const mixed = isMixed ? shuffled(order, randoms(lines.length)) : order;
+  return form.score === null ? mixed : bestFirst(mixed, (at) => scores[at]);
+}
+
+// Reads a list: its words in capitals, each once, the best scores first if it has scores; `known` has the score of each, or null, and `scores` the same if
+// there are scores; the best score of the list; how many lines are left out, by reason, and the first few of them; how many words were spelled with accents; and how its scores were read. `form` says how its
+// lines have words and scores; without it they tell that.
+/** @param {import('./list-form.js').Form | null} form */
+export function readList(bytes, form = null) {
+  const lines = linesOf(listText(bytes));
+  return readLines(lines, form ?? formerForm(lines));
+}
+
+/** @param {import('./list-form.js').Form} form */
+export function readLines(lines, form) {
+  const scored = form.score !== null;
+  const { letters, scores, leftOut, found, folded } = columnsOf(lines, form);
+  const words = inOrder(lines, form, scores).filter((at) => !leftOut.has(at)).map((at) => letters[at]);
+  const best = scored ? toHundred(scores.reduce((most, score) => Math.max(most, score), 0), form.scale) : 0;
+  /** @type {Map<string, number | null>} */
+  const known = found;
+  for (const [word, at] of found) known.set(word, scored ? toHundred(scores[at], form.scale) : null);
   return {
-    scored,
-    lines: isScaled ? lines.map((line) => ({ ...line, score: line.score === null ? null : Math.round(10000 * line.score) / 100 })) : lines,
-    asRead: [...(scored && told ? [told] : []), ...(isScaled ? ['scores from 0 to 1 are read as 0 to 100'] : [])],
+    words, known, scores: scored ? known : new Map(), scored, best, leftOut: countsOf([...leftOut.values()]), dropped: firstOf(leftOut, lines), folded: folded.filter((at) => !leftOut.has(at)).length,
+    asRead: formTexts(form),
   };
 }
 
-// Reads a list: its words in capitals, each once, the best scores first if most lines have one; the scores of these words; the best score of
-// the list; how many lines are left out, by reason; how many words were spelled with accents; and how its scores were read.
-export function readList(bytes) {
-  const { lines: read, scored, asRead } = scoredLines(bytes);
-  const lines = inOrder(read, scored);
-  const words = new Map();
-  const leftOut = {};
-  let folded = 0;
-  for (const { whole, spelling, score } of lines) {
-    const written = scored ? spelling : whole;
-    const spelled = unaccented(written);
-    const letters = spelled.replace(/[^A-Za-z]/g, '').toUpperCase();
-    const reason = reasonToLeave(spelled, letters, score, scored) ?? (words.has(letters) ? 'repeated' : null);
-    if (reason) leftOut[reason] = (leftOut[reason] ?? 0) + 1;
-    else words.set(letters, score);
-    if (!reason && spelled !== written) folded++;
-  }
-  const best = scored ? lines.reduce((most, { score }) => Math.max(most, score ?? 0), 0) : 0;
-  return { words: [...words.keys()], scores: scored ? words : new Map(), scored, best, leftOut, folded, asRead };
+// how many of the lines that are left out are named, and how much of each
+const MOST_NAMED = 5;
+const MOST_OF_LINE = 60;
+
+// How many lines are left out for each reason.
+function countsOf(reasons) {
+  /** @type {Record<string, number>} */
+  const counts = {};
+  for (const reason of reasons) counts[reason] = (counts[reason] ?? 0) + 1;
+  return counts;
 }
+
+// The first lines that are left out, and why.
+const firstOf = (leftOut, lines) => [...leftOut].sort(([one], [other]) => one - other).slice(0, MOST_NAMED).map(([at, reason]) => ({ text: lines[at].slice(0, MOST_OF_LINE), why: WHY[reason](1) }));
 
 // A line of the personal list: { letters, isHidden, score, spelling }. `letters` is '' if it has no word.
 function personalLine(line) {
@@ -149,13 +179,13 @@ function personalLine(line) {
   return { letters: isWord ? letters : '', isHidden: Boolean(minus), score: score === undefined ? null : Number(score), spelling: spelling.trim() };
 }
 
-const linesOf = (text) => text.split(/\r\n?|\n/);
+const splitLines = (text) => text.split(/\r\n?|\n/);
 
 // Reads the personal list. A line is a word, with a score after a semicolon and a note after `#`, or after a minus sign a word that is hidden.
 // Returns the words with their scores, the hidden words, and what is no word.
 export function readPersonal(text) {
   const [words, hidden, faults] = [new Map(), new Set(), []];
-  for (const { letters, isHidden, score, spelling } of linesOf(text).map(personalLine)) {
+  for (const { letters, isHidden, score, spelling } of splitLines(text).map(personalLine)) {
     if (letters && isHidden) hidden.add(letters);
     else if (letters) words.set(letters, score);
     else if (spelling) faults.push(spelling);
@@ -168,7 +198,7 @@ export function joinPersonal(text, other) {
   const { words, hidden } = readPersonal(text);
   const lines = [];
   let [there, faults] = [0, 0];
-  for (const line of linesOf(other)) {
+  for (const line of splitLines(other)) {
     const { letters, isHidden, score, spelling } = personalLine(line);
     const isThere = isHidden ? hidden.has(letters) : words.has(letters) && words.get(letters) === score;
     if (!letters) faults += spelling ? 1 : 0;
@@ -181,7 +211,7 @@ export function joinPersonal(text, other) {
 // The personal list with other scores for words: in the last line that a word has there, or in one of its own. A hidden word is no longer hidden.
 /** @param {Map<string, number>} scores */
 export function withScores(text, scores) {
-  const lines = linesOf(text);
+  const lines = splitLines(text);
   const isOf = (word) => (line) => personalLine(line).letters === word;
   for (const [word, score] of scores) {
     const at = lines.findLastIndex(isOf(word));
@@ -193,35 +223,13 @@ export function withScores(text, scores) {
   return lines.join('\n').trim();
 }
 
-// Reads lists as one. A word has its best score, or null if no list gives it one; the personal list decides over the others.
-export function joinLists(sources, personal) {
-  const parts = sources.map((bytes) => readList(bytes));
-  const own = readPersonal(personal);
-  if (parts.length === 1 && !personal.trim()) return parts[0];
-  const scores = new Map();
-  for (const part of parts) for (const word of part.words) scores.set(word, better(scores.get(word) ?? null, part.scores.get(word) ?? null));
-  const best = parts.reduce((most, part) => Math.max(most, part.best), 0);
-  // a word without a score of its own is as good as the best
-  for (const [word, score] of own.words) scores.set(word, score ?? better(best, scores.get(word) ?? null));
-  for (const word of own.hidden) scores.delete(word);
-  const scored = parts.some((part) => part.scored);
-  const rank = (score) => score ?? scoreOf(UNSCORED, best);
-  const words = scored ? [...scores].sort(([, a], [, b]) => rank(b) - rank(a)).map(([word]) => word) : [...scores.keys()];
-  return {
-    words, scores: scored ? scores : new Map(), scored, best, leftOut: sumOf(parts.map((part) => part.leftOut)), folded: parts.reduce((sum, part) => sum + part.folded, 0),
-    asRead: [...new Set(parts.flatMap((part) => part.asRead))],
-  };
-}
-
 // A list shows how its entries part into words if one in so many has a space or a hyphen. Others may write all phrases in one.
 const PARTED = 100;
 const isParted = (spelling) => /[^ -][ -][^ -]/.test(spelling);
 
 // The spellings of a list, if it shows how they part.
-function partedSpellings(bytes) {
-  const lines = listLines(listText(bytes));
-  const scored = isMost(lines.filter(({ score }) => score !== null).length, lines);
-  const spellings = lines.map(({ whole, spelling }) => (scored ? spelling : whole).trim());
+function partedSpellings({ bytes, form = null }) {
+  const spellings = listLines(listText(bytes), form).map((spelling) => spelling.trim());
   return PARTED * spellings.filter(isParted).length >= spellings.length ? spellings : [];
 }
 
@@ -230,21 +238,13 @@ function partedSpellings(bytes) {
 export function enumerationsOf(words, { sources, personal, plain }) {
   /** @type {Map<string, Set<string>>} */
   const found = new Map(words.map((word) => [word, new Set()]));
-  const own = linesOf(personal).map((line) => personalLine(line).spelling).filter(isParted);
-  const spellings = [...sources.map(partedSpellings), listLines(listText(plain)).map(({ whole }) => whole), own];
+  const own = splitLines(personal).map((line) => personalLine(line).spelling).filter(isParted);
+  const spellings = [...sources.map(partedSpellings), linesOf(listText(plain)), own];
   for (const spelling of spellings.flat()) {
     const spelled = unaccented(spelling);
     found.get(spelled.replace(/[^A-Za-z]/g, '').toUpperCase())?.add(lengthsOfSpelling(spelled));
   }
   return [...found].filter(([, lengths]) => lengths.size === 1).map(([word, [lengths]]) => [word, lengths]);
-}
-
-const better = (one, other) => (one === null || other === null ? one ?? other : Math.max(one, other));
-
-function sumOf(counts) {
-  const sum = {};
-  for (const one of counts) for (const [reason, count] of Object.entries(one)) sum[reason] = (sum[reason] ?? 0) + count;
-  return sum;
 }
 
 export const wordCount = (count) => `${count.toLocaleString('en')} ${count === 1 ? 'word' : 'words'}`;

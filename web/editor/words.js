@@ -3,8 +3,10 @@ import { choices, match, tally, unpacked } from './answers.js';
 import { filtered } from './filter.js';
 import { UNSCORED, scoreOf } from './grades.js';
 import { onceIdle, whenIdle } from './idle.js';
+import { OWN } from './joined-lists.js';
 import { Kin } from './kin.js';
 import { refuse, refusalText } from './messages.js';
+import { put } from './page.js';
 import { Roving } from './roving.js';
 import { termed } from './terms.js';
 
@@ -49,6 +51,8 @@ export class WordsView {
   #isCounting = false;
   #words = [];
   #scores = new Map();
+  // the place of the list that a word is from, if there are several
+  #places = new Map();
   #left = new Map();
   // for a word of an entered light that needs other words changed, the names of their lights
   #needs = new Map();
@@ -177,7 +181,7 @@ export class WordsView {
     try {
       if (!light) {
         this.#left = new Map();
-        this.#take(turn, [], null);
+        this.#take(turn, []);
         await this.#askLetters(turn);
         return;
       }
@@ -186,7 +190,7 @@ export class WordsView {
         await this.#askAlternatives(turn, light);
         return;
       }
-      const { words, scores } = await editor.engine.call('words', { light: light.name });
+      const { words, ...known } = await editor.engine.call('words', { light: light.name });
       if (turn !== this.#turn) return;
       const isDead = light.count === 0;
       const told = isDead ? await this.#matches(light) : unpacked(words);
@@ -194,7 +198,7 @@ export class WordsView {
       this.#keepCounts(light);
       this.#isDead = isDead;
       this.#isCounting = !isDead && told.length > 0;
-      this.#take(turn, told, scores);
+      this.#take(turn, told, known);
       await this.#askLetters(turn);
       if (!isDead) await this.#count(turn, light);
     } catch (fault) {
@@ -204,14 +208,14 @@ export class WordsView {
 
   // For an entered light: the words that fit what crosses it, and those that would if the letters in pencil were changed.
   async #askAlternatives(turn, light) {
-    const { fit, others, scores } = await this.#editor.engine.call('alternatives', { light: light.name, pencil: [...this.#editor.pencil] });
+    const { fit, others, ...known } = await this.#editor.engine.call('alternatives', { light: light.name, pencil: [...this.#editor.pencil] });
     if (turn !== this.#turn) return;
     this.#left = new Map();
     this.#counted = '';
     this.#isDead = false;
     this.#isCounting = fit.length + others.length > 0;
     this.#needs = new Map(others.map(({ word, needs }) => [word, needs]));
-    this.#take(turn, [...fit, ...this.#needs.keys()], scores);
+    this.#take(turn, [...fit, ...this.#needs.keys()], known);
     await this.#askLetters(turn);
     await this.#probe(turn, light);
   }
@@ -228,7 +232,8 @@ export class WordsView {
     return (await this.#editor.ask(match(this.#editor.board.spell(light)))) ?? [];
   }
 
-  #take(turn, words, scores) {
+  // `scores` and `places` have what is known of the words, if anything is.
+  #take(turn, words, { scores = null, places = null } = {}) {
     const pointed = this.#isCurrent ? this.#pointed : '';
     this.#answered = turn;
     this.#isLate = false;
@@ -236,6 +241,7 @@ export class WordsView {
     this.#listed = this.#light?.name ?? '';
     this.#words = this.#apart(words);
     this.#scores = new Map(scores ? words.map((word, at) => [word, scores[at]]) : []);
+    this.#places = new Map(places ? words.map((word, at) => [word, places[at]]) : []);
     this.#at = -1;
     this.#elements.list.scrollTop = 0;
     this.#list();
@@ -285,6 +291,7 @@ export class WordsView {
     list.classList.toggle('dead-end', this.#isDead);
     list.classList.toggle('alternatives', this.#isStanding && this.#needs.size > 0);
     list.classList.toggle('scored', this.#scores.size > 0);
+    list.classList.toggle('several', this.#places.size > 0);
     this.#showBusy();
     setText(legend, this.#legend());
     this.#summary(words.length);
@@ -319,6 +326,7 @@ export class WordsView {
   }
 
   get #numbersLegend() {
+    if (this.#places.size) return 'the numbers: score, list in the tab Puzzle, and words left to the tightest light after it';
     return this.#scores.size ? 'the numbers: score, and words left to the tightest light after it' : 'the number: words left to the tightest light after it';
   }
 
@@ -333,10 +341,13 @@ export class WordsView {
   }
 
   #fillRow(row, word) {
-    const { name, score } = row.parts;
+    const { name, score, from } = row.parts;
     row.dataset.word = word;
     setText(name, word);
     setText(score, this.#scores.get(word) ?? '');
+    const place = this.#places.get(word) ?? null;
+    setText(from, place === OWN ? 'M' : place ?? '');
+    put(from, 'title', place === null ? '' : `from ${this.#editor.list.sources[place - 1]?.name ?? 'My words'}`);
     this.#fillLeft(row, word);
   }
 
@@ -616,7 +627,7 @@ function makeRow(id) {
   row.setAttribute('role', 'option');
   row.id = id;
   row.parts = {
-    name: document.createElement('span'), score: small('score', 'score'), worse: small('grade', 'a worse score, in My words ( - )'),
+    name: document.createElement('span'), score: small('score', 'score'), from: small('from', ''), worse: small('grade', 'a worse score, in My words ( - )'),
     better: small('grade', 'a better score, in My words ( + )'), left: small('left', LEFT_TITLE), strike: small('strike', 'hide this word in this puzzle (Shift Delete)'),
   };
   for (const [name, sign, step] of [['worse', '−', '-1'], ['better', '+', '1'], ['strike', '×', '']]) {

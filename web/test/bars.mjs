@@ -11,7 +11,7 @@ import { tmpdir } from 'node:os';
 import { join } from 'node:path';
 import { Xw, load } from '../dist/xw.js';
 import { PATTERNS, recordOf, rowsOf } from '../editor/patterns.js';
-import { Browser } from './browser.mjs';
+import { Browser, takeList } from './browser.mjs';
 import { UNLIMITED, fillOf, summary, timeOfLetters } from './time.mjs';
 
 const words = process.argv.slice(2);
@@ -94,6 +94,7 @@ async function openPage(browser) {
   await browser.go(`file://${page}`);
   await browser.until("/words$/.test(document.getElementById('facts').textContent)");
   await browser.choose('#picker', list);
+  await takeList(browser);
   await browser.until(`/^${scores.size.toLocaleString('en')} words|, ${scores.size.toLocaleString('en')} words/.test(document.getElementById('facts').textContent)`);
   await browser.value("document.getElementById('grid').focus()");
 }

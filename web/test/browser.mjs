@@ -433,3 +433,9 @@ const waitFor = (expression, most) => `new Promise((resolve, reject) => {
   const limit = setTimeout(() => end(reject, new Error(${JSON.stringify(`never: ${expression}`)} + '; ' + fault + '; the status line: ' + said())), ${most});
   look();
 })`;
+
+// Agrees to how a word list is read, once the page shows that.
+export async function takeList(browser) {
+  await browser.until("document.getElementById('list-dialog').open");
+  await browser.press('Enter');
+}

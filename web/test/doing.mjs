@@ -3,6 +3,7 @@ import { execFileSync } from 'node:child_process';
 import { rmSync, writeFileSync } from 'node:fs';
 import { join } from 'node:path';
 import { Xw } from '../dist/xw.js';
+import { takeList } from './browser.mjs';
 import { LIST, browser, expect, module, page, picture, pictures, program, room } from './page.mjs';
 
 export async function menu(name) {
@@ -55,10 +56,17 @@ export async function faultsShown() {
 // Answers that: `open` or `cancel`.
 export const openAnyway = (answer = 'open') => browser.click(`#repairs-dialog [value=${answer}]`);
 
+// Opens a word list.
+export async function openList(path) {
+  await openFile(path);
+  await takeList(browser);
+}
+
 // Opens a file whose words have one length, as a list.
 export async function openWords(path) {
   await openFile(path);
   await browser.click('#rows-dialog [value=list]');
+  await takeList(browser);
 }
 
 // Opens a session that has these lines.
@@ -119,7 +127,7 @@ export function scoredList() {
 // Has the page use that list.
 export async function openGraded() {
   writeFileSync(join(room, 'graded.txt'), scoredList().join('\n'));
-  await openFile(join(room, 'graded.txt'));
+  await openList(join(room, 'graded.txt'));
   await page.statusIs(/^graded.txt: 63,\d+ words/);
 }
 

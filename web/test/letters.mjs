@@ -9,7 +9,7 @@ import { tmpdir } from 'node:os';
 import { join } from 'node:path';
 import { Xw, load } from '../dist/xw.js';
 import { PATTERNS, recordOf, rowsOf } from '../editor/patterns.js';
-import { Browser } from './browser.mjs';
+import { Browser, takeList } from './browser.mjs';
 import { UNLIMITED, fillOf, largeList, summary, timeOfLetters } from './time.mjs';
 
 const words = process.argv.slice(2);
@@ -51,6 +51,7 @@ try {
       await browser.go(`file://${page}`);
       await browser.until("/words$/.test(document.getElementById('facts').textContent)", 30000);
       await browser.choose('#picker', join(room, 'large.txt'));
+      await takeList(browser);
       await browser.until("/277,620 words/.test(document.getElementById('facts').textContent)", 30000);
       for (const grid of grids) await measure(browser, grid, what);
     } finally {

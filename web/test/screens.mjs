@@ -6,7 +6,7 @@
 import { mkdirSync, mkdtempSync, rmSync, writeFileSync } from 'node:fs';
 import { tmpdir } from 'node:os';
 import { join } from 'node:path';
-import { Browser } from './browser.mjs';
+import { Browser, takeList } from './browser.mjs';
 import { puzOf } from './puz.mjs';
 
 const SIZES = [[360, 740], [768, 1024], [1280, 800], [1920, 1080]];
@@ -54,6 +54,7 @@ async function begin() {
   const words = readFileSync('/usr/share/dict/american-english', 'latin1').split('\n').filter((word) => /^[a-z]{3,}$/.test(word));
   writeFileSync(join(room, 'scored.txt'), words.map((word) => `${word};${score(word)}`).join('\n'));
   await browser.choose('#picker', join(room, 'scored.txt'));
+  await takeList(browser);
   await browser.until("/scored.txt, /.test(document.getElementById('facts').textContent)");
   await browser.value(`${$('grid')}.focus()`);
   await browser.press('Control+f');

@@ -82,7 +82,7 @@ const CASES = {
     same(["cross references", 're-sign', "o'clock", 'jack-in-the-box', 'Crème brûlée'.normalize('NFD').replace(/\p{M}/gu, '')].map(lengthsOfSpelling), ['5,10', '2-4', '6', '4-2-3-3', '5,6']);
     const bytes = (text) => new Uint8Array(Buffer.from(text));
     const lengths = (sources, { personal = '', plain = '' } = {}) =>
-      Object.fromEntries(enumerationsOf(['CROSSREFERENCES', 'RESIGN', 'CREMEBRULEE', 'STONE'], { sources: sources.map(bytes), personal, plain: bytes(plain) }));
+      Object.fromEntries(enumerationsOf(['CROSSREFERENCES', 'RESIGN', 'CREMEBRULEE', 'STONE'], { sources: sources.map((text) => ({ bytes: bytes(text) })), personal, plain: bytes(plain) }));
     // a list with phrases shows what is one word
     same(lengths(['cross references;50\nstone;40\ncrème brûlée;30']), { CROSSREFERENCES: '5,10', CREMEBRULEE: '5,6', STONE: '5' });
     // one that writes phrases in one word shows nothing, but the list of the page has single words

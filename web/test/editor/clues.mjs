@@ -2,7 +2,7 @@
 import { writeFileSync } from 'node:fs';
 import { join } from 'node:path';
 import { Xw } from '../../dist/xw.js';
-import { begin, menu, openFile, openRecord, print, saved } from '../doing.mjs';
+import { begin, menu, openFile, openList, openRecord, print, saved } from '../doing.mjs';
 import { hold, holdFill, isDrafted, isHeld, isInBank } from '../holding.mjs';
 import { pageScript } from '../page-modules.mjs';
 import { LIST, PAGE, browser, expect, module, page, picture, ready, reload, room, runAlone } from '../page.mjs';
@@ -571,7 +571,7 @@ export const CASES = {
 
   async 'lengths of phrases, as the lists show them'() {
     writeFileSync(join(room, 'phrases.txt'), 'ice cream;60\ncross-eyed;50\nstones;40\n');
-    await openFile(join(room, 'phrases.txt'));
+    await openList(join(room, 'phrases.txt'));
     await page.factsAre(/phrases.txt, 3 words/);
     const answers = ['ICECREAM', 'CROSSEYED', 'STONES', 'ICECREAMS'];
     const row = (word, at) => [

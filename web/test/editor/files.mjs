@@ -2,7 +2,8 @@
 import { mkdirSync, readdirSync, rmSync, writeFileSync } from 'node:fs';
 import { join } from 'node:path';
 import { Xw, toBytes } from '../../dist/xw.js';
-import { begin, faultsShown, hush, menu, openAnyway, openFile, openRecord, print, saved } from '../doing.mjs';
+import { takeList } from '../browser.mjs';
+import { begin, faultsShown, hush, menu, openAnyway, openFile, openList, openRecord, print, saved } from '../doing.mjs';
 import { isDrafted } from '../holding.mjs';
 import { browser, expect, module, page, picture, pictures, reload, room, runAlone } from '../page.mjs';
 import { pageModules, pageScript } from '../page-modules.mjs';
@@ -416,6 +417,7 @@ export const CASES = {
     expect((await page.rows()).join() === 'CAT,A#O,TEE', `the grid is ${await page.rows()}`);
     await page.factsAre(/built-in list/);
     await asked('list');
+    await takeList(browser);
     await page.factsAre(/rows.txt, 3 words/);
     await menu('built-in');
     await page.factsAre(/built-in list/);
@@ -704,7 +706,7 @@ export const CASES = {
 
   async 'several letters in a cell'() {
     writeFileSync(join(room, 'sweet.txt'), 'sweetheart\nhearts\nsets\ntea\nsweeth\n');
-    await openFile(join(room, 'sweet.txt'));
+    await openList(join(room, 'sweet.txt'));
     await page.factsAre(/sweet.txt, 5 words/);
     // SWEET[HEART] across, and [HEART]S down
     await openRecord('size 6 2\nblock 2 1\nblock 2 2\nblock 2 3\nblock 2 4\nblock 2 5\ntext title Sweet\ntext clue 1 1 across Darling (10)\ntext clue 1 6 down Suit\n');

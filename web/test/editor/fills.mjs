@@ -1,7 +1,7 @@
 // Cases of fills: one that is stopped, others, those of more workers, and none.
 import { writeFileSync } from 'node:fs';
 import { join } from 'node:path';
-import { another, begin, menu, openFile, openRecord, openWords, slideLeast } from '../doing.mjs';
+import { another, begin, menu, openList, openRecord, openWords, slideLeast } from '../doing.mjs';
 import { holdFill, raceOthers } from '../holding.mjs';
 import { browser, expect, page, picture, reload, room, runAlone } from '../page.mjs';
 
@@ -158,7 +158,7 @@ export const CASES = {
     await browser.until(`document.getElementById('light-name').textContent === '${name}'`);
     // where the least score may be the cause, that is said
     writeFileSync(join(room, 'six.txt'), 'abc;60\nadg;60\nbeh;60\ncfi;60\ndef;60\nghi;60\nzzz;5\n');
-    await openFile(join(room, 'six.txt'));
+    await openList(join(room, 'six.txt'));
     await page.factsAre(/six.txt[^,]*, 7 words/);
     await slideLeast(40);
     await page.factsAre(/6 of 7 words/);

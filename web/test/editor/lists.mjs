@@ -2,7 +2,7 @@
 import { writeFileSync } from 'node:fs';
 import { join } from 'node:path';
 import { largeList } from '../time.mjs';
-import { begin, menu, openFile, openRecord, openWords, saved, slideLeast } from '../doing.mjs';
+import { begin, beginBlank, menu, openFile, openList, openRecord, openWords, saved, slideLeast } from '../doing.mjs';
 import { raiseInTime, raiseToTheEnd, workOfLetter } from '../holding.mjs';
 import { browser, expect, forget, page, picture, reload, room, runAlone } from '../page.mjs';
 
@@ -12,7 +12,7 @@ export const CASES = {
     writeFileSync(path, largeList().join('\n'));
     await begin(1);
     await browser.type('to');
-    await openFile(path);
+    await openList(path);
     await page.factsAre(/large.txt, 277,620 words/);
     expect((await page.row(1)).startsWith('TO'), 'the puzzle is lost');
     await begin(1);
@@ -28,7 +28,7 @@ export const CASES = {
     const line = (_, number) => `${Array.from({ length: 6 }, (__, at) => letter(number, at)).join('')};${number % 101}`;
     writeFileSync(path, Array.from({ length: 300000 }, line).join('\n'));
     await begin(1);
-    await openFile(path);
+    await openList(path);
     await page.factsAre(/many-scores.txt, 300,000 words/);
     await page.statusIs(/^many-scores.txt: 300,000 words, the best scores first$/);
     await slideLeast(40);
@@ -49,7 +49,7 @@ export const CASES = {
   async 'lines of a list that are left out'() {
     const open = async (name, bytes, told) => {
       writeFileSync(join(room, name), bytes);
-      await (name === 'marked.txt' ? openWords : openFile)(join(room, name));
+      await (name === 'marked.txt' ? openWords : openList)(join(room, name));
       const said = await page.statusIs(new RegExp(`^${name}: .*words`));
       expect(said === `${name}: ${told}`, `${name}: the page says: ${said}`);
       expect((await browser.value("document.getElementById('list-name').textContent")) === `${name}: ${told.replace(', the best scores first', '')}`, 'the tab says otherwise');
@@ -58,10 +58,10 @@ export const CASES = {
     await open('marked.txt', '\ufeffcat\r\ncot\r\n\r\ncut', '3 words');
     await open('accents.txt', 'caf\u00e9\ncat\nna\u00efve\ndon\u2019t\ncot\nstra\u00dfe\n\u0153uvre\n\u0434\u0430\n', '6 words; 4 without their accents; 2 lines left out: 1 with letters other than A to Z, 1 with signs that are not ASCII');
     await open('latin.txt', Buffer.from('caf\u00e9\ncat\ncot\n', 'latin1'), '3 words; 1 without its accent');
-    await openFile(join(room, 'accents.txt'));
+    await openList(join(room, 'accents.txt'));
     await page.statusIs(/6 words/);
     writeFileSync(join(room, 'greek.txt'), '\u03b3\u03b7\n\u03b8\u03b5\u03ac\n');
-    await openFile(join(room, 'greek.txt'));
+    await openList(join(room, 'greek.txt'));
     await page.statusIs(/^greek.txt: there is no word that the list can take; 2 lines left out: 2 with letters other than A to Z$/);
     await page.factsAre(/accents.txt, 6 words/);
     await open('short.txt', 'a\ncat\nCat\ncot\n', '2 words; 2 lines left out: 1 with fewer than 2 letters, 1 that repeats a word');
@@ -87,11 +87,57 @@ export const CASES = {
     };
     for (const [name, [text, told]] of Object.entries(lists)) {
       writeFileSync(join(room, name), text);
-      await openFile(join(room, name));
+      await openList(join(room, name));
       expect((await page.statusIs(new RegExp(`^${name}: `), 'good')) === `${name}: ${told}`, `${name}: the page says: ${await page.status()}`);
       await slideLeast(70);
       await page.statusIs(/^2 of 3 words have 70 or more$/);
     }
+    await menu('built-in');
+    await page.factsAre(/built-in list/);
+  },
+
+  async 'how a list is read is shown, and can be changed'() {
+    await begin(6);
+    const shown = () => browser.value(`(() => {
+      const text = (selector) => [...document.querySelectorAll(selector)].map(({ textContent }) => textContent);
+      const chosen = ['separator', 'word', 'score', 'scale'].map((id) => document.getElementById('list-' + id).value);
+      return { told: document.getElementById('list-told').textContent, chosen, first: text('#list-lines tr:nth-child(2) td'), left: text('#list-left li') };
+    })()`);
+    const toldIs = (text) => browser.until(`document.getElementById('list-told').textContent === ${JSON.stringify(text)} && document.querySelector('#list-told[aria-busy=false]')`);
+    const choose = (id, value) => browser.value(`(() => {
+      const field = document.getElementById('list-${id}');
+      field.value = ${JSON.stringify(value)};
+      field.dispatchEvent(new Event('change'));
+    })()`);
+    writeFileSync(join(room, 'columns.csv'), '7,cat,0.5\n8,"ice, cream",0.25\n9,cot,1\n10,x,0.1\n11,cat,0.2\n');
+    await openFile(join(room, 'columns.csv'));
+    await toldIs('columns.csv: 3 words; scores from 25 to 100; 2 lines left out: 1 with fewer than 2 letters, 1 that repeats a word.');
+    const { chosen, first, left } = await shown();
+    expect(chosen.join('|') === ',|1|2|1' && first.join('|') === '7|cat|0.5', `shown: ${chosen}; ${first}`);
+    expect(left.join('|') === '10,x,0.1: with fewer than 2 letters|11,cat,0.2: that repeats a word', `left out: ${left}`);
+    await picture('list-preview');
+    await choose('scale', '100');
+    await toldIs('columns.csv: 3 words; scores from 0.25 to 1; 2 lines left out: 1 with fewer than 2 letters, 1 that repeats a word.');
+    await choose('score', '0');
+    await toldIs('columns.csv: 3 words; scores from 8 to 11; 2 lines left out: 1 with fewer than 2 letters, 1 that repeats a word.');
+    // Esc leaves all as it was
+    await browser.press('Escape');
+    await page.statusIs(/^columns.csv is not opened$/, 'bad');
+    await page.factsAre(/built-in list/);
+    await openFile(join(room, 'columns.csv'));
+    await browser.until("document.getElementById('list-dialog').open");
+    await choose('score', 'none');
+    await toldIs('columns.csv: 3 words; no scores; 2 lines left out: 1 with fewer than 2 letters, 1 that repeats a word.');
+    await choose('score', '0');
+    // what is chosen last counts, whether it is shown or not
+    await browser.press('Enter');
+    await page.statusIs(/^columns.csv: 3 words, the best scores first; /);
+    await slideLeast(9);
+    await page.statusIs(/^2 of 3 words have 9 or more$/);
+    // it is read so after a reload too
+    await reload();
+    await page.factsAre(/columns.csv, 3 words/);
+    expect((await browser.value("document.getElementById('least-shown').textContent")) === '9', 'the scores are others');
     await menu('built-in');
     await page.factsAre(/built-in list/);
   },
@@ -101,7 +147,7 @@ export const CASES = {
     await reload();
     for (const [name, text] of [['one.txt', 'cat\ncot\n'], ['two.txt', 'cut;50\near;90\ncat;70\n']]) {
       writeFileSync(join(room, name), text);
-      await (name === 'one.txt' ? openWords : openFile)(join(room, name));
+      await (name === 'one.txt' ? openWords : openList)(join(room, name));
       await page.factsAre(new RegExp(name));
     }
     await browser.click('#tab-puzzle');
@@ -166,6 +212,123 @@ export const CASES = {
     await browser.until("document.getElementById('personal-summary').textContent === 'none yet'");
     await menu('built-in');
     await page.factsAre(/built-in list, 63,\d+ words/);
+  },
+
+  async 'the order of lists, and their offsets'() {
+    await forget();
+    await reload();
+    for (const [name, text] of [['one.txt', 'cat;50\ncot;40\n'], ['two.txt', 'cat;90\ncut;60\n']]) {
+      writeFileSync(join(room, name), text);
+      await openList(join(room, name));
+      await page.factsAre(new RegExp(name));
+    }
+    await browser.click('#tab-puzzle');
+    await browser.click('#lists [data-name="one.txt"]');
+    await page.factsAre(/2 lists, 3 words/);
+    await beginBlank(3, 1);
+    // each candidate with its score, its list and the name of that
+    const candidates = "[...document.querySelectorAll('#candidates li')].map((row) => `${row.dataset.word} ${row.querySelector('.score').textContent} ${row.querySelector('.from').textContent} ${row.querySelector('.from').title}`).join()";
+    const candidatesAre = async (...wanted) => {
+      await browser.click('#tab-words');
+      await browser.until(`${candidates} === '${wanted.join()}'`);
+      await browser.click('#tab-puzzle');
+    };
+    await candidatesAre('CAT 90 1 from two.txt', 'CUT 60 1 from two.txt', 'COT 40 2 from one.txt');
+    await picture('lists-in-order');
+    const shift = (value) => browser.value(`(() => {
+      const field = document.querySelector('#lists [data-offset="one.txt"]');
+      field.value = '${value}';
+      field.dispatchEvent(new Event('change', { bubbles: true }));
+    })()`);
+    await shift(30);
+    await candidatesAre('CAT 90 1 from two.txt', 'COT 70 2 from one.txt', 'CUT 60 1 from two.txt');
+    await browser.click('#lists [data-raise="one.txt"]');
+    await candidatesAre('CAT 80 1 from one.txt', 'COT 70 1 from one.txt', 'CUT 60 2 from two.txt');
+    // what is no offset changes nothing
+    await shift(1000);
+    await browser.until("document.querySelector('#lists [data-offset=\"one.txt\"]').value === '30'");
+    await reload();
+    await browser.click('#cell-1-1');
+    await candidatesAre('CAT 80 1 from one.txt', 'COT 70 1 from one.txt', 'CUT 60 2 from two.txt');
+    await browser.until("[...document.querySelectorAll('#lists label')].map(({ textContent }) => textContent.trim()).join() === '1 one.txt,2 two.txt,built-in list'");
+    await browser.click('#lists [data-raise="two.txt"]');
+    await candidatesAre('CAT 90 1 from two.txt', 'COT 70 2 from one.txt', 'CUT 60 1 from two.txt');
+    await browser.click('#lists-undo');
+    await candidatesAre('CAT 80 1 from one.txt', 'COT 70 1 from one.txt', 'CUT 60 2 from two.txt');
+    await menu('built-in');
+    await page.factsAre(/built-in list/);
+  },
+
+  async 'other scores for words of a list'() {
+    await forget();
+    await reload();
+    const name = 'own-scores.dict';
+    const long = `${'a'.repeat(60)}b`;
+    writeFileSync(join(room, name), `cat;80\ncats;70\nbat;60\ntab;5\n${long};1\n`);
+    await openList(join(room, name));
+    await page.factsAre(/own-scores.dict, 5 words/);
+    await browser.click('#tab-puzzle');
+    const press = (what) => browser.click(`#lists [data-${what}="${name}"]`);
+    const lines = async () => (await saved('own-scores.txt', () => press('file'))).toString().split('\n').filter((line) => line.length < 60).join(' ').trim();
+    const set = (id, value) => browser.value(`(() => {
+      const field = document.getElementById('rescore-${id}');
+      field.value = ${JSON.stringify(value)};
+      field.dispatchEvent(new Event('input', { bubbles: true }));
+    })()`);
+    const toldIs = (text) => browser.until(`document.getElementById('rescore-told').textContent === ${JSON.stringify(text)}`);
+    const asking = async (kind, text, how, value) => {
+      for (const [id, one] of Object.entries({ kind, text, how, value })) await set(id, one);
+      await browser.value("document.getElementById('rescore-text').focus()");
+      await browser.press('Enter');
+    };
+    await press('rescore');
+    await asking('pattern', '?at', 'to', '10');
+    await toldIs('2 words found; all change.');
+    const shown = await browser.value("[...document.querySelectorAll('#rescore-changes tr')].map((row) => [...row.children].map(({ textContent }) => textContent).join(' ')).join()");
+    expect(shown === 'Word Now Then,CAT 80 10,BAT 60 10', `shown: ${shown}`);
+    await picture('rescore');
+    // Esc changes nothing, and what is typed after the preview asks anew
+    await browser.press('Escape');
+    expect((await lines()) === 'BAT;60 CAT;80 CATS;70 TAB;5', 'a score is changed');
+    await press('rescore');
+    await asking('regular', 'at', 'to', '10');
+    await toldIs('3 words found; all change.');
+    await set('text', '^.at');
+    expect(await browser.value("document.getElementById('rescore-take').disabled"), 'what is not shown can be taken over');
+    await asking('regular', '(', 'to', '10');
+    await browser.until("document.getElementById('rescore-told').textContent.startsWith('that is no regular expression')");
+    // one that has no end is stopped
+    await asking('regular', '^(A+)+$', 'to', '10');
+    await browser.click('#rescore-stop');
+    await toldIs('Stopped: nothing is changed.');
+    await asking('regular', '^.at', 'by', '-20');
+    await toldIs('3 words found; all change.');
+    // Enter takes over what is shown
+    await browser.press('Enter');
+    await page.statusIs(/^own-scores.dict: 5 words, the best scores first$/i);
+    expect((await lines()) === 'BAT;40 CAT;60 CATS;50 TAB;5', 'the scores are others');
+    await beginBlank(3, 1);
+    await browser.click('#tab-words');
+    await browser.until("[...document.querySelectorAll('#candidates li')].map((row) => `${row.dataset.word} ${row.querySelector('.score').textContent}`).join() === 'CAT 60,BAT 40,TAB 5'");
+    await browser.click('#tab-puzzle');
+    await press('rescore');
+    await asking('pattern', 'T*', 'to', '95');
+    await toldIs('1 word found; all changes.');
+    await browser.press('Enter');
+    await browser.until("!document.getElementById('rescore-dialog').open");
+    await browser.until("!document.getElementById('lists-undo').disabled && document.getElementById('least').max === '95'");
+    await browser.click('#lists-undo');
+    await browser.until("document.getElementById('least').max === '60'");
+    expect((await lines()) === 'BAT;40 CAT;60 CATS;50 TAB;5', 'undo leaves other scores');
+    await reload();
+    await browser.click('#tab-puzzle');
+    expect((await lines()) === 'BAT;40 CAT;60 CATS;50 TAB;5', 'the scores are not kept');
+    await press('rescore');
+    await browser.click('#rescore-back');
+    await browser.until("document.getElementById('least').max === '80'");
+    expect((await lines()) === 'BAT;60 CAT;80 CATS;70 TAB;5', 'the scores of the file are not back');
+    await menu('built-in');
+    await page.factsAre(/built-in list/);
   },
 
   async 'Esc while words are typed'() {

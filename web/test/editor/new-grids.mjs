@@ -1,7 +1,7 @@
 // The dialog of new grids: what is judged, within which limits, and when the search ends.
 import { writeFileSync } from 'node:fs';
 import { join } from 'node:path';
-import { gridsAreJudged, gridsAreShown, hasWord, menu, openFile, openGraded, setOfGrids, showGrids, stopGrids, wantGrids } from '../doing.mjs';
+import { gridsAreJudged, gridsAreShown, hasWord, menu, openGraded, openList, setOfGrids, showGrids, stopGrids, wantGrids } from '../doing.mjs';
 import { browser, expect, page, pause, picture, reload, room, runAlone } from '../page.mjs';
 
 const told = () => browser.value("document.getElementById('themes-told').textContent");
@@ -156,7 +156,7 @@ export const CASES = {
     // a list in which no word crosses the entries
     await browser.press('Escape');
     writeFileSync(join(room, 'lonely.txt'), 'gardening\nflowerpot\nzzzz\n');
-    await openFile(join(room, 'lonely.txt'));
+    await openList(join(room, 'lonely.txt'));
     await page.factsAre(/lonely.txt, 3 words/);
     await menu('themes');
     await wantGrids('gardening\nflowerpot', 'american');

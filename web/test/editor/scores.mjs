@@ -1,7 +1,7 @@
 // Cases of scores: raised fills and the least score.
 import { writeFileSync } from 'node:fs';
 import { join } from 'node:path';
-import { another, begin, beginBlank, menu, openFile, openGraded, openRecord, pointedAt, scoredList, slideLeast, wordsOf } from '../doing.mjs';
+import { another, begin, beginBlank, menu, openList, openGraded, openRecord, pointedAt, scoredList, slideLeast, wordsOf } from '../doing.mjs';
 import { hold, holdFill, holdRaising, isDrafted, isHeld, raiseInTime, raiseToTheEnd } from '../holding.mjs';
 import { browser, expect, page, picture, reload, room, runAlone } from '../page.mjs';
 
@@ -10,7 +10,7 @@ export const CASES = {
     const path = join(room, 'scored.txt');
     const list = ['cat;10', 'cot;90', 'cut;50', 'ear;60', 'oar;20', 'tea;40', 'toe;70', 'are;30', 'tar;80', 'ate;55'];
     writeFileSync(path, `${list.join('\n')}\n`);
-    await openFile(path);
+    await openList(path);
     await page.factsAre(/scored.txt, 10 words/);
     await menu('new');
     await browser.value("document.getElementById('new-width').value = 3, document.getElementById('new-height').value = 1");
@@ -27,7 +27,7 @@ export const CASES = {
   async 'a fill that is raised until none is better'() {
     // AB over CD has the worst word BD, EF over GH the worst word EG; each can be entered in two ways
     writeFileSync(join(room, 'squares.txt'), 'ab;90\ncd;80\nac;70\nbd;60\nef;75\ngh;85\neg;65\nfh;95\n');
-    await openFile(join(room, 'squares.txt'));
+    await openList(join(room, 'squares.txt'));
     await page.factsAre(/squares.txt, 8 words/);
     await beginBlank(2, 2);
     await raiseToTheEnd();
@@ -71,13 +71,13 @@ export const CASES = {
 
   async 'a fill while another puzzle is opened'() {
     writeFileSync(join(room, 'squares.txt'), 'ab;90\ncd;80\nac;70\nbd;60\nef;75\ngh;85\neg;65\nfh;95\n');
-    await openFile(join(room, 'squares.txt'));
+    await openList(join(room, 'squares.txt'));
     await page.factsAre(/squares.txt, 8 words/);
     await beginBlank(2, 2);
     await raiseToTheEnd();
     writeFileSync(join(room, 'locked.xw'), 'size 2 2\nset 1 1 A\nset 1 2 B\n');
     await hold('edit');
-    await openFile(join(room, 'locked.xw'));
+    await openList(join(room, 'locked.xw'));
     await isHeld();
     await browser.press('Control+f');
     await browser.value('window.release()');
@@ -92,7 +92,7 @@ export const CASES = {
   async 'a word that is forced, and the others'() {
     // the theme word leaves 2 Down one bad word, and the light below has one of 90
     writeFileSync(join(room, 'forced.txt'), 'toe;80\nox;3\nad;60\nbe;40\nat;90\nit;70\n');
-    await openFile(join(room, 'forced.txt'));
+    await openList(join(room, 'forced.txt'));
     await page.factsAre(/forced.txt, 6 words/);
     await openRecord('size 3 4\nblock 2 1\nblock 2 3\nblock 3 1\nblock 3 2\nblock 3 3\nblock 4 3\nset 1 1 T\nset 1 2 O\nset 1 3 E\n');
     await raiseToTheEnd();
@@ -107,7 +107,7 @@ export const CASES = {
 
   async 'words of one root, and five letters in common'() {
     writeFileSync(join(room, 'kin.txt'), 'walk;90\nwalks;90\nstone;80\nstoned;85\nmiles;70\nsingle;60\nwinter;50\n');
-    await openFile(join(room, 'kin.txt'));
+    await openList(join(room, 'kin.txt'));
     await page.factsAre(/kin.txt, 7 words/);
     await openRecord('size 6 3\nblock 1 6\nblock 2 1\nblock 2 2\nblock 2 3\nblock 2 4\nblock 2 5\nblock 2 6\nset 1 1 S\nset 1 2 T\nset 1 3 O\nset 1 4 N\nset 1 5 E\n');
     await browser.click('#cell-3-1');
@@ -135,7 +135,7 @@ export const CASES = {
     await listed('STONED,SINGLE,WINTER');
     // STALES is of STALE, and STALLS of STALL
     writeFileSync(join(room, 'stales.txt'), 'stales;90\nstalls;80\nstaler;70\n');
-    await openFile(join(room, 'stales.txt'));
+    await openList(join(room, 'stales.txt'));
     await page.factsAre(/stales.txt, 3 words/);
     await browser.click('#apart');
     await openRecord(`size 6 3\nblock 1 6\n${[1, 2, 3, 4, 5, 6].map((column) => `block 2 ${column}\n`).join('')}${[...'STALE'].map((letter, at) => `set 1 ${at + 1} ${letter}\n`).join('')}`);
@@ -149,7 +149,7 @@ export const CASES = {
 
   async 'a least score for words of three letters'() {
     writeFileSync(join(room, 'threes.txt'), 'cat;10\ncot;90\ntea;40\ntoes;5\n');
-    await openFile(join(room, 'threes.txt'));
+    await openList(join(room, 'threes.txt'));
     await page.factsAre(/threes.txt, 4 words/);
     await openRecord('size 3 1\n');
     await browser.value("document.getElementById('threes').value = 50, document.getElementById('threes').dispatchEvent(new Event('change'))");
@@ -165,7 +165,7 @@ export const CASES = {
 
   async 'another fill that is worse'() {
     writeFileSync(join(room, 'scored.txt'), 'cat;10\ncot;90\ncut;50\near;60\noar;20\ntea;40\ntoe;70\nare;30\ntar;80\nate;55\n');
-    await openFile(join(room, 'scored.txt'));
+    await openList(join(room, 'scored.txt'));
     await page.factsAre(/scored.txt, 10 words/);
     await beginBlank(3, 1);
     await raiseToTheEnd();
@@ -214,7 +214,7 @@ export const CASES = {
 
   async 'a raising by slices that go on'() {
     writeFileSync(join(room, 'slices.txt'), 'cat;10\ncot;11\ncut;12\near;13\noar;14\ntea;15\ntoe;16\nare;17\ntar;18\nate;19\n');
-    await openFile(join(room, 'slices.txt'));
+    await openList(join(room, 'slices.txt'));
     await page.factsAre(/slices.txt, 10 words/);
     await beginBlank(3, 1);
     await raiseToTheEnd();
@@ -359,7 +359,7 @@ export const CASES = {
 
   async 'a fill that is improved until no fill is better, or it is stopped'() {
     writeFileSync(join(room, 'squares.txt'), 'ab;90\ncd;80\nac;70\nbd;60\nef;75\ngh;85\neg;65\nfh;95\n');
-    await openFile(join(room, 'squares.txt'));
+    await openList(join(room, 'squares.txt'));
     await page.factsAre(/squares.txt, 8 words/);
     await beginBlank(2, 2);
     // an empty grid is filled first
@@ -416,7 +416,7 @@ export const CASES = {
 
   async 'a fill that is improved until none is under a score'() {
     writeFileSync(join(room, 'squares.txt'), 'ab;90\ncd;80\nac;70\nbd;60\nef;75\ngh;85\neg;65\nfh;95\n');
-    await openFile(join(room, 'squares.txt'));
+    await openList(join(room, 'squares.txt'));
     await page.factsAre(/squares.txt, 8 words/);
     await beginBlank(2, 2);
     const aim = (score) => browser.value(`document.getElementById('target').value = '${score}', document.getElementById('target').dispatchEvent(new Event('change'))`);
@@ -450,7 +450,7 @@ export const CASES = {
 
   async 'the weakest words, and one that is mended'() {
     writeFileSync(join(room, 'weak.txt'), 'cat;40\ncot;60\ntoe;75\ntie;70\n');
-    await openFile(join(room, 'weak.txt'));
+    await openList(join(room, 'weak.txt'));
     await page.factsAre(/weak.txt, 4 words/);
     // CAT crosses TOE, whose other letters are locked
     await openRecord('size 3 3\nblock 2 1\nblock 2 2\nblock 3 1\nblock 3 2\nset 1 1 C\nset 1 2 A\nset 1 3 T\nset 2 3 O\nset 3 3 E\n');
@@ -510,7 +510,7 @@ export const CASES = {
         post.call(this, message, transfer);
       };
     })()`);
-    await openFile(join(room, 'ahead.txt'));
+    await openList(join(room, 'ahead.txt'));
     await page.factsAre(/ahead.txt, 4 words/);
     // those of the session and of three helpers, each once
     await browser.until('window.opened.length === 4 && new Set(window.opened).size === 4');
@@ -549,7 +549,7 @@ export const CASES = {
 
   async 'better fills that come at once'() {
     writeFileSync(join(room, 'scored.txt'), 'cat;10\ncot;90\ncut;50\near;60\noar;20\ntea;40\ntoe;70\nare;30\ntar;80\nate;55\n');
-    await openFile(join(room, 'scored.txt'));
+    await openList(join(room, 'scored.txt'));
     await page.factsAre(/scored.txt, 10 words/);
     await beginBlank(3, 1);
     await raiseToTheEnd();
@@ -588,7 +588,7 @@ export const CASES = {
 
   async 'the least score, slid'() {
     writeFileSync(join(room, 'scored.txt'), 'cat;10\ncot;90\ncut;50\near;60\noar;20\ntea;40\ntoe;70\nare;30\ntar;80\nate;55\n');
-    await openFile(join(room, 'scored.txt'));
+    await openList(join(room, 'scored.txt'));
     await page.factsAre(/scored.txt, 10 words/);
     await beginBlank(3, 1);
     const listed = (words) => browser.until(`[...document.querySelectorAll('#candidates li')].map((row) => row.dataset.word).join() === '${words}'`);
@@ -676,7 +676,7 @@ export const CASES = {
 
   async 'scores above 100'() {
     writeFileSync(join(room, 'high.txt'), 'cat;250\ncot;125\ncut;124\near;3\n');
-    await openFile(join(room, 'high.txt'));
+    await openList(join(room, 'high.txt'));
     await page.factsAre(/high.txt, 4 words/);
     await beginBlank(3, 1);
     await slideLeast(50);

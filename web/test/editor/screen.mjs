@@ -1,7 +1,7 @@
 // Cases of the page as a whole: browsers, screens, messages and failures.
 import { writeFileSync } from 'node:fs';
 import { join } from 'node:path';
-import { begin, intoDeadEnd, menu, openFile, openGraded } from '../doing.mjs';
+import { begin, intoDeadEnd, menu, openGraded, openList } from '../doing.mjs';
 import { changeEdit } from '../holding.mjs';
 import { PAGE, browser, expect, page, picture, pictures, reload, room, runAlone } from '../page.mjs';
 
@@ -216,7 +216,7 @@ export const CASES = {
 
   async 'scores that fold away on a phone'() {
     writeFileSync(join(room, 'folded.txt'), 'cat;50\ncot;60\ncut;100\n');
-    await openFile(join(room, 'folded.txt'));
+    await openList(join(room, 'folded.txt'));
     await page.factsAre(/folded.txt, 3 words/);
     const isOpen = (open) => browser.until(`document.getElementById('least-row').open === ${open} && (document.getElementById('least').checkVisibility() === ${open})`);
     await browser.click('#tab-words');

@@ -3,7 +3,7 @@ import { writeFileSync } from 'node:fs';
 import { join } from 'node:path';
 import { Xw } from '../../dist/xw.js';
 import { PATTERNS, recordOf, rowsOf } from '../../editor/patterns.js';
-import { begin, beginBlank, menu, openFile, openGraded, openWords, saved } from '../doing.mjs';
+import { begin, beginBlank, menu, openGraded, openList, openWords, saved } from '../doing.mjs';
 import { isDrafted } from '../holding.mjs';
 import { LIST, PAGE, browser, expect, module, page, picture, ready, room, runAlone } from '../page.mjs';
 
@@ -130,7 +130,7 @@ export const CASES = {
 
   async 'words that are graded where they stand'() {
     writeFileSync(join(room, 'graded-again.txt'), 'cat;50\ncot;60\ncut;100\n');
-    await openFile(join(room, 'graded-again.txt'));
+    await openList(join(room, 'graded-again.txt'));
     await page.factsAre(/graded-again.txt, 3 words/);
     await beginBlank(3, 1);
     const rows = "[...document.querySelectorAll('#candidates[aria-busy=false] li')].map((row) => `${row.dataset.word} ${row.querySelector('.score').textContent}`).join()";
@@ -321,7 +321,7 @@ export const CASES = {
     expect((await page.row(1)) === 'BCD', `the row is ${await page.row(1)}`);
     // where there is no other word, that is said in place of a list
     writeFileSync(join(room, 'one-word.txt'), 'cat');
-    await openFile(join(room, 'one-word.txt'));
+    await openList(join(room, 'one-word.txt'));
     await page.factsAre(/one-word.txt, 1 word/);
     await beginBlank(3, 1);
     await browser.type('cat');
