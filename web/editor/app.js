@@ -35,6 +35,7 @@ import { Shelf } from './shelf.js';
 import { speak } from './spoken.js';
 import { StandingView } from './standing.js';
 import { start, workers } from './start.js';
+import { StatisticsView } from './statistics-view.js';
 import { Tabs } from './tabs.js';
 import { Tools } from './tools.js';
 import { Typed } from './typed.js';
@@ -145,8 +146,9 @@ const details = new DetailsView(
     panel: $('puzzle'), title: $('title'), author: $('author'), copyright: $('copyright'), notes: $('notes'), language: $('language'), checks: $('checks'), counts: $('counts'),
     lengths: $('lengths'), frequency: $('frequency'), wordForm: $('word-form'), word: $('word'), changed: $('changed'),
   },
-  { edit, text: editText, toGrid, toClue, leave, language: (code) => edits.language(code), keepWord: (word, isHidden) => lists.keepWord(word, isHidden), refreshed: () => bankView.show() },
+  { edit, text: editText, toGrid, toClue, leave, language: (code) => edits.language(code), keepWord: (word, isHidden) => lists.keepWord(word, isHidden), refreshed: () => [bankView, statistics].forEach((view) => view.show()) },
 );
+const statistics = new StatisticsView(editor, { panel: $('puzzle'), list: $('statistics'), outlets: $('outlets') }, () => figures.worst);
 const tabs = new Tabs(details, clues, toGrid);
 const grids = new GridsView(
   editor,
@@ -160,7 +162,7 @@ const grids = new GridsView(
   },
   (record, entries) => puzzles.begin(record, entries).catch(unforeseen),
 );
-const figures = new Figures(editor, { box: $('figures'), text: $('figures-text'), worst: $('figures-worst') }, { go: (light) => goTo(light), told: (scores) => weakest.show(scores) });
+const figures = new Figures(editor, { box: $('figures'), text: $('figures-text'), worst: $('figures-worst') }, { go: (light) => goTo(light), told: tellScores });
 const weakest = new WeakestView(
   editor,
   {
@@ -181,6 +183,12 @@ const filler = new Filler(editor, helpers, fills, {
   explain: () => whenIdle(() => reasons.ask().catch(() => {})), figures, offer: (offer) => weakest.offer(offer),
 });
 const nextLight = new NextLight(editor, faults, toGrid);
+
+// Shows the scores of the words where they are listed and counted.
+function tellScores(scores) {
+  weakest.show(scores);
+  details.soon();
+}
 
 // Puts letters into the grid in one step, and keeps them among the fills to choose from. Returns what they are refused for, or null.
 async function useMended(letters) {

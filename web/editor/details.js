@@ -25,7 +25,7 @@ export class DetailsView {
     this.#elements = elements;
     this.actions = actions;
     editor.on(['board'], () => this.#takeTexts());
-    editor.on(['step', 'written'], () => this.#soon());
+    editor.on(['step', 'written'], () => this.soon());
     for (const field of ['title', 'author', 'copyright', 'notes']) {
       elements[field].addEventListener('change', () => this.#change(field));
       elements[field].addEventListener('focusout', () => this.#leave(field));
@@ -92,7 +92,8 @@ export class DetailsView {
     for (const field of ['title', 'author', 'copyright', 'notes']) this.#elements[field].value = this.#elements[field].dataset.kept;
   }
 
-  #soon() {
+  // Asks for counts and faults when edits have come to a rest.
+  soon() {
     clearTimeout(this.#timer);
     this.#timer = setTimeout(() => this.refresh().catch(() => {}), SETTLED);
   }

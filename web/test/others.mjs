@@ -1,0 +1,101 @@
+// Tests what the page makes of a puzzle for others: what outlets ask of it.
+//
+//   node web/test/others.mjs
+//
+// The last line is 'N passed, M failed'.
+import { deepStrictEqual as same } from 'node:assert/strict';
+import { Count } from './count.mjs';
+import { pageModules } from './page-modules.mjs';
+import { boardsOf } from './rows.mjs';
+
+const { Board, OUTLETS, PATTERNS, gridFigures, judgedBy, judgedByAll, letterFigures, rowsOf, rowsOfFigures, verdictOf } = await pageModules(
+  'board', 'grids/outlets', 'patterns', 'statistics',
+);
+const boardOf = boardsOf(Board);
+const american = gridFigures(boardOf(...rowsOf(PATTERNS[0])));
+const outlet = (name) => OUTLETS.find((one) => one.name === name);
+const stateOf = (judged, text) => judged.find((one) => one.text.startsWith(text));
+
+const CASES = {
+  'the figures of a grid'() {
+    const small = gridFigures(boardOf(...rowsOf(PATTERNS[4])));
+    same(small, {
+      style: 'american', width: 7, height: 7, symmetries: ['half', 'quarter', 'leftright', 'updown'], words: 22, blocks: 8, threes: 18,
+      lengths: [7, 7, 7, 7, ...Array(18).fill(3)], cheaters: 0, lumps: 0, parts: 1, warnings: [],
+    });
+    const fat = gridFigures(boardOf('##...', '##...', '.....', '...##', '...##'));
+    same([fat.symmetries, fat.words, fat.threes, fat.blocks, fat.cheaters, fat.lumps], [['half'], 10, 8, 8, 8, 2]);
+    // five in line are two times four
+    const line = gridFigures(boardOf('#####..', '.......'));
+    same([line.cheaters, line.lumps, line.symmetries], [5, 2, []]);
+    const apart = gridFigures(boardOf('ABC', '###', 'DEF'));
+    same([apart.parts, apart.warnings.includes('the grid is in 2 parts that do not connect')], [2, true]);
+    // as counted by hand
+    const { words, blocks, threes, lengths, cheaters, lumps } = american;
+    same([words, blocks, threes, lengths[0], cheaters, lumps], [76, 36, 13, 8, 2, 4]);
+  },
+
+  'a symmetry of bars'() {
+    const board = boardOf('....', '....');
+    // a bar in the middle of the first row parts its light
+    const [first] = board.lights;
+    const [left, right] = [{ ...first, cells: [0, 1] }, { ...first, name: '3 across', cells: [2, 3] }];
+    board.cells[1].right = true;
+    board.lights = [left, right, ...board.lights.slice(1)];
+    same([gridFigures(board).style, gridFigures(board).symmetries], ['barred', ['leftright']]);
+  },
+
+  'the letters of a fill'() {
+    same(letterFigures(['J', 'A', '', 'Z', 'Z']), { missing: 'BCDEFGHIKLMNOPQRSTUVWXY', rare: [['J', 1], ['Z', 2]] });
+    // a cell of several letters has them all
+    same(letterFigures([...'ABCDEFGHIJKLMNOP', 'QUEEN', ...'RSTVWXYZ']), { missing: '', rare: [['J', 1], ['Q', 1], ['X', 1], ['Z', 1]] });
+    const rows = (entries, scores = '') => new Map(rowsOfFigures(american, letterFigures(entries), scores));
+    same([rows([]).get('Letters'), rows([]).get('Rare letters'), rows([]).has('Scores')], ['none yet', 'none', false]);
+    same(rows([...'ABCDEFGHIJKLMNOPQRSTUVWXY'], 'worst 40, mean 61').get('Letters'), 'without Z');
+    same([rows(['J', 'J']).get('Rare letters'), rows([], 'worst 40, mean 61').get('Scores')], ['J 2', 'worst 40, mean 61']);
+    same([rows([]).get('Longest'), rows([]).get('Cheaters'), rows([]).get('Connected')], ['8 letters (2 words)', '2', 'yes']);
+  },
+
+  'what outlets ask'() {
+    const daily = judgedBy(outlet('New York Times, daily'), american, {});
+    same(stateOf(daily, 'Words at most'), { text: 'Words at most', here: '76', limit: '78', source: 'published', state: 'met' });
+    same(stateOf(daily, 'Lumps'), { text: 'Lumps of blocks (2 × 2, or four in line) at most', here: '4', limit: '0', source: 'usual', state: 'missed' });
+    same(daily.filter(({ state }) => state !== 'met').map(({ text, state }) => `${text.split(' ')[0]} ${state}`), ['Lumps missed', 'Rows open']);
+    same(verdictOf(daily), '✗ 1 of 10 not met, 1 to look at yourself');
+    // in a themeless no entry has to be of the theme
+    const themeless = judgedBy(outlet('New York Times, themeless'), american, {});
+    same([stateOf(themeless, 'Words at most').state, verdictOf(themeless)], ['missed', '✗ 2 of 8 not met']);
+    // of another size
+    const sunday = judgedBy(outlet('New York Times, Sunday'), american, {});
+    same(stateOf(sunday, 'Size'), { text: 'Size', here: '15 × 15', limit: '21 × 21', source: 'published', state: 'missed' });
+    same(stateOf(sunday, 'Words at most').source, 'by the size');
+  },
+
+  'limits that a setter changed'() {
+    const changed = { 'New York Times, daily 15 15': { lumps: 4, words: null }, 'New York Times, daily 21 21': { blocks: 1 } };
+    const judged = judgedBy(outlet('New York Times, daily'), american, changed);
+    same([stateOf(judged, 'Words at most'), stateOf(judged, 'Lumps').source, stateOf(judged, 'Lumps').state, stateOf(judged, 'Blocks').limit], [undefined, 'yours', 'met', '38']);
+    same(verdictOf(judged), '✓ met, 1 to look at yourself');
+  },
+
+  'long words that may be of a theme'() {
+    const long = { ...american, lengths: [15, 11, 10, 8] };
+    const judged = judgedBy(outlet('New York Times, daily'), long, {});
+    same(stateOf(judged, 'Letters of other words'), { text: 'Letters of other words than the theme at most', here: 'theme entries of 15, 11?', limit: '10', source: 'usual', state: 'open' });
+  },
+
+  'outlets of the kind of a grid'() {
+    const lattice = gridFigures(boardOf(...rowsOf(PATTERNS[2])));
+    same([lattice.style, judgedByAll(lattice, {}).map(({ name }) => name)], ['british', ['Guardian', 'Times', 'Independent']]);
+    same(judgedByAll(lattice, {}).map(({ judged }) => verdictOf(judged)), ['✓ met', '✓ met', '✓ met']);
+    const open = gridFigures(boardOf(...Array(15).fill('.'.repeat(15))));
+    same(judgedByAll(open, {}).length, 8);
+    // a cell in one light only
+    const loose = judgedBy(outlet('New York Times, daily'), gridFigures(boardOf('.#...', ...Array(4).fill('.....'))), {});
+    same([stateOf(loose, 'Rules').state, stateOf(loose, 'Rules').here], ['missed', 'the cell in row 1, column 1 is in one light only']);
+  },
+};
+
+const count = new Count();
+await count.runAll(CASES);
+count.end();
