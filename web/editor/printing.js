@@ -36,7 +36,9 @@ export class PrintDialog {
 
   #preview() {
     const chosen = (name) => $('print-dialog').querySelector(`[name=${name}]:checked`).value;
-    Object.assign(this.#printer, { parts: chosen('parts'), paper: chosen('paper'), hasLengths: $('print-lengths').checked, address: $('print-address').value });
+    Object.assign(this.#printer, {
+      parts: chosen('parts'), paper: chosen('paper'), hasLengths: $('print-lengths').checked, address: $('print-address').value, isDouble: $('print-double').checked,
+    });
     $('print-sender').hidden = this.#printer.parts !== 'submission';
     $('preview').replaceChildren(...this.#printer.pages());
   }

@@ -1,4 +1,4 @@
-// Tests what the page makes of a puzzle for others: what outlets ask of it.
+// Tests what the page makes of a puzzle for others: what outlets ask of it, and the manuscript that they get.
 //
 //   node web/test/others.mjs
 //
@@ -8,13 +8,24 @@ import { Count } from './count.mjs';
 import { pageModules } from './page-modules.mjs';
 import { boardsOf } from './rows.mjs';
 
-const { Board, OUTLETS, PATTERNS, gridFigures, judgedBy, judgedByAll, letterFigures, rowsOf, rowsOfFigures, verdictOf } = await pageModules(
-  'board', 'grids/outlets', 'patterns', 'statistics',
+const { Board, OUTLETS, PATTERNS, gridFigures, headLines, judgedBy, judgedByAll, letterFigures, linksOf, manuscriptRows, numbersOf, rowsOf, rowsOfFigures, verdictOf } = await pageModules(
+  'board', 'grids/outlets', 'links', 'manuscript', 'patterns', 'statistics',
 );
 const boardOf = boardsOf(Board);
 const american = gridFigures(boardOf(...rowsOf(PATTERNS[0])));
 const outlet = (name) => OUTLETS.find((one) => one.name === name);
 const stateOf = (judged, text) => judged.find((one) => one.text.startsWith(text));
+
+// What tells of a puzzle: a board with texts by field, and originals.
+function toldOf(board, texts, originals = []) {
+  const links = linksOf(board, new Map(originals));
+  const answerOf = (light) => board.spell(light);
+  const all = (light) => [light, ...(links.heads.get(light) ?? [])];
+  return {
+    board, links, answerOf, textOf: (field) => texts[field] ?? '',
+    cluedBy: (light) => ({ numbers: numbersOf(light, all(light).slice(1)), answer: all(light).map(answerOf).join('') }),
+  };
+}
 
 const CASES = {
   'the figures of a grid'() {
@@ -93,6 +104,26 @@ const CASES = {
     // a cell in one light only
     const loose = judgedBy(outlet('New York Times, daily'), gridFigures(boardOf('.#...', ...Array(4).fill('.....'))), {});
     same([stateOf(loose, 'Rules').state, stateOf(loose, 'Rules').here], ['missed', 'the cell in row 1, column 1 is in one light only']);
+  },
+
+  'the head of each page of a manuscript'() {
+    const board = boardOf('CAT', 'O#O', 'DOE');
+    const lines = (author, address) => headLines(toldOf(board, { author }), address);
+    same(lines('A. Setter', '1 Grid Road\nCrossing'), ['A. Setter', '1 Grid Road\nCrossing', '3 × 3, 4 words']);
+    same(lines('A. Setter', 'A. Setter\n1 Grid Road'), ['A. Setter\n1 Grid Road', '3 × 3, 4 words']);
+    same(lines('', ''), ['3 × 3, 4 words']);
+  },
+
+  'the clues of a manuscript, with their answers'() {
+    const board = boardOf('CAT', 'O#O', 'D.E');
+    const texts = { 'clue 1 across': 'Pet', 'clue 1 down': 'Fish (3)', 'clue 2 down': '<i>Digit</i> (3, abbr.)', 'clue 3 across': 'See 1' };
+    const told = toldOf(board, texts, [['link 1 1 across', '3 1 across']]);
+    const rows = (hasLengths) => manuscriptRows(told, hasLengths).map(({ heading, number, clue, answer }) => heading ?? [number, clue, answer].join('|'));
+    same(rows(true), ['Across', '1/3A|Pet (6)|CAT', '3A|See 1|D_E', 'Down', '1D|Fish (3)|COD', '2D|<i>Digit</i> (3, abbr.)|TOE']);
+    // the lengths that were typed stay
+    same(rows(false), ['Across', '1/3A|Pet|CAT', '3A|See 1|D_E', 'Down', '1D|Fish (3)|COD', '2D|<i>Digit</i> (3, abbr.)|TOE']);
+    const blank = manuscriptRows(toldOf(board, {}), false);
+    same(blank.map(({ clue }) => clue), [undefined, '', '', undefined, '', '']);
   },
 };
 

@@ -1,0 +1,33 @@
+// The manuscript of a puzzle, as outlets ask for it: what stands at the head of each page, and the clues with their answers.
+import { withEnumeration } from './enumeration.js';
+
+/** @typedef {Pick<import('./editor.js').Editor, 'board' | 'textOf' | 'answerOf' | 'cluedBy' | 'links'>} Told what tells of the puzzle */
+// A heading, or a clue with its number and its answer.
+/** @typedef {{ heading: string } | { number: string, clue: string, answer: string }} Row */
+
+// The lines at the head of each page: who sends it, and what of the puzzle an outlet looks at first.
+/** @param {Told} told */
+export function headLines(told, address) {
+  const { board } = told;
+  const author = told.textOf('author');
+  // an address mostly begins with the name
+  const sender = address.split('\n')[0].trim() === author ? [address] : [author, address];
+  return [...sender, `${board.width} × ${board.height}, ${board.lights.length} words`].filter(Boolean);
+}
+
+// The clues across and then down. One that has no length gets that of its answer if it is to have one, but not if its light goes on from another one.
+/**
+ * @param {Told} told
+ * @returns {Row[]}
+ */
+export function manuscriptRows(told, hasLengths) {
+  const { board, links: { headOf } } = told;
+  const rowOf = (light, sign) => {
+    const { numbers, answer } = told.cluedBy(light);
+    const text = told.textOf(`clue ${light.name}`);
+    const clue = hasLengths && !headOf.has(light) ? withEnumeration(text, answer.length) : text;
+    return { number: `${numbers}${sign}`, clue, answer: told.answerOf(light).replaceAll('.', '_') };
+  };
+  const inDirection = (direction, heading, sign) => [{ heading }, ...board.lights.filter((light) => light.direction === direction).map((light) => rowOf(light, sign))];
+  return [...inDirection('across', 'Across', 'A'), ...inDirection('down', 'Down', 'D')];
+}
