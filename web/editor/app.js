@@ -136,6 +136,7 @@ const clues = new CluesView(
   {
     text: editText, lengths: (texts, left) => edits.addLengths(texts, left), enumerations: (words) => lists.enumerations(words), toGrid, use: (light, clue) => edits.useClue(light, clue), keep: (light) => edits.keepClue(light),
     former: (word, clue) => bank.of(word, clue), leave, note: (element, light, text) => typed.edit(element, (run) => edits.note(light, text, run)),
+    comments: (element, light, text) => typed.edit(element, () => edits.comments(light, text)),
     link: (element, light, text) => typed.edit(element, (run) => edits.link(light, text, run)),
     words: () => allWords.get(),
   },

@@ -150,6 +150,8 @@ export class DetailsView {
       const [{ light, word }] = stale;
       items.push(check(stale.length === 1 ? `the clue of ${titleOf(light)} was written for ${word}` : `${stale.length} clues were written for other words`, light.name, 'clue'));
     }
+    const commented = board.lights.filter((light) => this.#editor.commentsOn(light).length);
+    if (commented.length) items.push(check(commented.length === 1 ? `the clue of ${titleOf(commented[0])} has comments` : `${commented.length} clues have comments`, commented[0].name, 'clue'));
     const empty = board.firstEmpty();
     if (empty >= 0) {
       const item = element('li', '');

@@ -26,6 +26,7 @@ function hadBy(editor) {
     colours: countText(cells((cell) => editor.colourOf(cell)), 'the colour of a cell', 'colours of cells'),
     links: countText(links.heads.size, 'the link of a clue', 'links of clues'),
     notes: countText(board.lights.filter((light) => editor.noteOf(light)).length, 'a private note', 'private notes'),
+    comments: countText(board.lights.filter((light) => editor.commentsOn(light).length).length, 'the comments on a clue', 'clues’ comments'),
     language: editor.language ? ['the language'] : [],
   };
 }

@@ -1,9 +1,9 @@
 // The manuscript of a puzzle, as outlets ask for it: what stands at the head of each page, and the clues with their answers.
 import { withEnumeration } from './enumeration.js';
 
-/** @typedef {Pick<import('./editor.js').Editor, 'board' | 'textOf' | 'answerOf' | 'cluedBy' | 'links'>} Told what tells of the puzzle */
-// A heading, or a clue with its number and its answer.
-/** @typedef {{ heading: string } | { number: string, clue: string, answer: string }} Row */
+/** @typedef {Pick<import('./editor.js').Editor, 'board' | 'textOf' | 'answerOf' | 'cluedBy' | 'links' | 'commentsOn'>} Told what tells of the puzzle */
+// A heading, a clue with its number and its answer, or the comments on the clue before it.
+/** @typedef {{ heading: string } | { number: string, clue: string, answer: string } | { comments: string }} Row */
 
 // The lines at the head of each page: who sends it, and what of the puzzle an outlet looks at first.
 /** @param {Told} told */
@@ -16,18 +16,20 @@ export function headLines(told, address) {
 }
 
 // The clues across and then down. One that has no length gets that of its answer if it is to have one, but not if its light goes on from another one.
+// With comments, those on a clue come behind it.
 /**
  * @param {Told} told
  * @returns {Row[]}
  */
-export function manuscriptRows(told, hasLengths) {
+export function manuscriptRows(told, hasLengths, hasComments = false) {
   const { board, links: { headOf } } = told;
-  const rowOf = (light, sign) => {
+  const rowsOf = (light, sign) => {
     const { numbers, answer } = told.cluedBy(light);
     const text = told.textOf(`clue ${light.name}`);
     const clue = hasLengths && !headOf.has(light) ? withEnumeration(text, answer.length) : text;
-    return { number: `${numbers}${sign}`, clue, answer: told.answerOf(light).replaceAll('.', '_') };
+    const comments = hasComments ? told.commentsOn(light).join('\n') : '';
+    return [{ number: `${numbers}${sign}`, clue, answer: told.answerOf(light).replaceAll('.', '_') }, ...(comments ? [{ comments }] : [])];
   };
-  const inDirection = (direction, heading, sign) => [{ heading }, ...board.lights.filter((light) => light.direction === direction).map((light) => rowOf(light, sign))];
+  const inDirection = (direction, heading, sign) => [{ heading }, ...board.lights.filter((light) => light.direction === direction).flatMap((light) => rowsOf(light, sign))];
   return [...inDirection('across', 'Across', 'A'), ...inDirection('down', 'Down', 'D')];
 }

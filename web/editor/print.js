@@ -39,9 +39,10 @@ export class Printer {
   paper = 'A4';
   // whether clues without an enumeration get the length of their word
   hasLengths = true;
-  // of a submission: the name and address, and whether its clues are double spaced
+  // of a submission: the name and address, whether its clues are double spaced, and whether it has the comments on them
   address = '';
   isDouble = true;
+  hasComments = false;
 
   print() {
     this.#prepare();
@@ -176,7 +177,7 @@ export class Printer {
     this.#addGrid(other, false, isEach ? this.#widthOn(other, 1, 160) : both);
     const beginAnswers = () => begin(': clues and answers');
     const table = () => make('table', `answers${this.isDouble ? ' double' : ''}`);
-    this.#flow(beginAnswers(), manuscriptRows(this.#editor, this.hasLengths).map(rowOf), (on) => showIn(on.appendChild(table())), beginAnswers);
+    this.#flow(beginAnswers(), manuscriptRows(this.#editor, this.hasLengths, this.hasComments).map(rowOf), (on) => showIn(on.appendChild(table())), beginAnswers);
     const pages = [...this.#sheet.children];
     pages.forEach((one, at) => {
       one.querySelector('.address').textContent = [...lines, pageText(at + 1, pages.length)].join('\n');
@@ -253,12 +254,16 @@ function barsOf({ right, below }, x, y) {
 const pageText = (number, count) => `page ${number} of ${count}`;
 
 // A row of the table of clues and answers.
-function rowOf({ heading = '', number = '', clue = '', answer = '' }) {
-  const row = make('tr', heading ? 'heading' : '');
-  const cells = heading ? [make('th', '', heading)] : [make('td', '', number), make('td', ''), make('td', '', answer)];
-  if (heading) cells[0].colSpan = 3;
-  else cells[1].append(...nodesOfText(clue));
-  row.append(...cells);
+function rowOf({ heading = '', comments = '', number = '', clue = '', answer = '' }) {
+  const row = make('tr', heading ? 'heading' : comments ? 'comments' : '');
+  if (heading || comments) {
+    const cell = row.appendChild(make(heading ? 'th' : 'td', '', heading || comments));
+    cell.colSpan = 3;
+    return row;
+  }
+  const told = make('td', '');
+  told.append(...nodesOfText(clue));
+  row.append(make('td', '', number), told, make('td', '', answer));
   return row;
 }
 

@@ -38,6 +38,7 @@ export class PrintDialog {
     const chosen = (name) => $('print-dialog').querySelector(`[name=${name}]:checked`).value;
     Object.assign(this.#printer, {
       parts: chosen('parts'), paper: chosen('paper'), hasLengths: $('print-lengths').checked, address: $('print-address').value, isDouble: $('print-double').checked,
+      hasComments: $('print-comments').checked,
     });
     $('print-sender').hidden = this.#printer.parts !== 'submission';
     $('preview').replaceChildren(...this.#printer.pages());

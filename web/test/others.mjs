@@ -1,4 +1,4 @@
-// Tests what the page makes of a puzzle for others: what outlets ask of it, and the manuscript that they get.
+// Tests what the page makes of a puzzle for others: what outlets ask of it, the manuscript that they get, and comments.
 //
 //   node web/test/others.mjs
 //
@@ -8,8 +8,8 @@ import { Count } from './count.mjs';
 import { pageModules } from './page-modules.mjs';
 import { boardsOf } from './rows.mjs';
 
-const { Board, OUTLETS, PATTERNS, gridFigures, headLines, judgedBy, judgedByAll, letterFigures, linksOf, manuscriptRows, numbersOf, rowsOf, rowsOfFigures, verdictOf } = await pageModules(
-  'board', 'grids/outlets', 'links', 'manuscript', 'patterns', 'statistics',
+const { Board, Dropped, OUTLETS, PATTERNS, changeBeside, commentField, commentsIn, gridFigures, headLines, judgedBy, judgedByAll, lawfulBeside, letterFigures, linksOf, lossesOf, manuscriptRows, numbersOf, rowsOf, rowsOfFigures, verdictOf, withComment, withoutComment } = await pageModules(
+  'beside', 'board', 'changed', 'comments', 'dropped', 'grids/outlets', 'links', 'losses', 'manuscript', 'patterns', 'statistics',
 );
 const boardOf = boardsOf(Board);
 const american = gridFigures(boardOf(...rowsOf(PATTERNS[0])));
@@ -23,6 +23,7 @@ function toldOf(board, texts, originals = []) {
   const all = (light) => [light, ...(links.heads.get(light) ?? [])];
   return {
     board, links, answerOf, textOf: (field) => texts[field] ?? '',
+    commentsOn: (light) => commentsIn(new Map(originals).get(commentField(board, light)) ?? ''),
     cluedBy: (light) => ({ numbers: numbersOf(light, all(light).slice(1)), answer: all(light).map(answerOf).join('') }),
   };
 }
@@ -124,6 +125,38 @@ const CASES = {
     same(rows(false), ['Across', '1/3A|Pet|CAT', '3A|See 1|D_E', 'Down', '1D|Fish (3)|COD', '2D|<i>Digit</i> (3, abbr.)|TOE']);
     const blank = manuscriptRows(toldOf(board, {}), false);
     same(blank.map(({ clue }) => clue), [undefined, '', '', undefined, '', '']);
+  },
+
+  'comments on a clue'() {
+    same(commentsIn(''), []);
+    // whatever parts lines in a file
+    same(commentsIn(' TB: too hard\r\n\r\nED: leave it \n'), ['TB: too hard', 'ED: leave it']);
+    same(withComment([], ' TB: too hard '), 'TB: too hard');
+    same(withComment(['TB: too hard'], 'ED: leave\nit'), 'TB: too hard\nED: leave it');
+    same([withComment(['a'], ' '), withoutComment(['a', 'b', 'c'], 1), withoutComment(['a'], 0)], ['a', 'a\nc', '']);
+  },
+
+  'comments in a session, in a step and in no file of solvers'() {
+    const board = boardOf('CAT', 'O#O', 'D.E');
+    const field = commentField(board, board.byName.get('2 down'));
+    same(field, 'comment 1 3 down');
+    const pairs = [[field, 'TB: too hard'], ['comment 1 3 aslant', 'no'], ['comment 1 3 down', 3]];
+    const dropped = new Dropped();
+    same([lawfulBeside({ originals: pairs }, dropped).originals, dropped.phrases.length], [[[field, 'TB: too hard']], 1]);
+    const step = (originals) => ({ puzzle: 'p', record: 'size 3 3\n', written: [], originals });
+    const change = changeBeside(step([]), step([[field, 'TB: too hard']]), (place, direction) => `${place} ${direction}`);
+    same(change, { tab: 'clues', text: 'the comments on 1 3 down' });
+    const told = toldOf(board, {}, [[field, 'TB: too hard']]);
+    const editor = { ...told, originals: new Map([[field, 'TB: → too hard']]), entryOf: ({ letter }) => letter, colourOf: () => '', noteOf: () => '', language: '' };
+    for (const form of ['puz', 'ipuz', 'jpz', 'exolve', 'text', 'csv', 'html']) same([form, lossesOf(editor, form)], [form, { lost: ['the comments on a clue'], strange: [] }]);
+  },
+
+  'comments in a manuscript, if they are wanted'() {
+    const board = boardOf('CAT', 'O#O', 'D.E');
+    const told = toldOf(board, { 'clue 1 across': 'Pet' }, [['comment 1 1 across', 'TB: too easy\nED: no'], ['comment 1 1 down', 'ED: yes']]);
+    const rows = (...more) => manuscriptRows(told, false, ...more).map(({ heading, number, comments }) => heading ?? number ?? comments);
+    same(rows(), ['Across', '1A', '3A', 'Down', '1D', '2D']);
+    same(rows(true), ['Across', '1A', 'TB: too easy\nED: no', '3A', 'Down', '1D', 'ED: yes', '2D']);
   },
 };
 

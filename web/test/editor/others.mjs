@@ -1,6 +1,7 @@
-// Cases of what a setter has for others: the statistics that outlets ask for.
-import { begin, menu } from '../doing.mjs';
-import { browser, expect, page, picture, runAlone } from '../page.mjs';
+// Cases of what a setter has for others: the statistics that outlets ask for, and comments on clues.
+import { join } from 'node:path';
+import { begin, menu, openFile, openRecord, print, saved } from '../doing.mjs';
+import { browser, expect, page, picture, room, runAlone } from '../page.mjs';
 
 // What is said of an outlet: its line, and the text of each row of its table.
 const outlet = (name) => browser.value(`(() => {
@@ -44,6 +45,59 @@ export const CASES = {
     await browser.click('#tab-puzzle');
     await browser.until("/^Guardian.*Times.*Independent/.test(document.getElementById('outlets').textContent)");
     expect((await page.count('#outlets details')) === 3, 'a lattice has other outlets');
+  },
+
+  async 'comments on clues'() {
+    const comment = async (text) => {
+      await browser.value("document.querySelector('.clue-more .comment').focus()");
+      await browser.insert(text);
+      await browser.press('Enter');
+    };
+    const listed = (wanted) => browser.until(`[...document.querySelectorAll('.clue-more li')].map((item) => item.firstChild.textContent).join('|') === ${JSON.stringify(wanted)}`);
+    await openRecord('size 3 2\nset 1 1 C\nset 1 2 O\nset 1 3 D\nset 2 1 A\nset 2 2 N\nset 2 3 O\ntext clue 1 1 across Fish\n');
+    await browser.press('F3');
+    await comment('TB: <b>too</b> hard');
+    await listed('TB: <b>too</b> hard');
+    await comment('ED: leave it');
+    await listed('TB: <b>too</b> hard|ED: leave it');
+    await picture('comments');
+    // one undo takes the last one back
+    await browser.press('Control+z');
+    await listed('TB: <b>too</b> hard');
+    await comment('ED: leave it');
+    await listed('TB: <b>too</b> hard|ED: leave it');
+    await browser.click('.clue-more li:nth-child(2) button');
+    await listed('TB: <b>too</b> hard');
+    // what is half typed goes to the clue that it is for
+    await browser.value("document.querySelector('.clue-more .comment').focus()");
+    await browser.insert('half a comment');
+    await browser.click('#cell-2-1');
+    await listed('');
+    const below = "[...document.querySelectorAll('.clue .kept-comments')].map(({ textContent }) => textContent).filter(Boolean).join('|')";
+    await browser.until(`${below} === 'TB: <b>too</b> hard\\nhalf a comment'`);
+    // it is among what is to do
+    await browser.press('F4');
+    await browser.until("[...document.querySelectorAll('#checks button')].some(({ textContent }) => textContent === 'the clue of 1 Across has comments')");
+    // the session has them, and no file of solvers
+    const session = (await saved('crossword.xw', () => menu('save-session'))).toString();
+    const ipuz = (await saved('crossword.ipuz', () => menu('save-ipuz'))).toString();
+    await page.statusIs(/the comments on a clue/);
+    expect(session.includes('half a comment') && !ipuz.includes('half a comment'), 'comments are in the wrong file');
+    await begin(6);
+    await openFile(join(room, 'crossword.xw'));
+    await browser.until(`${below} === 'TB: <b>too</b> hard\\nhalf a comment'`);
+    // a print has them if that is wished
+    for (const isWished of [false, true]) {
+      await browser.press('Control+p');
+      await browser.click('[name=parts][value=submission]');
+      await browser.value(`document.getElementById('print-comments').checked !== ${isWished} && document.getElementById('print-comments').click()`);
+      await print();
+      expect((await browser.value("document.getElementById('sheet').textContent.includes('half a comment')")) === isWished, `comments are printed if they are wished: ${isWished}`);
+    }
+    await browser.press('Control+p');
+    await browser.click('#print-comments');
+    await browser.click('[name=parts][value=both]');
+    await browser.click('#print-dialog [value=cancel]');
   },
 };
 
