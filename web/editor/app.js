@@ -33,6 +33,7 @@ import { PrintDialog } from './printing.js';
 import { Reasons } from './reasons.js';
 import { Shelf } from './shelf.js';
 import { speak } from './spoken.js';
+import { SolveDialog } from './solver/dialog.js';
 import { StandingView } from './standing.js';
 import { start, workers } from './start.js';
 import { StatisticsView } from './statistics-view.js';
@@ -262,6 +263,7 @@ const lists = new ListsInUse(editor, {
 });
 const puzzles = new NewPuzzle(editor, { mayEdit, soon, toGrid, addVersion: () => shelf.addVersion() });
 const printing = new PrintDialog(editor);
+const solving = new SolveDialog(editor, { dialog: $('solve-dialog'), root: $('solve') });
 
 // what the file that is being picked is to be, if that is said
 let picked = '';
@@ -312,6 +314,7 @@ const ACTIONS = {
   list: () => pick('.txt,.dict,.csv,.tsv', 'list'),
   'built-in': () => lists.change((now) => now.onlyBuiltIn()),
   print: wholly(() => printing.open()),
+  solve: wholly(() => solving.open()),
   undo: () => step(true),
   redo: () => step(false),
   fill: () => filler.run(false),

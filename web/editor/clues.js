@@ -3,7 +3,7 @@ import { ClueMore } from './clue-more.js';
 import { hasEnumeration, withEnumeration } from './enumeration.js';
 import { hasItalics, toggledItalics } from './marks.js';
 import { OldClues } from './old-clues.js';
-import { nodesOfText, put, speakIn } from './page.js';
+import { nodesOfText, put, scrollWithin, speakIn } from './page.js';
 import { termed } from './terms.js';
 import { titleOf } from './words.js';
 import { staleClues, staleWord } from './written.js';
@@ -410,11 +410,4 @@ function box(className, ...inner) {
   const made = Object.assign(document.createElement('div'), { className });
   made.append(...inner);
   return made;
-}
-
-// Scrolls a box so that an element of it is in sight, and nothing around the box.
-function scrollWithin(box, element) {
-  const [outer, inner] = [box.getBoundingClientRect(), element.getBoundingClientRect()];
-  if (!outer.height) return;
-  if (inner.top < outer.top || inner.bottom > outer.bottom) box.scrollTop += inner.top - outer.top - outer.height / 2;
 }

@@ -15,21 +15,24 @@ export function headLines(told, address) {
   return [...sender, `${board.width} × ${board.height}, ${board.lights.length} words`].filter(Boolean);
 }
 
-// The clues across and then down. One that has no length gets that of its answer if it is to have one, but not if its light goes on from another one.
-// With comments, those on a clue come behind it.
+// The clue of a light. One that has no length gets that of its answer if it is to have one, but not if its light goes on from another one.
+/** @param {Pick<Told, 'textOf' | 'cluedBy' | 'links'>} told */
+export function clueText(told, light, hasLengths) {
+  const text = told.textOf(`clue ${light.name}`);
+  return hasLengths && !told.links.headOf.has(light) ? withEnumeration(text, told.cluedBy(light).answer.length) : text;
+}
+
+// The clues across and then down. With comments, those on a clue come behind it.
 /**
  * @param {Told} told
  * @returns {Row[]}
  */
 export function manuscriptRows(told, hasLengths, hasComments = false) {
-  const { board, links: { headOf } } = told;
   const rowsOf = (light, sign) => {
-    const { numbers, answer } = told.cluedBy(light);
-    const text = told.textOf(`clue ${light.name}`);
-    const clue = hasLengths && !headOf.has(light) ? withEnumeration(text, answer.length) : text;
     const comments = hasComments ? told.commentsOn(light).join('\n') : '';
-    return [{ number: `${numbers}${sign}`, clue, answer: told.answerOf(light).replaceAll('.', '_') }, ...(comments ? [{ comments }] : [])];
+    const row = { number: `${told.cluedBy(light).numbers}${sign}`, clue: clueText(told, light, hasLengths), answer: told.answerOf(light).replaceAll('.', '_') };
+    return [row, ...(comments ? [{ comments }] : [])];
   };
-  const inDirection = (direction, heading, sign) => [{ heading }, ...board.lights.filter((light) => light.direction === direction).flatMap((light) => rowsOf(light, sign))];
+  const inDirection = (direction, heading, sign) => [{ heading }, ...told.board.lights.filter((light) => light.direction === direction).flatMap((light) => rowsOf(light, sign))];
   return [...inDirection('across', 'Across', 'A'), ...inDirection('down', 'Down', 'D')];
 }

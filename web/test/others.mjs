@@ -1,4 +1,4 @@
-// Tests what the page makes of a puzzle for others: what outlets ask of it, the manuscript that they get, and comments.
+// Tests what the page makes of a puzzle for others: what outlets ask of it, the manuscript that they get, comments, and the puzzle as a solver has it.
 //
 //   node web/test/others.mjs
 //
@@ -8,8 +8,8 @@ import { Count } from './count.mjs';
 import { pageModules } from './page-modules.mjs';
 import { boardsOf } from './rows.mjs';
 
-const { Board, Dropped, OUTLETS, PATTERNS, changeBeside, commentField, commentsIn, gridFigures, headLines, judgedBy, judgedByAll, lawfulBeside, letterFigures, linksOf, lossesOf, manuscriptRows, numbersOf, rowsOf, rowsOfFigures, verdictOf, withComment, withoutComment } = await pageModules(
-  'beside', 'board', 'changed', 'comments', 'dropped', 'grids/outlets', 'links', 'losses', 'manuscript', 'patterns', 'statistics',
+const { Board, Dropped, OUTLETS, PATTERNS, Solving, changeBeside, commentField, commentsIn, gridFigures, headLines, judgedBy, judgedByAll, lawfulBeside, letterFigures, linksOf, lossesOf, manuscriptRows, numbersOf, rowsOf, rowsOfFigures, solverPuzzle, verdictOf, whyUnsolvable, withComment, withoutComment } = await pageModules(
+  'beside', 'board', 'changed', 'comments', 'dropped', 'grids/outlets', 'links', 'losses', 'manuscript', 'patterns', 'solver/puzzle', 'solver/solving', 'statistics',
 );
 const boardOf = boardsOf(Board);
 const american = gridFigures(boardOf(...rowsOf(PATTERNS[0])));
@@ -26,6 +26,12 @@ function toldOf(board, texts, originals = []) {
     commentsOn: (light) => commentsIn(new Map(originals).get(commentField(board, light)) ?? ''),
     cluedBy: (light) => ({ numbers: numbersOf(light, all(light).slice(1)), answer: all(light).map(answerOf).join('') }),
   };
+}
+
+// A puzzle of rows that is being solved, without clues.
+function solvingOf(...rows) {
+  const board = boardOf(...rows);
+  return new Solving(solverPuzzle({ ...toldOf(board, {}), language: '', entryOf: ({ letter }) => letter, colourOf: () => '' }));
 }
 
 const CASES = {
@@ -157,6 +163,127 @@ const CASES = {
     const rows = (...more) => manuscriptRows(told, false, ...more).map(({ heading, number, comments }) => heading ?? number ?? comments);
     same(rows(), ['Across', '1A', '3A', 'Down', '1D', '2D']);
     same(rows(true), ['Across', '1A', 'TB: too easy\nED: no', '3A', 'Down', '1D', 'ED: yes', '2D']);
+  },
+
+  'a puzzle as a solver has it'() {
+    const board = boardOf('CAT', 'O#O', 'DOE');
+    board.cells[1].circle = true;
+    const told = toldOf(board, { title: 'Pets', 'clue 1 across': 'Pet (3)', 'clue 2 down': '<i>Digit</i>' }, [['note 1 1 across', 'NOTED'], ['comment 1 1 across', 'NOTED']]);
+    const puzzle = solverPuzzle({ ...told, language: 'en-GB', entryOf: (cell) => (cell === board.cells[8] ? 'HEART' : cell.letter), colourOf: (cell) => (cell === board.cells[2] ? 'ffe680' : '') });
+    same([puzzle.texts, puzzle.language, puzzle.width, puzzle.height], [{ title: 'Pets', author: '', copyright: '', notes: '' }, 'en-GB', 3, 3]);
+    same(puzzle.cells, [
+      { solution: 'C', number: '1' }, { solution: 'A', circle: true }, { solution: 'T', number: '2', colour: 'ffe680' }, { solution: 'O' }, null, { solution: 'O' },
+      { solution: 'D', number: '3' }, { solution: 'O' }, { solution: 'HEART' },
+    ]);
+    // a British grid gives lengths
+    same(puzzle.lights, [
+      { name: '1 across', number: '1', direction: 'across', clue: 'Pet (3)', cells: [0, 1, 2] }, { name: '3 across', number: '3', direction: 'across', clue: '(3)', cells: [6, 7, 8] },
+      { name: '1 down', number: '1', direction: 'down', clue: '(3)', cells: [0, 3, 6] }, { name: '2 down', number: '2', direction: 'down', clue: '<i>Digit</i> (3)', cells: [2, 5, 8] },
+    ]);
+    same(JSON.stringify(puzzle).includes('NOTED'), false);
+    same([whyUnsolvable({ board }), whyUnsolvable({ board: boardOf('CAT', 'O#.') }), whyUnsolvable({ board: boardOf('#') })], ['', 'row 2, column 3 is empty', 'there is no light']);
+  },
+
+  'the moves of a solver'() {
+    const solving = solvingOf('CAT', 'O#O', 'DOE');
+    const place = () => `${solving.cursor} ${solving.direction}`;
+    same(place(), '0 across');
+    solving.type('c');
+    solving.type('x');
+    same([place(), solving.entries.join()], ['2 across', 'C,X,,,,,,,']);
+    // the light ends
+    solving.type('t');
+    same(place(), '2 across');
+    solving.turn();
+    same(place(), '2 down');
+    // no light crosses here
+    solving.moveTo(1);
+    same(place(), '1 across');
+    solving.turn();
+    same(place(), '1 across');
+    // over a block, to a cell that has a light across alone
+    solving.arrow('down', 1);
+    same(place(), '7 across');
+    solving.arrow('across', 1);
+    solving.arrow('across', 1);
+    same(place(), '8 across');
+    solving.arrow('down', -1);
+    same(place(), '8 down');
+    solving.arrow('down', -1);
+    same(place(), '5 down');
+    // to a block no cursor goes
+    solving.moveTo(4);
+    same(place(), '5 down');
+    // lights across come first, and a light begins at its first empty cell
+    solving.nextLight(1);
+    same(place(), '0 across');
+    solving.nextLight(-1);
+    same(place(), '5 down');
+    solving.toEnd(0);
+    solving.backspace();
+    same([place(), solving.entries[2]], ['2 down', '']);
+    solving.moveTo(2, 'across');
+    solving.backspace();
+    same([place(), solving.entries[1]], ['1 across', '']);
+    solving.toEnd(-1);
+    same(place(), '2 across');
+  },
+
+  'letters that are checked and revealed'() {
+    const solving = solvingOf('CAT', 'O#O', 'DOE');
+    same([solving.check('letter'), solving.check('word'), solving.check('puzzle')], Array(3).fill('there is no letter to check'));
+    for (const letter of 'CXT') solving.type(letter);
+    same([solving.check('letter'), solving.check('word'), [...solving.wrong]], ['the letter is right', '1 letter is wrong', [1]]);
+    // another letter is not checked yet
+    solving.moveTo(1);
+    solving.type('y');
+    same([...solving.wrong], []);
+    solving.moveTo(1);
+    solving.reveal('letter');
+    same([solving.entries[1], [...solving.revealed], solving.check('puzzle')], ['A', [1], 'all 3 letters are right']);
+    // what is revealed stays
+    solving.type('z');
+    solving.moveTo(1);
+    solving.clear();
+    same(solving.entries[1], 'A');
+    // a letter that is right is not revealed
+    solving.moveTo(0, 'down');
+    solving.reveal('word');
+    same([solving.entries.join(''), [...solving.revealed]], ['CATOD', [1, 3, 6]]);
+    same(solving.state, 'open');
+    for (const [cell, letter] of [[5, 'O'], [7, 'O'], [8, 'X']]) {
+      solving.moveTo(cell);
+      solving.type(letter);
+    }
+    same([solving.state, solving.check('puzzle')], ['wrong', '1 letter is wrong']);
+    solving.moveTo(8);
+    solving.type('e');
+    same([solving.state, solving.check('puzzle')], ['solved', 'all 8 letters are right']);
+  },
+
+  'cells of several letters'() {
+    const solving = solvingOf('CAT');
+    solving.puzzle.cells[0].solution = 'HEART';
+    const isRight = (letters) => {
+      solving.moveTo(0);
+      solving.type(letters);
+      return solving.isRight(0);
+    };
+    same(['H', 'heart', 'HEAR', 'E'].map(isRight), [true, true, false, false]);
+  },
+
+  'what a page keeps of a solving'() {
+    const solving = solvingOf('CAT', 'O#O');
+    solving.type('x');
+    solving.reveal('letter');
+    const other = (kept) => {
+      const made = solvingOf('CAT', 'O#O');
+      made.takeKept(kept);
+      return [made.entries.join(), [...made.revealed].join()];
+    };
+    same(other(JSON.parse(JSON.stringify(solving.kept))), ['X,A,,,,', '1']);
+    for (const kept of [null, 7, {}, { entries: ['A'], revealed: [] }, { entries: Array(6).fill('A') }, { entries: Array(6).fill(3), revealed: [4, 0, 'x'] }]) same(other(kept), [',,,,,', '']);
+    same(other({ entries: ['<b>', 'a', 'B', '', 'C', ''], revealed: [] }), [',,B,,,', '']);
   },
 };
 

@@ -1,4 +1,4 @@
-// Cases of what a setter has for others: the statistics that outlets ask for, and comments on clues.
+// Cases of what a setter has for others: the statistics that outlets ask for, comments on clues, and the puzzle as a solver has it.
 import { join } from 'node:path';
 import { begin, menu, openFile, openRecord, print, saved } from '../doing.mjs';
 import { browser, expect, page, picture, room, runAlone } from '../page.mjs';
@@ -11,6 +11,13 @@ const outlet = (name) => browser.value(`(() => {
 const DAILY = 'New York Times, daily';
 const dailySays = (pattern) => browser.until(`${pattern}.test(document.querySelector('#outlets [data-outlet="${DAILY}"] summary')?.textContent)`);
 const statisticsSay = (pattern) => browser.until(`${pattern}.test(document.getElementById('statistics').textContent)`);
+
+const GRID = 'size 3 2\nset 1 1 C\nset 1 2 O\nset 1 3 D\nset 2 1 A\nset 2 2 N\nset 2 3 O\ntext clue 1 1 across Fish\n';
+// what stands in the cells of the puzzle that is solved, with a dot for none
+const solved = () => browser.value("[...document.querySelectorAll('.solver-letter')].map(({ textContent }) => textContent || '.').join('')");
+const solvedIs = (letters) => browser.until(`[...document.querySelectorAll('.solver-letter')].map(({ textContent }) => textContent || '.').join('') === '${letters}'`);
+const solverSays = (text) => browser.until(`document.querySelector('.solver-told').textContent === '${text}'`);
+const marked = (name) => browser.value(`[...document.querySelectorAll('.solver-cell.${name}')].map(({ dataset }) => dataset.index).join()`);
 
 export const CASES = {
   async 'statistics and the limits of outlets'() {
@@ -99,6 +106,58 @@ export const CASES = {
     await browser.click('[name=parts][value=both]');
     await browser.click('#print-dialog [value=cancel]');
   },
+
+  async 'solving the puzzle that is here'() {
+    await openRecord('size 3 2\nset 1 1 C\n');
+    await menu('solve');
+    await page.statusIs(/nothing to solve yet: row 1, column 2 is empty/);
+    await openRecord(GRID);
+    const record = () => saved('crossword.xw', () => menu('save-session')).then(String);
+    const before = await record();
+    await menu('solve');
+    await solvedIs('......');
+    await browser.type('cxd');
+    await solvedIs('CXD...');
+    await browser.click('[data-solver=check-word]');
+    await solverSays('1 letter is wrong');
+    expect((await marked('wrong')) === '1', 'another cell is marked as wrong');
+    // by the keys alone: Esc to the buttons, then to that which reveals the letter
+    await browser.click('.solver-cell[data-index="1"]');
+    await browser.press('Escape');
+    for (let at = 0; at < 3; at++) await browser.press('Tab');
+    await browser.press('Enter');
+    await solvedIs('COD...');
+    expect((await marked('revealed')) === '1', 'another cell is marked as revealed');
+    await picture('solving');
+    // letters do not go on into the grid, and Undo does nothing here
+    await browser.press('Control+z');
+    await browser.type('z');
+    await browser.press('Escape');
+    await browser.press('Escape');
+    await browser.until("!document.getElementById('solve-dialog').open");
+    expect((await page.rows()).join() === 'COD,ANO', 'the grid is changed');
+    expect((await record()) === before, 'the session is changed');
+    // it goes on as it was, while the puzzle is the same
+    await menu('solve');
+    await browser.until("/^CO.\\.{3}$/.test([...document.querySelectorAll('.solver-letter')].map(({ textContent }) => textContent || '.').join(''))");
+    await browser.click('[data-solver=reveal-puzzle]');
+    expect(!(await solved()).endsWith('ANO'), 'all is shown at the first press');
+    await browser.click('[data-solver=reveal-puzzle]');
+    await solvedIs('CODANO');
+    await browser.value("[...document.querySelectorAll('.solver-tools button')].at(-1).click()");
+    await browser.until("!document.getElementById('solve-dialog').open");
+    await browser.click('#cell-1-1');
+    await browser.type('g');
+    await page.factsAre(/filled/);
+    await menu('solve');
+    await solvedIs('......');
+    await browser.value("document.getElementById('solve-dialog').close()");
+    await browser.press('Control+z');
+    await browser.until("document.querySelector('#cell-1-1 .letter').textContent === 'C'");
+  },
 };
 
-await runAlone(import.meta.url, { CASES });
+// What cases need that not every browser can do.
+export const NEEDS = { 'comments on clues': ['pdf'] };
+
+await runAlone(import.meta.url, { CASES, NEEDS });
