@@ -35,7 +35,7 @@ import { Shelf } from './shelf.js';
 import { speak } from './spoken.js';
 import { SolveDialog } from './solver/dialog.js';
 import { StandingView } from './standing.js';
-import { start, workers } from './start.js';
+import { embeddedText, start, workers } from './start.js';
 import { StatisticsView } from './statistics-view.js';
 import { Tabs } from './tabs.js';
 import { Tools } from './tools.js';
@@ -307,6 +307,7 @@ const ACTIONS = {
   'save-jpz': wholly(() => files.saveAs('jpz')),
   'save-exolve': wholly(() => files.saveAs('exolve')),
   'save-text': wholly(() => files.save('text')),
+  'save-page': wholly(async () => files.savePage(await embeddedText('solver'))),
   'clues-csv': wholly(() => files.saveClues()),
   'clues-html': wholly(() => files.saveSheet()),
   'clues-from': () => pick('.csv,.tsv,.txt', 'clues'),

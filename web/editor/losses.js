@@ -11,7 +11,7 @@ import { strangeCharacters } from './record.js';
 const KEPT = {
   puz: ['rebus'], text: [], ipuz: ['rebus', 'italics', 'colours', 'links', 'characters'], jpz: ['rebus', 'italics', 'colours', 'characters'],
   exolve: ['rebus', 'italics', 'links', 'characters', 'language'], csv: ['rebus', 'italics', 'links', 'notes', 'characters', 'colours', 'language'],
-  html: ['rebus', 'italics', 'links', 'characters', 'colours', 'language'],
+  html: ['rebus', 'italics', 'links', 'characters', 'colours', 'language'], page: ['rebus', 'italics', 'links', 'characters', 'colours', 'language'],
 };
 
 // What a puzzle has of it.

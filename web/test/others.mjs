@@ -4,11 +4,13 @@
 //
 // The last line is 'N passed, M failed'.
 import { deepStrictEqual as same } from 'node:assert/strict';
+import { execFileSync } from 'node:child_process';
+import { readFileSync } from 'node:fs';
 import { Count } from './count.mjs';
 import { pageModules } from './page-modules.mjs';
 import { boardsOf } from './rows.mjs';
 
-const { Board, Dropped, OUTLETS, PATTERNS, Solving, changeBeside, commentField, commentsIn, gridFigures, headLines, judgedBy, judgedByAll, lawfulBeside, letterFigures, linksOf, lossesOf, manuscriptRows, numbersOf, rowsOf, rowsOfFigures, solverPuzzle, verdictOf, whyUnsolvable, withComment, withoutComment } = await pageModules(
+const { Board, Dropped, OUTLETS, PATTERNS, Solving, changeBeside, commentField, commentsIn, gridFigures, headLines, judgedBy, judgedByAll, lawfulBeside, letterFigures, linksOf, lossesOf, manuscriptRows, numbersOf, rowsOf, rowsOfFigures, solverPage, solverPuzzle, verdictOf, whyUnsolvable, withComment, withoutComment } = await pageModules(
   'beside', 'board', 'changed', 'comments', 'dropped', 'grids/outlets', 'links', 'losses', 'manuscript', 'patterns', 'solver/puzzle', 'solver/solving', 'statistics',
 );
 const boardOf = boardsOf(Board);
@@ -284,6 +286,19 @@ const CASES = {
     same(other(JSON.parse(JSON.stringify(solving.kept))), ['X,A,,,,', '1']);
     for (const kept of [null, 7, {}, { entries: ['A'], revealed: [] }, { entries: Array(6).fill('A') }, { entries: Array(6).fill(3), revealed: [4, 0, 'x'] }]) same(other(kept), [',,,,,', '']);
     same(other({ entries: ['<b>', 'a', 'B', '', 'C', ''], revealed: [] }), [',,B,,,', '']);
+  },
+
+  'a page to solve'() {
+    const template = readFileSync(new URL('../editor/solver/page.html', import.meta.url), 'utf8');
+    const puzzle = { ...solvingOf('CAT').puzzle, texts: { title: '</script><script>alert(1)</script>', author: '<!-- $& $1', copyright: '\u2028', notes: '' } };
+    const page = solverPage(template, puzzle);
+    const [, data] = /<script type="application\/json" id="puzzle">(.*?)<\/script>/s.exec(page);
+    same([JSON.parse(data), data.includes('<')], [puzzle, false]);
+    // all else is the template
+    same(page.replace(data, '{"puzzle":"here"}'), template);
+    const words = ['solver/page.js', '--bundle', '--format=esm', '--target=es2022', '--charset=utf8', '--minify-whitespace', '--log-level=warning'];
+    const script = execFileSync('esbuild', words, { cwd: new URL('../editor', import.meta.url).pathname });
+    same([script.length > 0, script.length <= 60 * 1024, /WebAssembly|innerHTML|fetch\(/.test(script.toString())], [true, true, false]);
   },
 };
 

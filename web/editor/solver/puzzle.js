@@ -1,4 +1,4 @@
-// A puzzle as a solver gets it, as plain values: nothing of what a setter has beside it, such as notes and comments.
+// A puzzle as a solver gets it, as plain values: nothing of what a setter has beside it, such as notes and comments. And the page of one file that has it.
 import { clueText } from '../manuscript.js';
 import { isBritishGrid } from '../terms.js';
 
@@ -45,4 +45,13 @@ export function whyUnsolvable({ board }) {
   const empty = board.firstEmpty();
   if (empty >= 0) return `row ${board.rowOf(empty)}, column ${board.columnOf(empty)} is empty`;
   return board.lights.length ? '' : 'there is no light';
+}
+
+// what the template has in place of the puzzle
+const PLACE = '{"puzzle":"here"}';
+
+// The page of a puzzle: the template with the puzzle as data. In JSON no text begins an element or ends one, since `<` is spelled.
+/** @param {SolverPuzzle} puzzle */
+export function solverPage(template, puzzle) {
+  return template.replace(PLACE, () => JSON.stringify(puzzle).replaceAll('<', '\\u003c'));
 }

@@ -1,4 +1,4 @@
-// A puzzle to solve: the grid, the clues, and the buttons that check and reveal. It shows a Solving.
+// A puzzle to solve: the grid, the clues, and the buttons that check and reveal. It shows a Solving, and is the same in the editor and in a page of its own.
 import { brightened } from '../colours.js';
 import { nodesOfText, scrollWithin } from '../page.js';
 import { TypingField } from '../typing.js';

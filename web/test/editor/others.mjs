@@ -1,7 +1,7 @@
 // Cases of what a setter has for others: the statistics that outlets ask for, comments on clues, and the puzzle as a solver has it.
 import { join } from 'node:path';
 import { begin, menu, openFile, openRecord, print, saved } from '../doing.mjs';
-import { browser, expect, page, picture, room, runAlone } from '../page.mjs';
+import { browser, expect, page, picture, reload, room, runAlone } from '../page.mjs';
 
 // What is said of an outlet: its line, and the text of each row of its table.
 const outlet = (name) => browser.value(`(() => {
@@ -155,9 +155,62 @@ export const CASES = {
     await browser.press('Control+z');
     await browser.until("document.querySelector('#cell-1-1 .letter').textContent === 'C'");
   },
+
+  async 'a page to solve in one file'() {
+    const hostile = '</script><img src=x onerror=document.title=1>';
+    await openRecord(`${GRID}text title ${hostile}\ntext author <b>A. Setter</b>\ntext clue 1 2 down ${hostile}\n`);
+    const name = 'script-img-src-x-onerror-document-title-1.solve.html';
+    const file = (await saved(name, () => menu('save-page'))).toString();
+    await page.statusIs(/3 words without a clue/);
+    const script = /<script type="module">(.*?)<\/script>/s.exec(file)[1];
+    expect(script.length > 0 && Buffer.byteLength(script) <= 60 * 1024, `the script has ${script.length} bytes`);
+    expect(/default-src 'none'; script-src 'sha256-[^']+' ?; style-src 'sha256-[^']+' ?; base-uri 'none'; form-action 'none'/.test(file), 'the page has another policy');
+    await browser.go(`file://${join(room, name)}`);
+    await solvedIs('......');
+    expect((await browser.value("document.title + document.querySelector('h1').textContent + document.querySelectorAll('img, .solver b b').length")) === `${hostile}${hostile}0`, 'a text is read as markup');
+    await browser.type('cod');
+    await browser.press('Tab');
+    await browser.type('ann');
+    await solverSays('every cell has a letter, and not all are right');
+    await browser.press('Backspace');
+    await browser.type('o');
+    await solverSays('solved');
+    await picture('solved');
+    // what was entered stays, if the browser keeps it
+    await browser.go(`file://${join(room, name)}`);
+    await solvedIs('CODANO');
+    await reload();
+  },
+
+  async 'a page to solve on a screen that is touched'() {
+    await openRecord(GRID);
+    await saved('crossword.solve.html', () => menu('save-page'));
+    await browser.view(390, 844, { isTouched: true });
+    try {
+      await browser.go(`file://${join(room, 'crossword.solve.html')}`);
+      await browser.until("document.querySelector('.solver-cell')");
+      await browser.tap('.solver-cell[data-index="3"]');
+      await browser.until("document.activeElement.id === 'solver-typing'");
+      await browser.insert('a');
+      await solvedIs('...A..');
+      await browser.insert('x');
+      await browser.erase();
+      // at an empty cell the letter before goes
+      await solvedIs('...A..');
+      await browser.tap('.solver-cell[data-index="1"]');
+      await browser.tap('.solver-cell[data-index="1"]');
+      await browser.insert('on');
+      await solvedIs('.O.AN.');
+      expect(await browser.value('document.documentElement.scrollWidth <= innerWidth'), 'the page is too wide');
+      await picture('solver-touch');
+    } finally {
+      await browser.view(1400, 900);
+      await reload();
+    }
+  },
 };
 
 // What cases need that not every browser can do.
-export const NEEDS = { 'comments on clues': ['pdf'] };
+export const NEEDS = { 'comments on clues': ['pdf'], 'a page to solve in one file': ['folders'], 'a page to solve on a screen that is touched': ['touch'] };
 
 await runAlone(import.meta.url, { CASES, NEEDS });
