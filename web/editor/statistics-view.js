@@ -4,7 +4,7 @@ import { gridFigures, judgedByAll, letterFigures, rowsOfFigures, verdictOf } fro
 import { termed } from './terms.js';
 
 const SIGNS = { met: '✓', missed: '✗', open: '?' };
-const SPOKEN = { met: 'met', missed: 'not met', open: 'to look at yourself' };
+const SPOKEN = { met: 'met', missed: 'not met', open: 'for you to judge' };
 
 export class StatisticsView {
   /** @type {import('./editor.js').Editor} */

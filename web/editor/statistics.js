@@ -135,7 +135,7 @@ export const judgedByAll = (figures, changed) =>
 export function verdictOf(judged) {
   const count = (state) => judged.filter((one) => one.state === state).length;
   const [missed, open] = [count('missed'), count('open')];
-  return `${missed ? `✗ ${missed} of ${judged.length} not met` : '✓ met'}${open ? `, ${open} to look at yourself` : ''}`;
+  return `${missed ? `✗ ${missed} of ${judged.length} not met` : '✓ met'}${open ? `, ${open} to judge` : ''}`;
 }
 
 // The rows of the view: each with a name and a text.

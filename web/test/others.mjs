@@ -81,7 +81,7 @@ const CASES = {
     same(stateOf(daily, 'Words at most'), { text: 'Words at most', here: '76', limit: '78', source: 'published', state: 'met' });
     same(stateOf(daily, 'Lumps'), { text: 'Lumps of blocks (2 × 2, or four in line) at most', here: '4', limit: '0', source: 'usual', state: 'missed' });
     same(daily.filter(({ state }) => state !== 'met').map(({ text, state }) => `${text.split(' ')[0]} ${state}`), ['Lumps missed', 'Rows open']);
-    same(verdictOf(daily), '✗ 1 of 10 not met, 1 to look at yourself');
+    same(verdictOf(daily), '✗ 1 of 10 not met, 1 to judge');
     // in a themeless no entry has to be of the theme
     const themeless = judgedBy(outlet('New York Times, themeless'), american, {});
     same([stateOf(themeless, 'Words at most').state, verdictOf(themeless)], ['missed', '✗ 2 of 8 not met']);
@@ -95,7 +95,7 @@ const CASES = {
     const changed = { 'New York Times, daily 15 15': { lumps: 4, words: null }, 'New York Times, daily 21 21': { blocks: 1 } };
     const judged = judgedBy(outlet('New York Times, daily'), american, changed);
     same([stateOf(judged, 'Words at most'), stateOf(judged, 'Lumps').source, stateOf(judged, 'Lumps').state, stateOf(judged, 'Blocks').limit], [undefined, 'yours', 'met', '38']);
-    same(verdictOf(judged), '✓ met, 1 to look at yourself');
+    same(verdictOf(judged), '✓ met, 1 to judge');
   },
 
   'long words that may be of a theme'() {

@@ -49,7 +49,7 @@ export class SolverView {
 
   #head() {
     const { title, author } = this.#solving.puzzle.texts;
-    const head = made('header', 'solver-head');
+    const head = made('div', 'solver-head');
     head.append(made('h1', '', title || 'Crossword'), ...(author ? [made('p', '', author)] : []));
     return head;
   }
@@ -176,7 +176,7 @@ export class SolverView {
 
   #foot() {
     const { copyright, notes } = this.#solving.puzzle.texts;
-    const foot = made('footer', 'solver-foot');
+    const foot = made('div', 'solver-foot');
     const keys = 'Keys: arrows turn and move, Enter turns, Tab goes to the next word, Space and Backspace empty cells, Esc leads to the buttons.';
     foot.append(...[notes, copyright, keys].filter(Boolean).map((text) => made('p', '', text)));
     return foot;
@@ -191,7 +191,7 @@ export class SolverView {
     this.#clue.replaceChildren(...(light ? [made('b', '', `${light.number} ${light.direction === 'across' ? 'Across' : 'Down'}`), ' ', ...nodesOfText(light.clue)] : []));
     for (const [name, item] of this.#clues) {
       item.classList.toggle('here', name === light?.name);
-      item.classList.toggle('crossing', name === this.#solving.crossing?.name);
+      item.classList.toggle('other', name === this.#solving.crossing?.name);
     }
     const item = light && this.#clues.get(light.name);
     if (item) scrollWithin(item.closest('.solver-part'), item);

@@ -23,7 +23,7 @@ export const CASES = {
   async 'statistics and the limits of outlets'() {
     await begin(1);
     await browser.press('F4');
-    await dailySays(/✗ 1 of 10 not met, 1 to look at yourself/);
+    await dailySays(/✗ 1 of 10 not met, 1 to judge/);
     const { rows } = await outlet(DAILY);
     expect(rows.includes('Words at most|76|78|published|✓') && rows.some((row) => /^Lumps.*\|4\|0\|usual\|✗$/.test(row)), `the rows: ${rows.join('; ')}`);
     await statisticsSay(/Words of 3 letters13.*Letters.*none yet.*Cheaters2.*Connectedyes/);
@@ -33,7 +33,7 @@ export const CASES = {
     await browser.value("(() => { const field = document.getElementById('themes-lumps'); field.value = '4'; field.dispatchEvent(new Event('change')); })()");
     await browser.click('#themes-dialog [value=cancel]');
     await browser.click('#tab-puzzle');
-    await dailySays(/✓ met, 1 to look at yourself/);
+    await dailySays(/✓ met, 1 to judge/);
     // it follows the grid, and what is open stays open
     await browser.click(`#outlets [data-outlet="${DAILY}"] summary`);
     await browser.click('#cell-1-1');
