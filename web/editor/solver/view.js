@@ -1,6 +1,6 @@
 // A puzzle to solve: the grid, the clues, and the buttons that check and reveal. It shows a Solving, and is the same in the editor and in a page of its own.
 import { brightened } from '../colours.js';
-import { nodesOfText, scrollWithin } from '../page.js';
+import { nodesOfText, put, scrollWithin } from '../page.js';
 import { TypingField } from '../typing.js';
 
 const SCOPES = /** @type {const} */ (['letter', 'word', 'puzzle']);
@@ -213,10 +213,10 @@ export class SolverView {
     add(wrong.has(index), 'wrong');
     add(revealed.has(index), 'revealed');
     add(entries[index].length > 1, `several-${Math.min(entries[index].length, MOST_SIZED)}`);
-    const name = classes.join(' ');
-    if (root.className !== name) root.className = name;
-    if (letter.textContent !== entries[index]) letter.textContent = entries[index];
-    root.setAttribute('aria-label', this.#nameOf(index));
+    put(root, 'className', classes.join(' '));
+    put(letter, 'textContent', entries[index]);
+    const name = this.#nameOf(index);
+    if (root.getAttribute('aria-label') !== name) root.setAttribute('aria-label', name);
   }
 
   #nameOf(index) {
@@ -233,7 +233,7 @@ export class SolverView {
   }
 
   #say(text) {
-    if (this.#told.textContent !== text) this.#told.textContent = text;
+    put(this.#told, 'textContent', text);
   }
 
   // Shows what is there after an action, and says it if the puzzle is solved or full.
