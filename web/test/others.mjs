@@ -13,6 +13,8 @@ import { boardsOf } from './rows.mjs';
 const { Board, Dropped, OUTLETS, PATTERNS, Solving, changeBeside, commentField, commentsIn, gridFigures, headLines, judgedBy, judgedByAll, lawfulBeside, letterFigures, linksOf, lossesOf, manuscriptRows, numbersOf, rowsOf, rowsOfFigures, solverPage, solverPuzzle, verdictOf, whyUnsolvable, withComment, withoutComment } = await pageModules(
   'beside', 'board', 'changed', 'comments', 'dropped', 'grids/outlets', 'links', 'losses', 'manuscript', 'patterns', 'solver/puzzle', 'solver/solving', 'statistics',
 );
+// the board of the search for grids, which counts in its own way
+const { Board: Blocks, Cost, Frame, wholeLimits } = await pageModules('grids/board', 'grids/cost', 'grids/frame', 'grids/outlets');
 const boardOf = boardsOf(Board);
 const american = gridFigures(boardOf(...rowsOf(PATTERNS[0])));
 const outlet = (name) => OUTLETS.find((one) => one.name === name);
@@ -53,6 +55,24 @@ const CASES = {
     // as counted by hand
     const { words, blocks, threes, lengths, cheaters, lumps } = american;
     same([words, blocks, threes, lengths[0], cheaters, lumps], [76, 36, 13, 8, 2, 4]);
+  },
+
+  'the figures of a grid are those of the search for grids'() {
+    const names = ['words', 'blocks', 'threes', 'cheaters', 'lumps'];
+    const grids = PATTERNS.filter(({ name }) => /American|Themeless|Small/.test(name)).map((pattern) => rowsOf(pattern));
+    same(grids.length, 7);
+    for (const rows of [...grids, ['##...', '##...', '.....', '...##', '...##'], ['####...', '####...', '.......', '.......', '.......', '...####', '...####']]) {
+      const [width, height] = [rows[0].length, rows.length];
+      const frame = new Frame(width, height, 'none');
+      const blocks = new Blocks(frame);
+      const shut = [...rows.join('')].flatMap((cell, at) => (cell === '#' ? [frame.cell(Math.floor(at / width), at % width)] : []));
+      if (!blocks.hold([], shut)) throw new Error(`no board of ${rows.join()}`);
+      const cost = new Cost(blocks, wholeLimits({}, width, height), { count: () => 1 });
+      cost.begin();
+      cost.of();
+      const own = gridFigures(boardOf(...rows));
+      same(names.map((name) => own[name]), names.map((name) => cost.figures[name]));
+    }
   },
 
   'a symmetry of bars'() {
