@@ -68,6 +68,7 @@ export const CASES = {
     await comment('ED: leave it');
     await listed('TB: <b>too</b> hard|ED: leave it');
     await picture('comments');
+    expect(await browser.value("[...document.querySelectorAll('.clue-more :is(input, li button)')].every((one) => one.getBoundingClientRect().right <= document.querySelector('.clue-more').getBoundingClientRect().right)"), 'a comment is cut off');
     // one undo takes the last one back
     await browser.press('Control+z');
     await listed('TB: <b>too</b> hard');
