@@ -21,7 +21,6 @@ function ifAllowed(action) {
 
 solving.takeKept(ifAllowed(() => JSON.parse(localStorage.getItem(NAME))));
 document.title = puzzle.texts.title || 'Crossword';
-if (puzzle.language) document.documentElement.lang = puzzle.language;
 const view = new SolverView(solving, { changed: () => ifAllowed(() => localStorage.setItem(NAME, JSON.stringify(solving.kept))) });
 document.getElementById('solver').append(view.root);
 view.show();

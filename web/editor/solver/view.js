@@ -1,6 +1,6 @@
 // A puzzle to solve: the grid, the clues, and the buttons that check and reveal. It shows a Solving, and is the same in the editor and in a page of its own.
 import { brightened } from '../colours.js';
-import { nodesOfText, put, scrollWithin } from '../page.js';
+import { nodesOfText, put, scrollWithin, speakIn } from '../page.js';
 import { TypingField } from '../typing.js';
 
 const SCOPES = /** @type {const} */ (['letter', 'word', 'puzzle']);
@@ -34,6 +34,7 @@ export class SolverView {
     const { root } = this;
     this.#solving = solving;
     this.changed = changed;
+    speakIn(root, solving.puzzle.language);
     root.replaceChildren(this.#head(), this.#tools(leave), this.#clue, this.#main(), this.#foot());
     root.addEventListener('keydown', (event) => this.#key(event));
     // a press elsewhere is no answer
