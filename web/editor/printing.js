@@ -29,6 +29,8 @@ export class PrintDialog {
 
   open() {
     $('print-address').value = keptAddress();
+    // an outlet gets them only where that is chosen anew
+    $('print-comments').checked = false;
     if (!this.#isLengthsChosen) $('print-lengths').checked = isBritishGrid(this.#editor.board);
     this.#preview();
     openDialog($('print-dialog'));

@@ -103,7 +103,7 @@ export const CASES = {
       expect((await browser.value("document.getElementById('sheet').textContent.includes('half a comment')")) === isWished, `comments are printed if they are wished: ${isWished}`);
     }
     await browser.press('Control+p');
-    await browser.click('#print-comments');
+    expect(!(await browser.value("document.getElementById('print-comments').checked")), 'comments are chosen still');
     await browser.click('[name=parts][value=both]');
     await browser.click('#print-dialog [value=cancel]');
   },
