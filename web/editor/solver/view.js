@@ -49,9 +49,9 @@ export class SolverView {
   // The parts.
 
   #head() {
-    const { title, author } = this.#solving.puzzle.texts;
+    const { title, author, notes } = this.#solving.puzzle.texts;
     const head = made('div', 'solver-head');
-    head.append(made('h1', '', title || 'Crossword'), ...(author ? [made('p', '', author)] : []));
+    head.append(made('h1', '', title || 'Crossword'), ...(author ? [made('p', '', author)] : []), ...(notes ? [made('p', 'solver-notes', notes)] : []));
     return head;
   }
 
@@ -176,10 +176,10 @@ export class SolverView {
   }
 
   #foot() {
-    const { copyright, notes } = this.#solving.puzzle.texts;
+    const { copyright } = this.#solving.puzzle.texts;
     const foot = made('div', 'solver-foot');
     const keys = 'Keys: arrows turn and move, Enter turns, Tab goes to the next word, Space and Backspace empty cells, Esc leads to the buttons.';
-    foot.append(...[notes, copyright, keys].filter(Boolean).map((text) => made('p', '', text)));
+    foot.append(...[copyright, keys].filter(Boolean).map((text) => made('p', '', text)));
     return foot;
   }
 
