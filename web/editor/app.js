@@ -34,8 +34,10 @@ import { PrintDialog } from './printing.js';
 import { Reasons } from './reasons.js';
 import { Shelf } from './shelf.js';
 import { speak } from './spoken.js';
+import { SolveDialog } from './solver/dialog.js';
 import { StandingView } from './standing.js';
-import { start, workers } from './start.js';
+import { embeddedText, start, workers } from './start.js';
+import { StatisticsView } from './statistics-view.js';
 import { Tabs } from './tabs.js';
 import { Tools } from './tools.js';
 import { Typed } from './typed.js';
@@ -136,6 +138,7 @@ const clues = new CluesView(
   {
     text: editText, lengths: (texts, left) => edits.addLengths(texts, left), enumerations: (words) => lists.enumerations(words), toGrid, use: (light, clue) => edits.useClue(light, clue), keep: (light) => edits.keepClue(light),
     former: (word, clue) => bank.of(word, clue), leave, note: (element, light, text) => typed.edit(element, (run) => edits.note(light, text, run)),
+    comments: (element, light, text) => typed.edit(element, () => edits.comments(light, text)),
     link: (element, light, text) => typed.edit(element, (run) => edits.link(light, text, run)),
     words: () => allWords.get(),
   },
@@ -146,8 +149,9 @@ const details = new DetailsView(
     panel: $('puzzle'), title: $('title'), author: $('author'), copyright: $('copyright'), notes: $('notes'), language: $('language'), checks: $('checks'), counts: $('counts'),
     lengths: $('lengths'), frequency: $('frequency'), wordForm: $('word-form'), word: $('word'), changed: $('changed'),
   },
-  { edit, text: editText, toGrid, toClue, leave, language: (code) => edits.language(code), keepWord: (word, isHidden) => lists.keepWord(word, isHidden), refreshed: () => bankView.show() },
+  { edit, text: editText, toGrid, toClue, leave, language: (code) => edits.language(code), keepWord: (word, isHidden) => lists.keepWord(word, isHidden), refreshed: () => [bankView, statistics].forEach((view) => view.show()) },
 );
+const statistics = new StatisticsView(editor, { panel: $('puzzle'), list: $('statistics'), outlets: $('outlets') }, () => figures.worst);
 const tabs = new Tabs(details, clues, toGrid);
 const grids = new GridsView(
   editor,
@@ -161,7 +165,7 @@ const grids = new GridsView(
   },
   (record, entries) => puzzles.begin(record, entries).catch(unforeseen),
 );
-const figures = new Figures(editor, { box: $('figures'), text: $('figures-text'), worst: $('figures-worst') }, { go: (light) => goTo(light), told: (scores) => weakest.show(scores) });
+const figures = new Figures(editor, { box: $('figures'), text: $('figures-text'), worst: $('figures-worst') }, { go: (light) => goTo(light), told: tellScores });
 const weakest = new WeakestView(
   editor,
   {
@@ -182,6 +186,12 @@ const filler = new Filler(editor, helpers, fills, {
   explain: () => whenIdle(() => reasons.ask().catch(() => {})), figures, offer: (offer) => weakest.offer(offer),
 });
 const nextLight = new NextLight(editor, faults, toGrid);
+
+// Shows the scores of the words where they are listed and counted.
+function tellScores(scores) {
+  weakest.show(scores);
+  details.soon();
+}
 
 // Puts letters into the grid in one step, and keeps them among the fills to choose from. Returns what they are refused for, or null.
 async function useMended(letters) {
@@ -261,6 +271,7 @@ const lists = new ListsInUse(editor, {
 });
 const puzzles = new NewPuzzle(editor, { mayEdit, soon, toGrid, addVersion: () => shelf.addVersion() });
 const printing = new PrintDialog(editor);
+const solving = new SolveDialog(editor, { dialog: $('solve-dialog'), root: $('solve') });
 
 // what the file that is being picked is to be, if that is said
 let picked = '';
@@ -304,6 +315,7 @@ const ACTIONS = {
   'save-jpz': wholly(() => files.saveAs('jpz')),
   'save-exolve': wholly(() => files.saveAs('exolve')),
   'save-text': wholly(() => files.save('text')),
+  'save-page': wholly(async () => files.savePage(await embeddedText('solver'))),
   'clues-csv': wholly(() => files.saveClues()),
   'clues-html': wholly(() => files.saveSheet()),
   'clues-from': () => pick('.csv,.tsv,.txt', 'clues'),
@@ -311,6 +323,7 @@ const ACTIONS = {
   list: () => pick('.txt,.dict,.csv,.tsv', 'list'),
   'built-in': () => lists.change((now) => now.onlyBuiltIn()),
   print: wholly(() => printing.open()),
+  solve: wholly(() => solving.open()),
   undo: () => step(true),
   redo: () => step(false),
   fill: () => filler.run(false),

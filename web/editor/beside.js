@@ -1,4 +1,4 @@
-// What a session has beside its record: the originals, which are texts as they were typed, cells with several letters, colours, links and private notes; the
+// What a session has beside its record: the originals, which are texts as they were typed, cells with several letters, colours, links, private notes and comments; the
 // letters in pencil; and the words that clues were written for. A file from elsewhere may have anything in their places.
 import { LANGUAGE, isLanguage } from './language.js';
 import { isRebus } from './rebus.js';
@@ -13,7 +13,7 @@ const matches = (pattern) => (text) => pattern.test(text);
 
 // The kinds of originals: their fields, what they may be, and what others are called.
 const ORIGINALS = [
-  { field: whole(`title|author|copyright|notes|(?:clue|note) ${CLUE}`), isLawful: isText, called: [''] },
+  { field: whole(`title|author|copyright|notes|(?:clue|note|comment) ${CLUE}`), isLawful: isText, called: [''] },
   { field: whole(`cell ${CELL}`), isLawful: isRebus, called: ['a cell with other characters than letters', 'cells with other characters than letters'] },
   { field: whole(`colour ${CELL}`), isLawful: matches(/^[0-9a-f]{6}$/), called: ['the colour of a cell', 'colours of cells'] },
   { field: whole(`link ${CLUE}`), isLawful: matches(whole(`${CLUE}(?:, ${CLUE})*`)), called: ['the link of a clue to other lights', 'links of clues to other lights'] },

@@ -19,9 +19,10 @@ function linesBetween(one, other) {
 // The lines of a kind, the tab that shows it, what a line is about, and what several are.
 const KINDS = [
   { pattern: /^kept note (\d+ \d+) (\w+)/, tab: 'clues', nameOf: (titled, ...place) => `the note on ${titled(...place)}`, several: 'notes' },
+  { pattern: /^kept comment (\d+ \d+) (\w+)/, tab: 'clues', nameOf: (titled, ...place) => `the comments on ${titled(...place)}`, several: 'comments' },
   { pattern: /^(?:text|more|written|kept(?= (?:link|clue))) (?:clue|link) (\d+ \d+) (\w+)/, tab: 'clues', nameOf: (titled, ...place) => `the clue of ${titled(...place)}`, several: 'clues' },
-  { pattern: /^(?:text|more|written|kept) (?:clue|link|note) (\d+ \d+) (\w+)/, tab: 'clues', nameOf: (titled, ...place) => titled(...place), several: 'clues and notes' },
-  { pattern: /^(?:text|more|kept(?! (?:colour|note|link|clue) )) (\w+)/, tab: 'puzzle', nameOf: (_, field) => `the ${field}`, several: 'texts' },
+  { pattern: /^(?:text|more|written|kept) (?:clue|link|note|comment) (\d+ \d+) (\w+)/, tab: 'clues', nameOf: (titled, ...place) => titled(...place), several: 'clues and notes' },
+  { pattern: /^(?:text|more|kept(?! (?:colour|note|comment|link|clue) )) (\w+)/, tab: 'puzzle', nameOf: (_, field) => `the ${field}`, several: 'texts' },
   { pattern: /^(?:add|strike) (\w+)/, tab: 'puzzle', nameOf: (_, word) => `${word} in the words of this puzzle`, several: 'words of this puzzle' },
   { pattern: /^sym /, tab: '', nameOf: () => 'the symmetry', several: '' },
 ];

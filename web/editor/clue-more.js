@@ -1,5 +1,6 @@
-// What belongs to the clue of the light under the cursor, below its field: a private note with the wordplay, the lights that the clue goes on in, and
-// helpers of a cryptic setter over the words of the lists.
+// What belongs to the clue of the light under the cursor, below its field: a private note with the wordplay, the lights that the clue goes on in, comments of
+// others, and helpers of a cryptic setter over the words of the lists.
+import { ClueComments } from './clue-comments.js';
 import { anagramsOf, hiddenIn } from './cryptic.js';
 import { spelledLights } from './links.js';
 import { refuse } from './messages.js';
@@ -15,32 +16,38 @@ export class ClueMore {
   root = Object.assign(document.createElement('div'), { className: 'clue-more', hidden: true });
   #note = field('note', 'Note', 'the wordplay: for you alone');
   #links = field('links', 'Goes on in', '17, 4 down');
+  #comments;
   #found = Object.assign(document.createElement('div'), { className: 'found' });
   // the light that it is for, and what the helper that is at work is for
   /** @type {import('./board.js').Light | null} */
   #light = null;
   #asked = '';
 
-  // `actions`: `note` and `link` keep what is typed in a field, `italics` puts the selection of the clue in italics, `words` promises the words of the
+  // `actions`: `note`, `comments` and `link` keep what is typed in a field, `italics` puts the selection of the clue in italics, `words` promises the words of the
   // lists, and `leave` leaves a field by Esc.
   constructor(editor, actions) {
     this.#editor = editor;
     this.actions = actions;
     const anagrams = () => this.#help(anagramsOf, 'no anagram in your lists', (words) => `(${words})*`);
     const hidden = () => this.#help(hiddenIn, 'your lists do not hide it', (words) => `hidden: ${words}`);
+    this.#comments = new ClueComments(editor, (element, light, text) => actions.comments(element, light, text));
     const buttons = Object.assign(document.createElement('span'), { className: 'helpers' });
     buttons.append(
       button('Italics', 'Puts what is selected in the clue in italics (Ctrl I)', () => this.actions.italics(this.#light)),
       button('Anagrams', 'Words of your lists with the same letters', anagrams),
       button('Hidden in', 'Words of your lists that hide the answer, side by side', hidden),
     );
-    this.root.append(this.#note.label, this.#links.label, buttons, this.#found);
+    this.root.append(this.#note.label, this.#links.label, buttons, this.#found, this.#comments.root);
+    for (const { input } of this.#fields) input.addEventListener('keydown', (event) => this.#key(event));
     for (const { input } of [this.#note, this.#links]) {
-      input.addEventListener('keydown', (event) => this.#key(event));
       input.addEventListener('change', () => this.#change(input));
     }
     // what is typed belongs to the puzzle that was here
-    editor.on(['left'], () => [this.#note, this.#links].forEach(({ input }) => put(input, 'value', input.dataset.kept ?? '')));
+    editor.on(['left'], () => this.#fields.forEach(({ input }) => put(input, 'value', input.dataset.kept ?? '')));
+  }
+
+  get #fields() {
+    return [this.#note, this.#links, this.#comments];
   }
 
   // Shows it for a light, after an element; or with null not at all. What is being typed stays.
@@ -59,6 +66,7 @@ export class ClueMore {
     };
     typed(this.#note.input, this.#editor.noteOf(light));
     typed(this.#links.input, spelledLights(light, links.heads.get(light) ?? []));
+    this.#comments.show(light);
     this.#links.input.disabled = Boolean(head);
     put(this.#links.input, 'placeholder', head ? `goes on from ${titleOf(head)}` : '17, 4 down');
     this.#note.input.setAttribute('aria-label', `private note on the clue of ${titleOf(board.byName.get(light.name) ?? light)}`);
@@ -89,13 +97,15 @@ export class ClueMore {
 
   // Takes over what a field holds, if that is something else. What is refused stays in the field, so that it can be tried again.
   async #change(input) {
+    if (input === this.#comments.input) return this.#comments.add();
     const light = this.#light && this.#editor.board.byName.get(this.#light.name);
     const text = input.value.trim();
-    if (!light || text === input.dataset.kept) return;
+    if (!light || text === input.dataset.kept) return undefined;
     const { kept } = input.dataset;
     input.dataset.kept = text;
     const refused = await (input === this.#note.input ? this.actions.note(input, light, text) : this.actions.link(input, light, text));
     if (refused && input.dataset.kept === text) input.dataset.kept = kept;
+    return undefined;
   }
 
   // Shows what a helper finds for the answer. A click puts it into the note, as `spelled` has it.

@@ -3,7 +3,7 @@ import { ClueMore } from './clue-more.js';
 import { hasEnumeration, withEnumeration } from './enumeration.js';
 import { hasItalics, toggledItalics } from './marks.js';
 import { OldClues } from './old-clues.js';
-import { nodesOfText, put, speakIn } from './page.js';
+import { nodesOfText, put, scrollWithin, speakIn } from './page.js';
 import { termed } from './terms.js';
 import { titleOf } from './words.js';
 import { staleClues, staleWord } from './written.js';
@@ -27,7 +27,7 @@ export class CluesView {
 
   // `lengths` is the button that adds enumerations. `actions`: `text` sets what is typed in a field, `lengths` those of several in one step and is told how many
   // lights have no enumeration that is sure, `enumerations` promises those of words, `use` sets the clue of a light, `keep` keeps a clue for the word that is
-  // there, `former` promises what the bank of clues has of a word, `leave` leaves a field by Esc; `note` and `link` keep a private note and a link, and `words`
+  // there, `former` promises what the bank of clues has of a word, `leave` leaves a field by Esc; `note`, `comments` and `link` keep a private note, comments and a link, and `words`
   // promises all words of the lists.
   constructor(editor, { list: root, summary, lengths }, actions) {
     this.#editor = editor;
@@ -100,9 +100,11 @@ export class CluesView {
     this.#showNote(light);
   }
 
-  // The private note, below its clue.
+  // The private note and the comments, below their clue.
   #showNote(light) {
-    put(this.#fields.get(light.name).kept, 'textContent', this.#editor.noteOf(light));
+    const { kept, comments } = this.#fields.get(light.name);
+    put(kept, 'textContent', this.#editor.noteOf(light));
+    put(comments, 'textContent', this.#editor.commentsOn(light).join('\n'));
   }
 
   // What follows from the text of a field: its height, the button of its length, and how its italics look.
@@ -149,14 +151,14 @@ export class CluesView {
     const { numbers } = this.#editor.cluedBy(light);
     const span = (className, text = '') => Object.assign(document.createElement('span'), { className, textContent: text });
     const number = Object.assign(document.createElement('b'), { textContent: numbers });
-    const [word, italics, kept, note] = [span('word'), span('italics'), span('kept-note'), span('written')];
+    const [word, italics, kept, comments, note] = ['word', 'italics', 'kept-note', 'kept-comments', 'written'].map((name) => span(name));
     note.id = `written-${light.number}-${light.direction}`;
     const field = makeField(light, note.id);
     field.readOnly = Boolean(head);
     const length = makeLength();
     length.hidden = Boolean(head);
-    row.append(number, word, field, length, italics, kept, note);
-    this.#fields.set(light.name, { row, word, field, length, italics, kept, note, stale: '' });
+    row.append(number, word, field, length, italics, kept, comments, note);
+    this.#fields.set(light.name, { row, word, field, length, italics, kept, comments, note, stale: '' });
     return row;
   }
 
@@ -408,11 +410,4 @@ function box(className, ...inner) {
   const made = Object.assign(document.createElement('div'), { className });
   made.append(...inner);
   return made;
-}
-
-// Scrolls a box so that an element of it is in sight, and nothing around the box.
-function scrollWithin(box, element) {
-  const [outer, inner] = [box.getBoundingClientRect(), element.getBoundingClientRect()];
-  if (!outer.height) return;
-  if (inner.top < outer.top || inner.bottom > outer.bottom) box.scrollTop += inner.top - outer.top - outer.height / 2;
 }

@@ -25,7 +25,7 @@ export class DetailsView {
     this.#elements = elements;
     this.actions = actions;
     editor.on(['board'], () => this.#takeTexts());
-    editor.on(['step', 'written'], () => this.#soon());
+    editor.on(['step', 'written'], () => this.soon());
     for (const field of ['title', 'author', 'copyright', 'notes']) {
       elements[field].addEventListener('change', () => this.#change(field));
       elements[field].addEventListener('focusout', () => this.#leave(field));
@@ -92,7 +92,8 @@ export class DetailsView {
     for (const field of ['title', 'author', 'copyright', 'notes']) this.#elements[field].value = this.#elements[field].dataset.kept;
   }
 
-  #soon() {
+  // Asks for counts and faults when edits have come to a rest.
+  soon() {
     clearTimeout(this.#timer);
     this.#timer = setTimeout(() => this.refresh().catch(() => {}), SETTLED);
   }
@@ -149,6 +150,8 @@ export class DetailsView {
       const [{ light, word }] = stale;
       items.push(check(stale.length === 1 ? `the clue of ${titleOf(light)} was written for ${word}` : `${stale.length} clues were written for other words`, light.name, 'clue'));
     }
+    const commented = board.lights.filter((light) => this.#editor.commentsOn(light).length);
+    if (commented.length) items.push(check(commented.length === 1 ? `the clue of ${titleOf(commented[0])} has comments` : `${commented.length} clues have comments`, commented[0].name, 'clue'));
     const empty = board.firstEmpty();
     if (empty >= 0) {
       const item = element('li', '');

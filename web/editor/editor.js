@@ -2,8 +2,9 @@
 import { Engine } from './engine.js';
 import { gradeOf, usualWeak } from './grades.js';
 import { colourField } from './colours.js';
+import { commentsIn } from './comments.js';
 import { LANGUAGE } from './language.js';
-import { linksOf, noteField, numbersOf } from './links.js';
+import { commentField, linksOf, noteField, numbersOf } from './links.js';
 import { entryOf, standing, withoutEntered } from './rebus.js';
 import { bodyOf, engineText, letterIn, parseRecord, placeOf, transition, unescapeText } from './record.js';
 import { refusalText, refuse } from './messages.js';
@@ -177,6 +178,11 @@ export class Editor extends EditorState {
   // The private note on the clue of a light.
   noteOf(light) {
     return this.originals.get(noteField(this.board, light)) ?? '';
+  }
+
+  // The comments on the clue of a light.
+  commentsOn(light) {
+    return commentsIn(this.originals.get(commentField(this.board, light)) ?? '');
   }
 
   // The language of the puzzle; '' if it has none.

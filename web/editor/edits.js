@@ -5,7 +5,7 @@ import { enumerated } from './enumeration.js';
 import { endingMessage, refusalText, refuse, say, sayAsIs } from './messages.js';
 import { $ } from './page.js';
 import { LANGUAGE } from './language.js';
-import { isReference, linkField, linkedTo, namedLights, noteField, referenceTo, spelledLink } from './links.js';
+import { commentField, isReference, linkField, linkedTo, namedLights, noteField, referenceTo, spelledLink } from './links.js';
 import { hasItalics } from './marks.js';
 import { cellField } from './rebus.js';
 import { engineText, escapeText, strangeCharacter, textLines } from './record.js';
@@ -151,8 +151,16 @@ export class Edits {
 
   // Keeps a private note on the clue of a light; or none. Edits of one `stroke` are one step.
   note(light, text, stroke = null) {
-    const { board } = this.#editor;
-    return this.edit([], { originals: this.#beside([[noteField(board, light), text]]), stroke, at: { cursor: light.cells[0], direction: light.direction } });
+    return this.#keepBeside(noteField(this.#editor.board, light), light, text, stroke);
+  }
+
+  // Keeps comments on the clue of a light, or none, in one step.
+  comments(light, text) {
+    return this.#keepBeside(commentField(this.#editor.board, light), light, text, null);
+  }
+
+  #keepBeside(field, light, text, stroke) {
+    return this.edit([], { originals: this.#beside([[field, text]]), stroke, at: { cursor: light.cells[0], direction: light.direction } });
   }
 
   // Has the clue of a light go on in those that a text names, whose clues lead to it; or in none. Returns what that is refused for, or null.

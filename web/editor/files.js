@@ -25,6 +25,7 @@ import { termed } from './terms.js';
 import { asVersion1, isVersion1, isVersion2, letterRows, readText, readText2, recordOfRows } from './text-grids.js';
 import { isScrambled } from './unscramble.js';
 import { listText } from './word-list.js';
+import { solverPage, solverPuzzle } from './solver/puzzle.js';
 import { titleOf } from './words.js';
 import { staleClues } from './written.js';
 
@@ -362,6 +363,16 @@ export class Files {
     const editor = this.#editor;
     const told = { answerOf: (light) => editor.answerOf(light), cluedBy: (light) => editor.cluedBy(light), isLinked: (light) => editor.links.headOf.has(light), language: editor.language };
     this.#give(new TextEncoder().encode(htmlOf(editor.board, this.#textOf, enumerated, told)), this.#name('html'), this.#lossNote('html'));
+  }
+
+  // Saves a page to solve the puzzle in, which is made of a template.
+  savePage(template) {
+    const editor = this.#editor;
+    const { board } = editor;
+    if (board.firstEmpty() >= 0 || !board.lights.length) return this.#explain('NotFilled');
+    const without = countText(board.lights.filter((light) => !board.hasClue(light)).length, 'a word without a clue', 'words without a clue');
+    const page = solverPage(template, solverPuzzle(editor));
+    return this.#give(new TextEncoder().encode(page), this.#name('solve.html'), `${without.length ? `, with ${without[0]}` : ''}${this.#lossNote('page')}`);
   }
 
   #givePuzzle(bytes, name, why = '') {

@@ -1,16 +1,17 @@
-// What a setter adds to clues, beside the texts that the engine has: links of lights that have one clue, as in 1/17, and private notes. Both are kept
-// with the originals, under the names that records have for the clue.
+// What is added to clues, beside the texts that the engine has: links of lights that have one clue, as in 1/17, private notes, and comments of an editor or a
+// tester, one a line. All are kept with the originals, under the names that records have for the clue.
 
 /** @typedef {import('./board.js').Board} Board */
 /** @typedef {import('./board.js').Light} Light */
 /** @typedef {ReadonlyMap<string, string>} Originals */
 
-const [LINK, NOTE] = ['link ', 'note '];
+const [LINK, NOTE, COMMENT] = ['link ', 'note ', 'comment '];
 
 const fieldOf = (kind, board, light) => board.clueField(light).replace(/^clue /, kind);
 export const linkField = (board, light) => fieldOf(LINK, board, light);
 export const noteField = (board, light) => fieldOf(NOTE, board, light);
-export const isAdded = (field) => field.startsWith(LINK) || field.startsWith(NOTE);
+export const commentField = (board, light) => fieldOf(COMMENT, board, light);
+export const isAdded = (field) => [LINK, NOTE, COMMENT].some((kind) => field.startsWith(kind));
 
 // A clue that leads to another one, as that of a linked light does. It belongs to no word.
 export const isReference = (clue) => /^See \d+( (Across|Down))?$/i.test(clue);

@@ -11,7 +11,7 @@ import { strangeCharacters } from './record.js';
 const KEPT = {
   puz: ['rebus'], text: [], ipuz: ['rebus', 'italics', 'colours', 'links', 'characters'], jpz: ['rebus', 'italics', 'colours', 'characters'],
   exolve: ['rebus', 'italics', 'links', 'characters', 'language'], csv: ['rebus', 'italics', 'links', 'notes', 'characters', 'colours', 'language'],
-  html: ['rebus', 'italics', 'links', 'characters', 'colours', 'language'],
+  html: ['rebus', 'italics', 'links', 'characters', 'colours', 'language'], page: ['rebus', 'italics', 'links', 'characters', 'colours', 'language'],
 };
 
 // What a puzzle has of it.
@@ -26,6 +26,7 @@ function hadBy(editor) {
     colours: countText(cells((cell) => editor.colourOf(cell)), 'the colour of a cell', 'colours of cells'),
     links: countText(links.heads.size, 'the link of a clue', 'links of clues'),
     notes: countText(board.lights.filter((light) => editor.noteOf(light)).length, 'a private note', 'private notes'),
+    comments: countText(board.lights.filter((light) => editor.commentsOn(light).length).length, 'the comments on a clue', 'clues’ comments'),
     language: editor.language ? ['the language'] : [],
   };
 }

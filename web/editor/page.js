@@ -29,6 +29,13 @@ export function speakIn(element, language) {
   else element.removeAttribute('lang');
 }
 
+// Scrolls a box so that an element of it is in sight, and nothing around the box.
+export function scrollWithin(box, element) {
+  const [outer, inner] = [box.getBoundingClientRect(), element.getBoundingClientRect()];
+  if (!outer.height) return;
+  if (inner.top < outer.top || inner.bottom > outer.bottom) box.scrollTop += inner.top - outer.top - outer.height / 2;
+}
+
 // A part of a picture in SVG, with attributes, and elements or a text in it.
 export function svgElement(name, attributes, ...inner) {
   const made = document.createElementNS('http://www.w3.org/2000/svg', name);

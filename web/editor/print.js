@@ -1,6 +1,7 @@
 // What is printed: the blank grid with its clues, the solution, and what an editor is sent. The pages are laid out here, so that each has a head.
 import { brightened } from './colours.js';
-import { enumerated, hasEnumeration } from './enumeration.js';
+import { hasEnumeration } from './enumeration.js';
+import { headLines, manuscriptRows } from './manuscript.js';
 import { nodesOfText, svgElement } from './page.js';
 
 // The room on the papers within the margins, in millimetres.
@@ -38,8 +39,10 @@ export class Printer {
   paper = 'A4';
   // whether clues without an enumeration get the length of their word
   hasLengths = true;
-  // of a submission
+  // of a submission: the name and address, whether its clues are double spaced, and whether it has the comments on them
   address = '';
+  isDouble = true;
+  hasComments = false;
 
   print() {
     this.#prepare();
@@ -161,13 +164,11 @@ export class Printer {
     this.#flowTexts(page, [this.#text('copyright')].filter(Boolean), begin);
   }
 
-  // What an editor is sent: the filled grid and the numbered one, and the answers with their clues, each page with the name and address.
+  // What an editor is sent: the filled grid and the numbered one, and the clues with their answers in the margin, each page with its number and the name and
+  // address.
   #submission() {
-    const { width, height } = this.#editor.board;
-    const author = this.#text('author');
-    // an address mostly begins with the name
-    const sender = this.address.split('\n')[0].trim() === author ? [this.address] : [author, this.address];
-    const begin = (what) => this.#begin('submission', what, [...sender, `${width} × ${height}`]);
+    const lines = headLines(this.#editor, this.address);
+    const begin = (what) => this.#begin('submission', what, [...lines, pageText(1, 1)]);
     const page = begin('');
     const both = this.#widthOn(page, 2, 110);
     const isEach = this.#isLarge || both < LEAST_OF_TWO;
@@ -175,28 +176,12 @@ export class Printer {
     const other = isEach ? begin('') : page;
     this.#addGrid(other, false, isEach ? this.#widthOn(other, 1, 160) : both);
     const beginAnswers = () => begin(': clues and answers');
-    this.#flow(beginAnswers(), this.#answers(), (on) => showIn(on.appendChild(make('table', 'answers'))), beginAnswers);
-  }
-
-  // The rows of the table of answers.
-  #answers() {
-    const { board } = this.#editor;
-    return [['across', 'Across'], ['down', 'Down']].flatMap(([direction, title]) => {
-      const heading = make('tr', 'heading');
-      const cell = heading.appendChild(make('th', '', title));
-      cell.colSpan = 3;
-      return [heading, ...board.lights.filter((one) => one.direction === direction).map((light) => this.#answer(light))];
+    const table = () => make('table', `answers${this.isDouble ? ' double' : ''}`);
+    this.#flow(beginAnswers(), manuscriptRows(this.#editor, this.hasLengths, this.hasComments).map(rowOf), (on) => showIn(on.appendChild(table())), beginAnswers);
+    const pages = [...this.#sheet.children];
+    pages.forEach((one, at) => {
+      one.querySelector('.address').textContent = [...lines, pageText(at + 1, pages.length)].join('\n');
     });
-  }
-
-  #answer(light) {
-    const { numbers, answer } = this.#editor.cluedBy(light);
-    const { text, enumeration } = enumerated(this.#text(`clue ${light.name}`), answer.length);
-    const row = make('tr', '');
-    const clue = make('td', '');
-    clue.append(...nodesOfText(text), this.hasLengths && !this.#isLinked(light) ? ` ${enumeration}` : '');
-    row.append(make('td', '', `${numbers}${light.direction === 'across' ? 'A' : 'D'}`), clue, make('td', '', this.#editor.answerOf(light).replaceAll('.', '_')));
-    return row;
   }
 
   // Whether the clue of a light leads to that of another one, which it goes on from.
@@ -264,6 +249,22 @@ export class Printer {
 function barsOf({ right, below }, x, y) {
   const bar = (d) => svgElement('path', { d, stroke: '#000', 'stroke-width': 3 });
   return [...(right ? [bar(`M${x} ${y - SIDE}V${y}`)] : []), ...(below ? [bar(`M${x - SIDE} ${y}H${x}`)] : [])];
+}
+
+const pageText = (number, count) => `page ${number} of ${count}`;
+
+// A row of the table of clues and answers.
+function rowOf({ heading = '', comments = '', number = '', clue = '', answer = '' }) {
+  const row = make('tr', heading ? 'heading' : comments ? 'comments' : '');
+  if (heading || comments) {
+    const cell = row.appendChild(make(heading ? 'th' : 'td', '', heading || comments));
+    cell.colSpan = 3;
+    return row;
+  }
+  const told = make('td', '');
+  told.append(...nodesOfText(clue));
+  row.append(make('td', '', number), told, make('td', '', answer));
+  return row;
 }
 
 // What shows parts in an element.

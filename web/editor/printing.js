@@ -29,6 +29,8 @@ export class PrintDialog {
 
   open() {
     $('print-address').value = keptAddress();
+    // an outlet gets them only where that is chosen anew
+    $('print-comments').checked = false;
     if (!this.#isLengthsChosen) $('print-lengths').checked = isBritishGrid(this.#editor.board);
     this.#preview();
     openDialog($('print-dialog'));
@@ -36,7 +38,10 @@ export class PrintDialog {
 
   #preview() {
     const chosen = (name) => $('print-dialog').querySelector(`[name=${name}]:checked`).value;
-    Object.assign(this.#printer, { parts: chosen('parts'), paper: chosen('paper'), hasLengths: $('print-lengths').checked, address: $('print-address').value });
+    Object.assign(this.#printer, {
+      parts: chosen('parts'), paper: chosen('paper'), hasLengths: $('print-lengths').checked, address: $('print-address').value, isDouble: $('print-double').checked,
+      hasComments: $('print-comments').checked,
+    });
     $('print-sender').hidden = this.#printer.parts !== 'submission';
     $('preview').replaceChildren(...this.#printer.pages());
   }

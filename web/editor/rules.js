@@ -43,11 +43,14 @@ function uncheckedRun(board, light) {
 
 const titled = ({ number, direction }) => `${number} ${direction === 'across' ? 'Across' : 'Down'}`;
 
-function gridWarnings(board) {
+function countWarnings(board) {
+  const most = board.width === board.height && !isBritishGrid(board) ? MOST_WORDS[board.width] : undefined;
+  return most && board.lights.length > most ? [{ text: `${board.lights.length} words: an American ${board.width} × ${board.height} has ${most} at most` }] : [];
+}
+
+// What the rules say against the blocks and bars, other than of how many words there are.
+export function shapeWarnings(board) {
   const warnings = [];
-  const isAmerican = !isBritishGrid(board);
-  const most = board.width === board.height && isAmerican ? MOST_WORDS[board.width] : undefined;
-  if (most && board.lights.length > most) warnings.push({ text: `${board.lights.length} words: an American ${board.width} × ${board.height} has ${most} at most` });
   const short = board.lights.filter((light) => light.cells.length === 2);
   if (short.length) warnings.push({ text: short.length === 1 ? `${titled(short[0])} has two letters` : `${short.length} lights have two letters`, light: short[0].name });
   const parts = partsOf(board);
@@ -57,7 +60,7 @@ function gridWarnings(board) {
   }
   const isBarred = board.cells.some((cell) => cell.right || cell.below);
   if (isBarred) return [...warnings, ...barredWarnings(board)];
-  return [...warnings, ...(isAmerican ? uncheckedWarnings(board) : latticeWarnings(board))];
+  return [...warnings, ...(isBritishGrid(board) ? latticeWarnings(board) : uncheckedWarnings(board))];
 }
 
 // In an American grid each cell is checked.
@@ -123,4 +126,4 @@ const clueWordWarnings = (editor) => clueWords(editor).map(({ light, word, in: o
 
 // What the usual rules say against a grid: { text, light or cell to go to, isClue if it is about the clue }.
 /** @param {Told} editor */
-export const warningsOf = (editor) => [...gridWarnings(editor.board), ...wordWarnings(editor), ...clueWarnings(editor), ...clueWordWarnings(editor)];
+export const warningsOf = (editor) => [...countWarnings(editor.board), ...shapeWarnings(editor.board), ...wordWarnings(editor), ...clueWarnings(editor), ...clueWordWarnings(editor)];

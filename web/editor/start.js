@@ -12,6 +12,8 @@ async function embedded(id) {
   return new Uint8Array(await new Response(stream).arrayBuffer());
 }
 
+export const embeddedText = async (id) => new TextDecoder().decode(await embedded(id));
+
 // What makes workers with the engine.
 export function workers() {
   const url = URL.createObjectURL(new Blob([$('worker').textContent], { type: 'text/javascript' }));

@@ -5,12 +5,12 @@
 // how long after the last key a text is taken over, in milliseconds
 const SETTLED = 1000;
 const TEXTS = '#clue-list textarea, #clue-list .note, .fields :is(input, textarea)';
-// a link means something once it is whole
-const LINKS = '#clue-list .links';
+// a link or a comment means something once it is whole
+const WHOLE = '#clue-list :is(.links, .comment)';
 
-// Whether Undo in a field goes back in the history of the puzzle: in its texts, but not in a link that is half typed.
+// Whether Undo in a field goes back in the history of the puzzle: in its texts, but not in a link or a comment that is half typed.
 /** @param {HTMLElement & { value?: string }} field */
-export const hasUndoOfPuzzle = (field) => field.matches(TEXTS) || (field.matches(LINKS) && field.value === field.dataset.kept);
+export const hasUndoOfPuzzle = (field) => field.matches(TEXTS) || (field.matches(WHOLE) && field.value === field.dataset.kept);
 
 // A run of typing: the cursor after its last key, or null before the first one, and whether an edit of it was made.
 /** @typedef {{ caret: number | null, isMade: Promise<boolean> | null }} Run */
@@ -45,7 +45,7 @@ export class Typed {
   take() {
     clearTimeout(this.#timer);
     const field = document.activeElement;
-    if (field?.matches(`${TEXTS}, ${LINKS}`)) field.dispatchEvent(new Event('change', { bubbles: true }));
+    if (field?.matches(`${TEXTS}, ${WHOLE}`)) field.dispatchEvent(new Event('change', { bubbles: true }));
   }
 
   // Makes an edit of what is typed in a field: `action` gets the run, whose edits are one step.
@@ -87,7 +87,7 @@ export class Typed {
   }
 
   #begin(field) {
-    this.#field = field.matches(`${TEXTS}, ${LINKS}`) ? field : null;
+    this.#field = field.matches(`${TEXTS}, ${WHOLE}`) ? field : null;
     this.startAnew();
   }
 

@@ -6,10 +6,10 @@ const HELD = '-';
 
 export class TypingField {
   // `type` is told each key, by its name.
-  constructor(type) {
+  constructor(type, id = 'typing') {
     this.type = type;
     this.element = Object.assign(document.createElement('input'), {
-      id: 'typing', type: 'text', value: HELD, tabIndex: -1, autocomplete: 'off', spellcheck: false, enterKeyHint: 'next',
+      id, type: 'text', value: HELD, tabIndex: -1, autocomplete: 'off', spellcheck: false, enterKeyHint: 'next',
     });
     for (const [name, value] of [['aria-label', 'Letters of the grid'], ['autocapitalize', 'characters'], ['autocorrect', 'off']]) {
       this.element.setAttribute(name, value);

@@ -8,9 +8,10 @@ import * as lists from './editor/lists.mjs';
 import * as clues from './editor/clues.mjs';
 import * as puzzles from './editor/puzzles.mjs';
 import * as newGrids from './editor/new-grids.mjs';
+import * as others from './editor/others.mjs';
 import * as files from './editor/files.mjs';
 import * as kept from './editor/kept.mjs';
 import * as screen from './editor/screen.mjs';
 import { runAll } from './page.mjs';
 
-await runAll([grid, words, deadEnds, fills, scores, lists, clues, puzzles, newGrids, files, kept, screen]);
+await runAll([grid, words, deadEnds, fills, scores, lists, clues, puzzles, newGrids, others, files, kept, screen]);

@@ -7,6 +7,7 @@
 import { deepStrictEqual as same } from 'node:assert/strict';
 import { Count } from './count.mjs';
 import { pageModules } from './page-modules.mjs';
+import { boardsOf } from './rows.mjs';
 
 // what messages need of a browser
 Object.assign(globalThis, { navigator: globalThis.navigator ?? { platform: '' }, document: { createElement: () => element() } });
@@ -34,32 +35,7 @@ const leastOf = (race, at) => race.next(at).least;
 // Has a worker be answered for its next slice.
 const answered = (race, at, told) => race.take(at, race.next(at), told);
 
-// A grid as the page has it, of rows of letters: `#` is a block, and `.` an empty cell. Each run of two cells or more is a light.
-function boardOf(...rows) {
-  const [width, all] = [rows[0].length, rows.join('')];
-  const cells = [...all].map((letter, at) => ({
-    coordinates: `${Math.floor(at / width) + 1} ${(at % width) + 1}`, letter: /[A-Z]/.test(letter) ? letter : '', block: letter === '#', across: null, down: null,
-  }));
-  const board = Object.assign(new Board(), { width, height: rows.length, cells });
-  const isOpen = (at) => all[at] !== undefined && all[at] !== '#';
-  const nextIn = { across: (at) => ((at + 1) % width ? at + 1 : -1), down: (at) => at + width };
-  const lastIn = { across: (at) => (at % width ? at - 1 : -1), down: (at) => at - width };
-  let number = 0;
-  for (const first of all.split('').keys()) {
-    const begun = ['across', 'down'].filter((way) => isOpen(first) && !isOpen(lastIn[way](first)) && isOpen(nextIn[way](first)));
-    if (begun.length) number++;
-    for (const direction of begun) {
-      const own = [];
-      for (let at = first; isOpen(at); at = nextIn[direction](at)) own.push(at);
-      const light = { name: `${number} ${direction}`, number: String(number), direction, cells: own, count: 1 };
-      board.lights.push(light);
-      board.byName.set(light.name, light);
-      for (const at of own) cells[at][direction] = light;
-    }
-  }
-  return board;
-}
-
+const boardOf = boardsOf(Board);
 const recordOf = (board, texts = []) => [`size ${board.width} ${board.height}`, ...board.cells.filter(({ letter }) => letter).map(({ coordinates, letter }) => `set ${coordinates} ${letter}`), ...texts, ''].join('\n');
 const pencilOf = (board, ...ink) => new Set(board.cells.filter(({ letter, coordinates }) => letter && !ink.includes(coordinates)).map(({ coordinates }) => coordinates));
 

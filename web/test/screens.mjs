@@ -33,7 +33,17 @@ const SCREENS = {
     await browser.until("document.querySelectorAll('#themes-grids .pattern').length > 2");
   },
   library: () => menu('library'),
+  outlets: async () => {
+    await browser.value(`${$('tab-puzzle')}.click()`);
+    await browser.until("document.querySelector('#outlets details')");
+    await browser.value(`document.querySelector('#outlets details').open = true, ${$('outlets')}.scrollIntoView()`);
+  },
   print: () => menu('print'),
+  submission: async () => {
+    await menu('print');
+    await browser.until(`${$('print-dialog')}.open`);
+    await browser.value("document.querySelector('[name=parts][value=submission]').click()");
+  },
   lists: () => browser.value(`${$('tab-puzzle')}.click(), ${$('personal-edit')}.click()`),
   help: () => menu('help'),
   faults: () => opening('faults.puz', { texts: ['', '', '', 'Pet', 'A clue too many', ''], sections: [['GEXT', Buffer.from([0])]] }, 'repairs-dialog'),

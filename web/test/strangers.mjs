@@ -6,7 +6,7 @@
 import { createHash } from 'node:crypto';
 import { deepStrictEqual as same, throws } from 'node:assert/strict';
 import { readFileSync, readdirSync } from 'node:fs';
-import { deflateRawSync } from 'node:zlib';
+import { deflateRawSync, gunzipSync } from 'node:zlib';
 import { Count } from './count.mjs';
 import { pageModules } from './page-modules.mjs';
 import { zipOf } from './zip.mjs';
@@ -25,28 +25,47 @@ function besideOf(given) {
   return { ...lawfulBeside(given, dropped), dropped: dropped.phrases };
 }
 
+// The policy of a page by its directives. It comes before the scripts that it is for.
+function directivesOf(page) {
+  same(page.indexOf('Content-Security-Policy') < page.indexOf('<script'), true);
+  const [, policy] = /<meta http-equiv="Content-Security-Policy" content="([^"]*)">/.exec(page);
+  return new Map(policy.split('; ').map((one) => [one.split(' ')[0], one.split(' ').slice(1)]));
+}
+
+// The hashes of the elements of a page with a name, but for scripts that are data.
+function hashesOf(page, name) {
+  const types = /^(?:|module)$/;
+  const found = [...page.matchAll(new RegExp(`<${name}([^>]*)>([^]*?)</${name}>`, 'g'))].filter(([, attributes]) => types.test(/type="([^"]*)"/.exec(attributes)?.[1] ?? ''));
+  return found.map(([, , text]) => `'sha256-${createHash('sha256').update(text).digest('base64')}'`);
+}
+
 const CASES = {
   'no script makes markup of a text'() {
-    const folders = ['', 'editor/', 'editor/grids/'].map((folder) => new URL(folder, WEB));
+    const folders = ['', 'editor/', 'editor/grids/', 'editor/solver/'].map((folder) => new URL(folder, WEB));
     const files = folders.flatMap((folder) => readdirSync(folder).filter((name) => /\.(js|html)$|^make-page$/.test(name)).map((name) => new URL(name, folder)));
     const found = files.flatMap((file) => readFileSync(file, 'utf8').split('\n').map((line, at) => ({ file, line, at })).filter(({ line }) => WAYS.test(line)));
     same(found.map(({ file, at, line }) => `${file.pathname.replace(WEB.pathname, '')}:${at + 1}: ${line.trim()}`), []);
     same(files.length > 80 && files.some(({ pathname }) => pathname.endsWith('print.js')), true);
     // nor does an element have a handler in its markup
-    same(/<[^>]*\son\w+=/.exec(readFileSync(new URL('editor/index.html', WEB), 'utf8')), null);
+    for (const page of ['editor/index.html', 'editor/solver/page.html']) same(/<[^>]*\son\w+=/.exec(readFileSync(new URL(page, WEB), 'utf8')), null);
   },
 
   'the policy of the page names its scripts, and lets no other run'() {
     const page = readFileSync(new URL('dist/xw.html', WEB), 'utf8');
-    const [, policy] = /<meta http-equiv="Content-Security-Policy" content="([^"]*)">/.exec(page);
-    const directives = new Map(policy.split('; ').map((one) => [one.split(' ')[0], one.split(' ').slice(1)]));
-    same([directives.get('default-src'), directives.get('worker-src'), directives.get('base-uri'), directives.get('form-action')], [["'none'"], ['blob:'], ["'none'"], ["'none'"]]);
-    const types = /^(?:|module)$/;
-    const scripts = [...page.matchAll(/<script([^>]*)>([^]*?)<\/script>/g)].filter(([, attributes]) => types.test(/type="([^"]*)"/.exec(attributes)?.[1] ?? ''));
-    const hashes = scripts.map(([, , text]) => `'sha256-${createHash('sha256').update(text).digest('base64')}'`);
+    const directives = directivesOf(page);
+    same(['default-src', 'worker-src', 'base-uri', 'form-action'].map((name) => directives.get(name)), [["'none'"], ['blob:'], ["'none'"], ["'none'"]]);
+    const hashes = hashesOf(page, 'script');
     same([hashes.length, directives.get('script-src')], [2, [...hashes, "'wasm-unsafe-eval'"]]);
-    // the policy comes before the scripts that it is for
-    same(page.indexOf('Content-Security-Policy') < page.indexOf('<script'), true);
+  },
+
+  'the policy of a page to solve names its script and its style, and nothing else'() {
+    const [, packed] = /<script type="text\/plain" id="solver">([^]*?)<\/script>/.exec(readFileSync(new URL('dist/xw.html', WEB), 'utf8'));
+    const page = gunzipSync(Buffer.from(packed, 'base64')).toString();
+    const [script, style] = ['script', 'style'].map((name) => hashesOf(page, name));
+    same([script.length, style.length], [1, 1]);
+    same([...directivesOf(page)], [['default-src', ["'none'"]], ['script-src', script], ['style-src', style], ['base-uri', ["'none'"]], ['form-action', ["'none'"]]]);
+    const [, text] = /<script type="module">([^]*?)<\/script>/.exec(page);
+    same([Buffer.byteLength(text) <= 60 * 1024, text.includes('WebAssembly')], [true, false]);
   },
 
   'what a session has beside its record'() {

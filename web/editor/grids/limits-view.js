@@ -1,6 +1,6 @@
 // What a new grid is for, its size and symmetry, and its limits in a table, which a setter can change: the browser keeps what is changed for an outlet.
 import { keepLimits, keptLimits } from '../keep.js';
-import { LIMITS, OUTLETS, limitsAt, wholeLimits } from './outlets.js';
+import { LIMITS, OUTLETS, changedName, limitsFor, wholeLimits } from './outlets.js';
 
 /** @typedef {import('./outlets.js').Limit} Limit */
 
@@ -10,8 +10,7 @@ const STYLES = { american: 'American', british: 'British lattices', barred: 'Bar
 
 export class LimitsView {
   #elements;
-  // what is changed, by the outlet and the size
-  /** @type {Record<string, Partial<Record<Limit, number | null>>>} */
+  /** @type {import('./outlets.js').Changed} */
   #changed = keptLimits();
   /** @type {Map<Limit, HTMLInputElement>} */
   #fields = new Map();
@@ -50,7 +49,7 @@ export class LimitsView {
 
   get #key() {
     const { width, height } = this.#size;
-    return `${this.#outlet.name} ${width} ${height}`;
+    return changedName(this.#outlet, width, height);
   }
 
   // What a search is to find: its style, size, symmetry and limits.
@@ -83,20 +82,18 @@ export class LimitsView {
 
   // Shows the limits of the outlet at this size, and where each comes from.
   #show() {
-    const [outlet, { width, height }, changed] = [this.#outlet, this.#size, this.#changed[this.#key] ?? {}];
-    const listed = limitsAt(outlet, width, height);
-    const isAtSize = width === outlet.width && height === outlet.height;
+    const [outlet, { width, height }] = [this.#outlet, this.#size];
+    const limits = limitsFor(outlet, width, height, this.#changed);
     const isAmerican = outlet.style === 'american';
     for (const [name, field] of this.#fields) {
-      const isOwn = name in changed;
-      const limit = isOwn ? changed[name] : listed[name];
-      field.value = limit === null || limit === undefined ? '' : String(limit);
+      const { limit, source } = limits[name];
+      field.value = limit === null ? '' : String(limit);
       const row = field.closest('tr');
       row.hidden = !isAmerican && !['words', 'blocks', 'threes'].includes(name);
-      row.lastElementChild.textContent = sourceOf(outlet, name, { isOwn, isAtSize, isNone: field.value === '' });
+      row.lastElementChild.textContent = source;
     }
-    this.#elements.reset.disabled = !Object.keys(changed).length;
-    this.#elements.summary.textContent = this.#summary(outlet, isAtSize);
+    this.#elements.reset.disabled = !Object.keys(this.#changed[this.#key] ?? {}).length;
+    this.#elements.summary.textContent = this.#summary(outlet, width === outlet.width && height === outlet.height);
   }
 
   #summary({ published }, isAtSize) {
@@ -108,14 +105,6 @@ export class LimitsView {
     const known = isAtSize && published.length ? ` (published: ${published.join(' and ')})` : '';
     return `Limits: ${parts.join(', ') || 'none'}${known}`;
   }
-}
-
-// Where a limit comes from.
-function sourceOf({ published }, name, { isOwn, isAtSize, isNone }) {
-  if (isOwn) return 'yours';
-  if (isNone) return '';
-  if (!isAtSize) return 'by the size';
-  return published.includes(name) ? 'published' : 'usual';
 }
 
 function groupOf(style) {

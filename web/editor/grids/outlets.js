@@ -70,6 +70,26 @@ export function limitsAt({ limits, width, height }, newWidth, newHeight) {
   return { ...limits, ...Object.fromEntries(grown), ...(limits.longest === width && { longest: Math.max(newWidth, newHeight) }) };
 }
 
+// What a setter changed of limits, by the outlet and the size; null is no limit.
+/** @typedef {Record<string, Partial<Record<Limit, number | null>>>} Changed */
+
+// The name that changes of an outlet at a size are kept by.
+export const changedName = ({ name }, width, height) => `${name} ${width} ${height}`;
+
+// Each limit of an outlet at a size, with those that a setter changed, and where it comes from; null is no limit.
+/**
+ * @param {Outlet} outlet
+ * @param {Changed} changed
+ * @returns {Record<Limit, { limit: number | null, source: string }>}
+ */
+export function limitsFor(outlet, width, height, changed) {
+  const [listed, own] = [limitsAt(outlet, width, height), changed[changedName(outlet, width, height)] ?? {}];
+  const isAtSize = width === outlet.width && height === outlet.height;
+  const sourceOf = (name) => (!isAtSize ? 'by the size' : outlet.published.includes(name) ? 'published' : 'usual');
+  const limitOf = (name) => (name in own ? { limit: own[name], source: 'yours' } : name in listed ? { limit: listed[name], source: sourceOf(name) } : { limit: null, source: '' });
+  return /** @type {any} */ (Object.fromEntries(Object.keys(LIMITS).map((name) => [name, limitOf(name)])));
+}
+
 // Limits for a search: where there is none, all that the grid has.
 /**
  * @param {Partial<Limits>} limits

@@ -43,7 +43,8 @@ export const CASES = {
         expect(pages.every(({ head, address: name }) => head.startsWith('A puzzle') && name === 'A. Setter'), `${size}, ${paper}: a page without its title or name: ${JSON.stringify(pages)}`);
         expect(pages.reduce((sum, { clues: count }) => sum + count, 0) === names.length, `${size}, ${paper}: the clues are on ${JSON.stringify(pages)}`);
         const sent = await printedPages(size, paper, 'submission');
-        const isSent = ({ head, address: lines }) => head.startsWith('A puzzle') && lines === [...address, `${size} × ${size}`].join('\n');
+        const linesOf = (at) => [...address, `${size} × ${size}, ${names.length} words`, `page ${at + 1} of ${sent.length}`].join('\n');
+        const isSent = ({ head, address: lines }, at) => head.startsWith('A puzzle') && lines === linesOf(at);
         expect(sent.every(isSent), `${size}, ${paper}: a page without its title, name and address: ${JSON.stringify(sent)}`);
         expect(sent.reduce((sum, { clues: count }) => sum + count, 0) === names.length && sent.reduce((sum, { grids }) => sum + grids, 0) === 2, `${size}, ${paper}: ${JSON.stringify(sent)}`);
       }
