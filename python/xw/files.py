@@ -105,8 +105,18 @@ class Sources:
         # The session has all that these files of sessions had.
         self._known = {_stamp(self._paths["record"])} if "record" in self._paths else set()
 
+    def after(self, record: Any) -> Sources:
+        """The files of the session once it is restored from a record."""
+        return Sources(self._paths.get("words"), self._paths.get("puzzle"), record)
+
+    def copy(self) -> Sources:
+        """The files that a copy of the session knows: what it writes later, the session does not have."""
+        other = self.after(self._paths.get("record"))
+        other._known = set(self._known)
+        return other
+
     def forget(self) -> None:
-        """The session lacks a part of the files that it knew, so they are kept."""
+        """The session lacks a part of its record, whose file is kept."""
         self._known.clear()
 
     def expect_other(self, path: pathlib.Path, kind: Kind) -> None:

@@ -3,7 +3,7 @@ from __future__ import annotations
 
 import queue
 import threading
-from typing import Any, Iterable, List, NamedTuple, Optional, Tuple, Union
+from typing import Iterable, List, NamedTuple, Optional, Tuple, Union
 
 from .answers import Best, Found, LightName, Progress
 from .errors import Died
@@ -41,16 +41,27 @@ class Step(NamedTuple):
     reports: Tuple[str, ...]
 
 
+class Task(NamedTuple):
+    """What a worker searches for: the words and the record of its session, the names of lights, and what bounds the search."""
+
+    words: bytes
+    record: bytes
+    named: str
+    least: int
+    limit: Optional[int]
+    seconds: Optional[float]
+
+
 # ---- in a worker
 
 
 class Racer:
     """The search of a worker."""
 
-    def __init__(self, words: bytes, record: bytes, seed: int, named: str, least: int, limit: Optional[int], seconds: Optional[float]):
-        session = Session(words, record=record)
+    def __init__(self, task: Task, seed: int):
+        session = Session(task.words, record=task.record)
         self.reports = tuple(session.reports)
-        self.climb, self.slices = Climb(session, seed, named, least), Slices(limit, None, seconds)
+        self.climb, self.slices = Climb(session, seed, task.named, task.least), Slices(task.limit, None, task.seconds)
 
 
 def step(racer: Racer, above: int) -> Step:
@@ -77,10 +88,10 @@ class _Race:
         self.died: Tuple[Died, ...] = ()
         self.told: "queue.SimpleQueue[Tuple[int, Union[Step, Exception]]]" = queue.SimpleQueue()
 
-    def run(self, number: int, worker: Worker, given: Tuple[Any, ...]) -> None:
+    def run(self, number: int, worker: Worker, task: Task, seed: int) -> None:
         """Has a worker search until it ends. Each slice begins with the grade of the best fill of all."""
         try:
-            worker.ask(Racer, *given)
+            worker.ask(Racer, task, seed)
             is_over = False
             while not is_over:
                 told: Step = worker.ask(step, self.above)
@@ -134,12 +145,11 @@ def best(
     of each looks for fills that are better than the best one of all. It ends when no fill is better, when each process has searched for so many seconds or
     made so many placements, or when `progress` returns a true value; `progress` is told after each slice of each process. ^C ends all processes."""
     race, crew, threads = _Race(workers, least), [], []  # type: _Race, List[Worker], List[threading.Thread]
-    listed, lines, named = list_of(words), bytes_of(record), " ".join(map(name_of, lights))
+    task = Task(list_of(words), bytes_of(record), " ".join(map(name_of, lights)), least, limit, seconds)
     try:
         for number in range(workers):
             crew.append(Worker())
-            given = (number, crew[-1], (listed, lines, seed + number, named, least, limit, seconds))
-            threads.append(threading.Thread(target=race.run, args=given, daemon=True))
+            threads.append(threading.Thread(target=race.run, args=(number, crew[-1], task, seed + number), daemon=True))
             threads[-1].start()
         race.watch(progress)
     finally:

@@ -103,7 +103,7 @@ class Session:
 
     def __reduce__(self) -> Tuple[Any, ...]:
         """A copy, also by `pickle`, is another session, over the same words and after the record of this one."""
-        return type(self), (self._words, b"", self.record()), {"_sources": self._sources}
+        return type(self), (self._words, b"", self.record()), {"_sources": self._sources.copy()}
 
     def __repr__(self) -> str:
         """The grid, as `show` has it."""
@@ -135,7 +135,7 @@ class Session:
     def restore(self, record: Source) -> List[str]:
         """Makes the session what `Session(words, record=record)` is, over the words that it began with, in less time than a new one takes. Returns its new
         `reports`. If the record has a fault, the session stays as it was."""
-        lines = bytes_of(record)
+        sources, lines = self._sources.after(record), bytes_of(record)
         with self._handle.lock:
             before = self.record()
             try:
@@ -144,8 +144,10 @@ class Session:
             except Fault:
                 self._again(before, is_new=True)
                 raise
-        self._sources.forget()
-        return self.reports
+            self._sources = sources
+            if self.reports:
+                sources.forget()
+            return self.reports
 
     def _again(self, record: bytes, is_new: bool) -> List[str]:
         if is_new:

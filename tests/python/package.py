@@ -511,6 +511,16 @@ def a_copy_knows_the_files_of_its_session(room):
     other = pickle.loads(pickle.dumps(session))
     raises(ValueError, lambda: other.save(room / "words.txt"))
     assert other.save(room / "a.xw") is None and sorted(it.name for it in room.iterdir()) == ["a.xw", "words.txt"]
+    # but the session does not have what its copy has written
+    (room / "a.xw").unlink()
+    session.save(room / "a.xw")
+    for number, copies in enumerate((copy.copy, copy.deepcopy)):
+        copied = copies(session)
+        copied.title(f"Copy {number}")
+        session.title(f"First {number}")
+        assert copied.save(room / "a.xw") is None
+        kept = session.save(room / "a.xw")
+        assert kept and b"Copy %d" % number in kept.read_bytes()
 
 
 @test
@@ -549,6 +559,12 @@ def a_restored_session_keeps_its_old_file(room):
     session.save(room / "a.xw")
     session.restore(b"size 3 3\n")
     assert session.save(room / "a.xw") == room / "a.xw~" and b"size 2 2" in (room / "a.xw~").read_bytes()
+    # one that is restored from a file has all that it had
+    path = (room / "a.xw~").rename(room / "b.xw")
+    session.restore(path)
+    assert session.rows() == ("--", "--") and session.save(path) is None
+    raises(Fault, lambda: session.restore(b"frob\n"), status="NoCommand")
+    assert session.save(path) is None
 
 
 def refused(name, command):
