@@ -396,7 +396,7 @@ export const CASES = {
     await browser.click('#tab-words');
     // an edit ends it
     await browser.click('#cell-1-1');
-    await browser.press('Space');
+    await browser.press(' ');
     await isOn(false);
     await browser.press('Control+z');
     await page.factsAre(/filled/);
