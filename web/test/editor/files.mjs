@@ -65,14 +65,14 @@ function hostileFiles() {
   const texts = [text, text, text, text, text].map((one) => Buffer.from(one));
   const rebus = [['GRBS', Buffer.from([1, 0])], ['RTBL', Buffer.from(` 0:${text.replace(/[;:]/g, '')};`)]];
   const lines = ['<ACROSS PUZZLE V2>', '<TITLE>', text, '<AUTHOR>', text, '<COPYRIGHT>', text, '<SIZE>', '2x1', '<GRID>', '1B', '<REBUS>', `1:${text.replace(/[;:]/g, '')}:A`, '<ACROSS>', text, '<DOWN>', '<NOTEPAD>', text];
-  const strange = (name) => [new RegExp(`^${name} is open, with 1 repair[;,]`), /^row 1, column \d has “"><img src="?x.*…” for a letter: left empty$/];
+  const strange = (name) => [new RegExp(`^${name} is open.*, with 1 repair[;,]`), /^row 1, column \d has “"><img src="?x.*…” for a letter: left empty$/];
   return [
     ['session.xw', session, new RegExp(`^session.xw is open, but without ${left}; undo`)],
     ['styles.ipuz', JSON.stringify({ ...styled, clues }), /^styles.ipuz is open, but without/],
     ['letters.ipuz', JSON.stringify({ ...styled, solution: [['C', text, 'T']] }), ...strange('letters.ipuz')],
     ['clues.ipuz', JSON.stringify({ ...styled, clues: { Across: 5 } }), /^clues.ipuz: it is not as its format has it$/],
     ['texts.jpz', jpz('B'), /^texts.jpz is open, but without/], ['colours.jpz', jpz('B', ` background-color="${xml}"`), /^colours.jpz is open, but without/], ['letters.jpz', jpz(xml), ...strange('letters.jpz')],
-    ['texts.exolve', exolve('AB'), /^texts.exolve is open, but without/], ['letters.exolve', exolve(`A ${text.replace(/\s/g, '')}`), /^letters.exolve is open, with 1 repair/, /^row 1, column 2 has “"><img/],
+    ['texts.exolve', exolve('AB'), /^texts.exolve is open, but without/], ['letters.exolve', exolve(`A ${text.replace(/\s/g, '')}`), /^letters.exolve is open.*, with 1 repair/, /^row 1, column 2 has “"><img/],
     ['texts.qxw', qxw('A'), /^texts.qxw is open/], ['letters.qxw', qxw(text), ...strange('letters.qxw')],
     ['texts.puz', puzOf({ version: '2.0\0', width: 2, height: 1, solution: 'AB', texts }), /^texts.puz is open/],
     ['rebus.puz', puzOf({ version: '1.3\0', width: 2, height: 1, solution: 'AB', texts, sections: rebus }), /^rebus.puz is open, but without the rebus in row 1/],
