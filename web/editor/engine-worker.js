@@ -19,7 +19,7 @@ let scores = new Map();
 let isScored = false;
 let bestScore = 0;
 // tells the place of the list that a word is from; or null
-/** @type {((word: string) => number) | null} */
+/** @type {((word: string) => number | null) | null} */
 let placeOf = null;
 
 const ask = (line) => xw.line(line);

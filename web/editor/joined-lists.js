@@ -54,9 +54,11 @@ class Several {
     return this.#best;
   }
 
-  // The place of the list that decides over a word: OWN, that of the first list that gives it a score, or else of the first that has it; 0 is also that of none.
+  // The place of the list that decides over a word: OWN, that of the first list that gives it a score, or else of the first that has it; null if none has it.
   placeOf(word) {
-    return this.#own.words.has(word) ? OWN : this.#decides(word) + 1;
+    if (this.#own.words.has(word)) return OWN;
+    const at = this.#decides(word);
+    return at < 0 ? null : at + 1;
   }
 
   // The number of the list that decides over a word, or -1. Each is looked through once, since there are many words.
@@ -87,7 +89,7 @@ function sumOf(counts) {
 }
 
 // Reads lists as one. Of several that have a word, the first one that gives it a score decides; the personal list decides over all. `placeOf` tells where a word
-// is from, as OWN or the place of its list; it is null if there is one list alone.
+// is from, as OWN or the place of its list; of one list it tells the words of the personal list alone, and it is null if there are none.
 /** @param {Source[]} sources */
 export function joinLists(sources, personal) {
   const lists = sources.map(readSource);
@@ -97,7 +99,8 @@ export function joinLists(sources, personal) {
   const scored = lists.some((list) => list.scored);
   const ofList = (list, at) => list.words.filter((word) => several.placeOf(word) === at + 1 && !own.hidden.has(word));
   const all = [...lists.flatMap(ofList), ...[...own.words.keys()].filter((word) => !own.hidden.has(word))];
-  return { ...toldOf(lists), words: scored ? ranked(all, several, several.best) : all, scores: scored ? several : new Map(), placeOf: (word) => several.placeOf(word) };
+  const placeOf = (word) => (lists.length > 1 || own.words.has(word) ? several.placeOf(word) : null);
+  return { ...toldOf(lists), words: scored ? ranked(all, several, several.best) : all, scores: scored ? several : new Map(), placeOf };
 }
 
 // What is told of lists beside their words.

@@ -21,6 +21,8 @@ export class RescoreDialog {
     const { dialog, kind, text, how, value, preview, stop } = elements;
     preview.addEventListener('click', () => this.#preview());
     stop.addEventListener('click', () => this.#aside.stop());
+    // each hides where it was pressed
+    for (const button of [preview, stop]) button.addEventListener('click', () => text.focus());
     for (const field of [kind, text, how, value]) field.addEventListener('input', () => this.#forget());
     for (const field of [text, value]) field.addEventListener('keydown', (event) => this.#key(event));
     dialog.addEventListener('close', () => this.#close(dialog.returnValue));

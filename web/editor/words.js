@@ -241,7 +241,8 @@ export class WordsView {
     this.#listed = this.#light?.name ?? '';
     this.#words = this.#apart(words);
     this.#scores = new Map(scores ? words.map((word, at) => [word, scores[at]]) : []);
-    this.#places = new Map(places ? words.map((word, at) => [word, places[at]]) : []);
+    const placed = words.map((word, at) => /** @type {[string, number | null]} */ ([word, places?.[at] ?? null]));
+    this.#places = new Map(placed.filter(([, place]) => place !== null));
     this.#at = -1;
     this.#elements.list.scrollTop = 0;
     this.#list();

@@ -117,7 +117,9 @@ const CASES = {
     same(joined([source('cat\nemu'), source('emu\nfox')]), { CAT: [null, 1], EMU: [null, 1], FOX: [null, 2] });
     // the personal list decides over all, and one list alone has no places
     same(joined([one, two], 'cat;55\n-dog\nfox'), { COW: [80, 1], FOX: [90, OWN], CAT: [55, OWN] });
-    same([joinLists([one], '').placeOf, joinLists([one], 'fox').placeOf('COW')], [null, 1]);
+    same([joinLists([one], '').placeOf, ...['COW', 'FOX', 'EMU'].map(joinLists([one], 'fox').placeOf)], [null, null, OWN, null]);
+    // a word that no list has, as one of the puzzle alone
+    same([joinLists([one, two], '').placeOf('EMU'), joinLists([one, two], '').scores.get('EMU'), joinLists([one, two], '-cow').scores.get('COW')], [null, null, null]);
   },
 
   'offsets of lists'() {
