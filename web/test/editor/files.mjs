@@ -667,7 +667,12 @@ export const CASES = {
     await page.statusIs(/^given.xml is open/);
     await saved('bars-circles.jpz', () => menu('save-jpz'));
     await isOpen('bars-circles.jpz', /^bars-circles.jpz is open; undo/);
-    for (const [name, text, pattern] of [['half.jpz', xml.slice(0, 900), /^half.jpz: it is no XML$/], ['none.jpz', '<crossword-compiler/>', /^none.jpz: it is no crossword$/]]) {
+    writeFileSync(join(room, 'half.jpz'), xml.slice(0, xml.indexOf('<clues')));
+    await openFile(join(room, 'half.jpz'));
+    expect((await faultsShown()).join() === 'the file ends too early: what is there is taken', 'something else is wrong');
+    await openAnyway('cancel');
+    await page.statusIs(/^half.jpz is not opened$/, 'bad');
+    for (const [name, text, pattern] of [['damaged.jpz', '<crossword-compiler><a></b>', /^damaged.jpz: it is no XML$/], ['none.jpz', '<crossword-compiler/>', /^none.jpz: it is no crossword$/]]) {
       writeFileSync(join(room, name), text);
       await openFile(join(room, name));
       await page.statusIs(pattern, 'bad');
