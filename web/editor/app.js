@@ -213,7 +213,7 @@ const listDialog = new ListDialog(
 );
 const files = new Files(editor, {
   mayEdit, toGrid, toClue, opened: toGrid, changeLists: (changed, name) => lists.change(changed, name), askList: (name, bytes) => listDialog.ask(name, bytes), addPuzzles: (text) => shelf.addAll(text),
-  saved: () => shelf.saved(), askRows, askFile, askAnyway, askKey, words: () => allWords.get(), takeClues: (changes) => edits.takeClues(changes),
+  saved: () => shelf.saved(), askRows, askFile, askAnyway, askKey, words: () => allWords.get(), takeClues: (changes) => edits.takeClues(changes), takeComments: (texts) => edits.takeComments(texts),
   askClues: (name, found) => askClues(editor, { dialog: $('table-dialog'), told: $('table-told'), changes: $('table-changes'), others: $('table-others') }, name, found),
 });
 files.takeDrops(document.body);
@@ -319,6 +319,7 @@ const ACTIONS = {
   'clues-csv': wholly(() => files.saveClues()),
   'clues-html': wholly(() => files.saveSheet()),
   'clues-from': () => pick('.csv,.tsv,.txt', 'clues'),
+  'comments-from': () => pick('.xw,.zip,.eml', 'comments'),
   'save-session': wholly(() => files.saveSession()),
   list: () => pick('.txt,.dict,.csv,.tsv', 'list'),
   'built-in': () => lists.change((now) => now.onlyBuiltIn()),

@@ -159,6 +159,12 @@ export class Edits {
     return this.#keepBeside(commentField(this.#editor.board, light), light, text, null);
   }
 
+  // Takes over comments on several clues, by the names that they are kept under, in one step. Returns what that is refused for, or null.
+  /** @param {[string, string][]} texts */
+  takeComments(texts) {
+    return this.edit([], { originals: this.#beside(texts) });
+  }
+
   #keepBeside(field, light, text, stroke) {
     return this.edit([], { originals: this.#beside([[field, text]]), stroke, at: { cursor: light.cells[0], direction: light.direction } });
   }

@@ -3,12 +3,14 @@ import { toBytes, toText } from '../xw.js';
 import { lawfulBeside } from './beside.js';
 import { htmlOf } from './clue-sheet.js';
 import { clueChanges, clueTable, countClues, readClueTable } from './clue-table.js';
-import { Dropped, countText, droppedOfPuz, joinedText } from './dropped.js';
+import { addedComments } from './comments.js';
+import { Dropped, countText, droppedOfPuz, joinedText, namesText } from './dropped.js';
 import { enumerated } from './enumeration.js';
 import { exolveOf, readExolve } from './exolve.js';
 import { FileFault } from './given.js';
 import { ipuzOf, readIpuz } from './ipuz.js';
 import { jpzOf, readJpz } from './jpz.js';
+import { commentField, isComment } from './links.js';
 import { solutionOf } from './locked.js';
 import { lossesOf } from './losses.js';
 import { SESSION_HEAD, foreignKind, hasCommands, isListText, isPuz, kindOf } from './kinds.js';
@@ -19,7 +21,7 @@ import { rebusOf, withRebus } from './puz-sections.js';
 import { asVersion13, originalsOf } from './puz-versions.js';
 import { readDeck, readQxw } from './qxw.js';
 import { isRebus, keptRebus } from './rebus.js';
-import { bodyOf } from './record.js';
+import { bodyOf, parseRecord } from './record.js';
 import { counted } from './repairs.js';
 import { termed } from './terms.js';
 import { asVersion1, isVersion1, isVersion2, letterRows, readText, readText2, recordOfRows } from './text-grids.js';
@@ -34,6 +36,8 @@ const PENCIL = '# pencil ';
 const ORIGINALS = '# originals ';
 const WRITTEN = '# written ';
 
+// how many comments that are left out are named
+const MOST_NAMED = 5;
 // the most bytes of a file that is opened; larger ones are none of those that the page knows
 const MOST_BYTES = 1 << 27;
 
@@ -56,13 +60,14 @@ export class Files {
     this.actions = actions;
   }
 
-  // Opens a file of any kind, or one that is said to be a `list` of words or a table of `clues`. Returns whether it could.
+  // Opens a file of any kind, or one that is said to be a `list` of words, a table of `clues` or a session with `comments`. Returns whether it could.
   async open(file, as = '') {
     if (!this.actions.mayEdit()) return false;
     const content = await this.#contentOf(file);
     if (!content) return false;
     const { name, bytes } = content;
     const kind = as === 'clues' ? as : kindOf(name, bytes);
+    if (as === 'comments') return kind === 'session' ? this.#openComments(name, toText(bytes)) : this.#refuse(`${name} is no session, and no other file has comments: nothing is taken over`);
     try {
       switch (kind) {
         case 'list':
@@ -233,11 +238,26 @@ export class Files {
     const words = lines.filter((line) => /^\s*(add|strike)\s/.test(line));
     const read = await this.#editor.engine.call('read', { record: text });
     const body = bodyOf(read);
-    const pencil = lines.find((line) => line.startsWith(PENCIL))?.slice(PENCIL.length).split(', ').filter(Boolean) ?? [];
-    const [originals, written] = [ORIGINALS, WRITTEN].map((note) => parsed(lines.find((line) => line.startsWith(note))?.slice(note.length)));
     const dropped = new Dropped();
-    await this.#editor.replace({ record: [...words, ...body].join('\n'), ...lawfulBeside({ pencil, originals, written }, dropped) });
+    await this.#editor.replace({ record: [...words, ...body].join('\n'), ...besideIn(lines, dropped) });
     return this.#opened(name, dropped.phrases);
+  }
+
+  // Takes over the comments of a session of this puzzle that are not here yet. Nothing else of it counts.
+  async #openComments(name, text) {
+    const editor = this.#editor;
+    const { board } = editor;
+    const { width, height } = parseRecord(text);
+    if (width !== board.width || height !== board.height) return this.#refuse(`${name} has a grid of ${width} × ${height}: nothing is taken over`);
+    const dropped = new Dropped();
+    const given = besideIn(text.split(/\r?\n/), dropped).originals.filter(([field]) => isComment(field));
+    const here = await editor.inOrder(() => new Map(board.lights.map((light) => [commentField(board, light), editor.commentsOn(light)])));
+    const { texts, added, others } = addedComments(here, given);
+    const left = others.length ? `; left out, since their clues are not here: ${namesText(others.map((one) => `“${one}”`), MOST_NAMED)}` : '';
+    if (!added) return this.#refuse(`${name} has no comment that is not here${left}`);
+    if (await this.actions.takeComments(texts)) return false;
+    say(`${name}: ${countText(added, '1 comment', 'comments')[0]} taken over; undo takes this back${left}`, left ? 'bad' : 'good');
+    return true;
   }
 
   // Shows how a list is read, and takes it over if the user agrees.
@@ -444,6 +464,13 @@ function puzzleDespite(fault, bytes) {
 
 // What is left out of a file.
 const lackingText = (dropped) => (dropped.length ? `, but without ${joinedText(dropped)}` : '');
+
+// What the lines of a session have beside its record, as far as it is lawful.
+function besideIn(lines, dropped) {
+  const noteOf = (note) => lines.find((line) => line.startsWith(note))?.slice(note.length);
+  const [originals, written] = [ORIGINALS, WRITTEN].map((note) => parsed(noteOf(note)));
+  return lawfulBeside({ pencil: noteOf(PENCIL)?.split(', ').filter(Boolean) ?? [], originals, written }, dropped);
+}
 
 // What a note of a session spells in JSON; the note itself if it spells nothing.
 function parsed(note) {

@@ -11,6 +11,7 @@ const fieldOf = (kind, board, light) => board.clueField(light).replace(/^clue /,
 export const linkField = (board, light) => fieldOf(LINK, board, light);
 export const noteField = (board, light) => fieldOf(NOTE, board, light);
 export const commentField = (board, light) => fieldOf(COMMENT, board, light);
+export const isComment = (field) => field.startsWith(COMMENT);
 export const isAdded = (field) => [LINK, NOTE, COMMENT].some((kind) => field.startsWith(kind));
 
 // A clue that leads to another one, as that of a linked light does. It belongs to no word.

@@ -10,7 +10,7 @@ import { Count } from './count.mjs';
 import { pageModules } from './page-modules.mjs';
 import { boardsOf } from './rows.mjs';
 
-const { Board, Dropped, OUTLETS, PATTERNS, Solving, changeBeside, commentField, commentsIn, gridFigures, headLines, judgedBy, judgedByAll, lawfulBeside, letterFigures, linksOf, lossesOf, manuscriptRows, numbersOf, rowsOf, rowsOfFigures, solverPage, solverPuzzle, verdictOf, whyUnsolvable, withComment, withoutComment } = await pageModules(
+const { Board, Dropped, OUTLETS, PATTERNS, Solving, addedComments, changeBeside, commentField, commentsIn, gridFigures, headLines, judgedBy, judgedByAll, lawfulBeside, letterFigures, linksOf, lossesOf, manuscriptRows, numbersOf, rowsOf, rowsOfFigures, solverPage, solverPuzzle, verdictOf, whyUnsolvable, withComment, withoutComment } = await pageModules(
   'beside', 'board', 'changed', 'comments', 'dropped', 'grids/outlets', 'links', 'losses', 'manuscript', 'patterns', 'solver/puzzle', 'solver/solving', 'statistics',
 );
 // the board of the search for grids, which counts in its own way
@@ -162,6 +162,15 @@ const CASES = {
     same(withComment([], ' TB: too hard '), 'TB: too hard');
     same(withComment(['TB: too hard'], 'ED: leave\nit'), 'TB: too hard\nED: leave it');
     same([withComment(['a'], ' '), withoutComment(['a', 'b', 'c'], 1), withoutComment(['a'], 0)], ['a', 'a\nc', '']);
+  },
+
+  'comments of another session'() {
+    const here = new Map([['comment 1 1 across', ['TB: too hard']], ['comment 1 1 down', []], ['comment 2 1 across', ['ED: yes']]]);
+    const given = [['comment 1 1 across', 'TB: too hard\nED: leave it'], ['comment 1 1 down', 'ED: why?\nTB: so'], ['comment 2 1 across', 'ED: yes'], ['comment 9 9 down', 'TB: gone']];
+    same(addedComments(here, given), {
+      texts: [['comment 1 1 across', 'TB: too hard\nED: leave it'], ['comment 1 1 down', 'ED: why?\nTB: so']], added: 3, others: ['TB: gone'],
+    });
+    same(addedComments(here, []), { texts: [], added: 0, others: [] });
   },
 
   'comments in a session, in a step and in no file of solvers'() {

@@ -1,4 +1,5 @@
 // Cases of what a setter has for others: the statistics that outlets ask for, comments on clues, and the puzzle as a solver has it.
+import { writeFileSync } from 'node:fs';
 import { join } from 'node:path';
 import { begin, menu, openFile, openRecord, print, saved } from '../doing.mjs';
 import { browser, expect, page, picture, reload, room, runAlone } from '../page.mjs';
@@ -92,6 +93,31 @@ export const CASES = {
     await page.statusIs(/the comments on a clue/);
     expect(session.includes('half a comment') && !ipuz.includes('half a comment'), 'comments are in the wrong file');
     await begin(6);
+    await openFile(join(room, 'crossword.xw'));
+    await browser.until(`${below} === 'TB: <b>too</b> hard\\nhalf a comment'`);
+    // those of a session come to the ones that are here, in one step
+    await openRecord(GRID);
+    await browser.press('F3');
+    await comment('mine');
+    await browser.until(`${below} === 'mine'`);
+    const take = async (name) => {
+      // a click by the mouse would show the dialog of the browser, which stands in the way
+      await browser.value("document.querySelector('[data-do=comments-from]').click()");
+      await openFile(join(room, name));
+    };
+    writeFileSync(join(room, 'other.xw'), `# xw session\n# originals ${JSON.stringify([['comment 1 1 across', 'TB: too hard\nmine'], ['comment 1 2 down', 'ED: good'], ['comment 9 9 down', 'gone'], ['note 1 1 down', 'no']])}\n${GRID}`);
+    await take('other.xw');
+    await page.statusIs(/^other.xw: 2 comments taken over; undo takes this back; left out, since their clues are not here: “gone”$/);
+    await browser.until(`${below} === 'mine\\nTB: too hard|ED: good'`);
+    await take('other.xw');
+    await page.statusIs(/^other.xw has no comment that is not here/);
+    await browser.click('#undo');
+    await browser.until(`${below} === 'mine'`);
+    await take('crossword.ipuz');
+    await page.statusIs(/crossword.ipuz is no session/);
+    writeFileSync(join(room, 'large.xw'), '# xw session\nsize 9 9\n');
+    await take('large.xw');
+    await page.statusIs(/^large.xw has a grid of 9 × 9: nothing is taken over$/);
     await openFile(join(room, 'crossword.xw'));
     await browser.until(`${below} === 'TB: <b>too</b> hard\\nhalf a comment'`);
     // a print has them if that is wished
