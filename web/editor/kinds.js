@@ -14,8 +14,10 @@ import { isZip } from './zip.js';
 const MAGIC = 'ACROSS&DOWN';
 // where a .puz has it
 const MAGIC_AT = 2;
-// how many bytes tell whether a file is a word list, or a mail
+// how many bytes tell what a file is, such as a mail
 const SAMPLE = 1 << 18;
+// how much of a file tells whether it is a word list: some thousands of lines, so that the page does not stand still over them
+const LIST_SAMPLE = 1 << 15;
 // the first line of a session that the program or this page saved
 export const SESSION_HEAD = '# xw session 1';
 
@@ -46,7 +48,7 @@ export const isPuz = (bytes) => toText(bytes.subarray(MAGIC_AT, MAGIC_AT + MAGIC
 export const isMailed = (bytes) => isMail(toText(bytes.subarray(0, SAMPLE)));
 
 // Whether the bytes of a file are a word list, whatever its name.
-export const isListText = (bytes) => isText(bytes) && isWordList(listText(bytes.subarray(0, SAMPLE)));
+export const isListText = (bytes) => isText(bytes) && isWordList(listText(bytes.subarray(0, LIST_SAMPLE)));
 
 // A text of bytes has no NUL, and pictures and archives have one soon.
 const isText = (bytes) => isSixteenBits(bytes) || !bytes.subarray(0, 4096).includes(0);

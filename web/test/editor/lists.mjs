@@ -136,7 +136,7 @@ export const CASES = {
     await page.statusIs(/^2 of 3 words have 9 or more$/);
     // it is read so after a reload too
     await reload();
-    await page.factsAre(/columns.csv, 3 words/);
+    await page.factsAre(/columns.csv, 2 of 3 words/);
     expect((await browser.value("document.getElementById('least-shown').textContent")) === '9', 'the scores are others');
     await menu('built-in');
     await page.factsAre(/built-in list/);

@@ -1,7 +1,7 @@
 // Cases of scores: raised fills and the least score.
 import { writeFileSync } from 'node:fs';
 import { join } from 'node:path';
-import { another, begin, beginBlank, menu, openList, openGraded, openRecord, pointedAt, scoredList, slideLeast, wordsOf } from '../doing.mjs';
+import { another, begin, beginBlank, menu, openFile, openGraded, openList, openRecord, pointedAt, scoredList, slideLeast, wordsOf } from '../doing.mjs';
 import { hold, holdFill, holdRaising, isDrafted, isHeld, raiseInTime, raiseToTheEnd } from '../holding.mjs';
 import { browser, expect, page, picture, reload, room, runAlone } from '../page.mjs';
 
@@ -77,7 +77,7 @@ export const CASES = {
     await raiseToTheEnd();
     writeFileSync(join(room, 'locked.xw'), 'size 2 2\nset 1 1 A\nset 1 2 B\n');
     await hold('edit');
-    await openList(join(room, 'locked.xw'));
+    await openFile(join(room, 'locked.xw'));
     await isHeld();
     await browser.press('Control+f');
     await browser.value('window.release()');
