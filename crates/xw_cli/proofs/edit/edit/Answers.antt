@@ -8,4 +8,4 @@ returns-in_err-keep_files g c =
     rw (e.1, e.2) (inr c.in_err-keep_files.ensures.err)
 
 pub returns : goal.returns
-returns g c = inl (record { mid = c.keep_files.new.desk; writable = c.keep_files.ensures.ok; opens = c.edit_apart.ensures })
+returns g c = inl (record { mid = c.keep_files.new.desk; writable = c.in_ok-keep_files.ensures.ok; opens = c.edit_apart.ensures })
