@@ -5,7 +5,6 @@
 //
 // It needs web/dist/xw.html (./build web) and Debian's package firefox-esr. The last line is 'N passed, M failed'.
 import { Count } from './count.mjs';
-import { takeList } from './browser.mjs';
 import { FirefoxBrowser } from './firefox-browser.mjs';
 
 const PAGE = new URL('../dist/xw.html', import.meta.url).href;
@@ -64,7 +63,9 @@ async function raisedFill() {
     document.getElementById('picker').files = data.files;
     document.getElementById('picker').dispatchEvent(new Event('change'));
   })()`);
-  await takeList(firefox);
+  await firefox.until("document.getElementById('list-dialog').open");
+  // a key presses no button of a page that has no focus
+  await firefox.click('#list-dialog [value=take]');
   await factsAre(/squares.txt, 8 words/);
   await act("document.querySelector('[data-do=new]').click(), document.getElementById('new-width').value = 2, document.getElementById('new-height').value = 2, document.getElementById('new-blank').click()");
   await factsAre(/^2 × 2 · 0 of/);
