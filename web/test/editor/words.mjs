@@ -3,7 +3,7 @@ import { writeFileSync } from 'node:fs';
 import { join } from 'node:path';
 import { Xw } from '../../dist/xw.js';
 import { PATTERNS, recordOf, rowsOf } from '../../editor/patterns.js';
-import { begin, beginBlank, menu, openGraded, openList, openWords, saved } from '../doing.mjs';
+import { begin, beginBlank, menu, openGraded, openList, openRecord, openWords, saved } from '../doing.mjs';
 import { isDrafted } from '../holding.mjs';
 import { LIST, PAGE, browser, expect, module, page, picture, ready, room, runAlone } from '../page.mjs';
 
@@ -251,9 +251,12 @@ export const CASES = {
   },
 
   async 'other words for a light that is entered'() {
-    await begin(6);
-    await browser.press('Control+f');
-    await page.statusIs(/^filled/);
+    // a fill of the engine, since workers of the page may find one or another
+    const blocks = ['size 5 5', ...[[1, 1], [1, 5], [5, 1], [5, 5]].map((cell) => `block ${cell.join(' ')}`)];
+    const filled = Xw.open(module, { list: LIST, record: `${blocks.join('\n')}\n` });
+    filled.line('autofill 100000 1');
+    const letters = filled.line('show').lines.flatMap((line, row) => line.split(' ').flatMap((letter, column) => (letter === '#' ? [] : [`${row + 1} ${column + 1} ${letter}`])));
+    await openRecord(`# xw session 1\n# pencil ${letters.map((cell) => cell.slice(0, -2)).join(', ')}\n${[...blocks, ...letters.map((cell) => `set ${cell}`)].join('\n')}\n`);
     const before = await page.rows();
     await browser.click('#cell-2-1');
     if (await page.has('2-1', 'down')) await browser.press('Enter');
@@ -265,7 +268,6 @@ export const CASES = {
     const isOther = ([, name]) => /needs/.test(name);
     expect(!shown.some(([word]) => word === before[1]), 'the word that stands is among its alternatives');
     // each is as the engine says of the grid without the light, and then without what is in pencil
-    const blocks = ['size 5 5', ...[[1, 1], [1, 5], [5, 1], [5, 5]].map((cell) => `block ${cell.join(' ')}`)];
     const grid = (isStanding) => [...blocks, ...before.flatMap((row, at) => [...row].flatMap((letter, column) => (letter !== '#' && at !== 1 && isStanding(column) ? [`set ${at + 1} ${column + 1} ${letter}`] : [])))];
     const over = (isStanding) => Xw.open(module, { list: LIST, record: `${grid(isStanding).join('\n')}\n` });
     const wordsOver = (isStanding) => over(isStanding).line('words 4 across').lines.slice(1);
