@@ -35,6 +35,7 @@ NEEDS = (
     Need("nodejs", "node", "library page dist"),
     Need("npm", "npm", "library"),
     Need("pkg-config", "pkg-config", "library"),
+    Need("python3-distributed", "/usr/lib/python3/dist-packages/distributed", "library"),
     Need("valgrind", "valgrind", "run library"),
     Need("wamerican", "/usr/share/dict/american-english", "library page dist"),
     Need("wamerican-large", "/usr/share/dict/american-english-large", "run"),

@@ -13,6 +13,7 @@ import { fileURLToPath } from 'node:url';
 import { runInNewContext } from 'node:vm';
 import { Slices } from '../../web/dist/slices.js';
 import { Fault, STATUSES, Xw, ask, autofill, best, load, toBytes, toText } from '../../web/dist/xw.js';
+import { Count } from '../../web/test/count.mjs';
 import { exampleOf } from './example.mjs';
 
 const MODULE = new URL('../../web/dist/xw.wasm', import.meta.url);
@@ -425,14 +426,6 @@ const CASES = {
   },
 };
 
-let failed = 0;
-for (const [name, run] of Object.entries(CASES)) {
-  try {
-    await run();
-  } catch (error) {
-    failed++;
-    console.log(`FAILED ${name}: ${error.stack}`);
-  }
-}
-console.log(`${Object.keys(CASES).length - failed} passed, ${failed} failed`);
-process.exitCode = failed ? 1 : 0;
+const count = new Count();
+for (const [name, run] of Object.entries(CASES)) await count.run(name, run, async ({ stack }) => stack);
+count.end();

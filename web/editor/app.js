@@ -1,49 +1,50 @@
 // The page: it joins the views with the session.
-import { AllWords } from './all-words.js';
-import { Claim } from './claim.js';
-import { BankView } from './bank-view.js';
-import { ClueBank } from './clue-bank.js';
-import { askClues } from './clue-preview.js';
-import { CluesView } from './clues.js';
-import { CrossingsView } from './crossings-view.js';
-import { DetailsView } from './details.js';
-import { askDialog, openDialog } from './dialogs.js';
-import { Editor } from './editor.js';
-import { Edits } from './edits.js';
-import { Facts, showFill, showKept } from './facts.js';
-import { Faults } from './faults.js';
-import { Figures } from './figures.js';
-import { Files } from './files.js';
-import { Filler } from './fill.js';
-import { Fills } from './fills.js';
-import { GridView } from './grid.js';
+import { AllWords } from './engine/all-words.js';
+import { Filler } from './engine/fill.js';
+import { Helpers } from './engine/helpers.js';
+import { Reasons } from './engine/reasons.js';
+import { Files } from './formats/files.js';
+import { MovesView } from './grids/moves-view.js';
 import { GridsView } from './grids/view.js';
-import { Helpers } from './helpers.js';
-import { whenIdle } from './idle.js';
-import { ImprovingView } from './improving.js';
-import { Leaving } from './leaving.js';
-import { LibraryView } from './library.js';
-import { ListDialog } from './list-dialog.js';
-import { ListsInUse } from './lists-in-use.js';
-import { leaveDialogsTo, takeActions, takeMenu, takeParts, toNextPane } from './menu.js';
-import { refuse, useMessages } from './messages.js';
-import { NewPuzzle } from './new-puzzle.js';
-import { NextLight } from './next-light.js';
-import { $ } from './page.js';
-import { PrintDialog } from './printing.js';
-import { Reasons } from './reasons.js';
-import { Shelf } from './shelf.js';
-import { speak } from './spoken.js';
+import { Editor } from './model/editor.js';
+import { Faults } from './model/faults.js';
 import { SolveDialog } from './solver/dialog.js';
-import { StandingView } from './standing.js';
 import { embeddedText, start, workers } from './start.js';
-import { StatisticsView } from './statistics-view.js';
-import { Tabs } from './tabs.js';
-import { Tools } from './tools.js';
-import { Typed } from './typed.js';
-import { WarningsView } from './warnings-view.js';
-import { WeakestView } from './weakest.js';
-import { WordsView } from './words.js';
+import { Claim } from './store/claim.js';
+import { ClueBank } from './store/clue-bank.js';
+import { Shelf } from './store/shelf.js';
+import { BankView } from './views/bank-view.js';
+import { askClues } from './views/clue-preview.js';
+import { CluesView } from './views/clues.js';
+import { CrossingsView } from './views/crossings-view.js';
+import { DetailsView } from './views/details.js';
+import { askDialog, openDialog } from './views/dialogs.js';
+import { Edits } from './views/edits.js';
+import { Facts, showFill, showKept } from './views/facts.js';
+import { Figures } from './views/figures.js';
+import { Fills } from './views/fills.js';
+import { GridView } from './views/grid.js';
+import { whenIdle } from './views/idle.js';
+import { ImprovingView } from './views/improving.js';
+import { Leaving } from './views/leaving.js';
+import { LibraryView } from './views/library.js';
+import { ListDialog } from './views/list-dialog.js';
+import { ListsInUse } from './views/lists-in-use.js';
+import { leaveDialogsTo, takeActions, takeMenu, takeParts, toNextPane } from './views/menu.js';
+import { refuse, useMessages } from './views/messages.js';
+import { NewPuzzle } from './views/new-puzzle.js';
+import { NextLight } from './views/next-light.js';
+import { $ } from './views/page.js';
+import { PrintDialog } from './views/printing.js';
+import { speak } from './views/spoken.js';
+import { StandingView } from './views/standing.js';
+import { StatisticsView } from './views/statistics-view.js';
+import { Tabs } from './views/tabs.js';
+import { Tools } from './views/tools.js';
+import { Typed } from './views/typed.js';
+import { WarningsView } from './views/warnings-view.js';
+import { WeakestView } from './views/weakest.js';
+import { WordsView } from './views/words.js';
 
 useMessages({ line: $('status'), toast: $('toast'), history: $('history'), warnings: $('warnings') });
 
@@ -160,11 +161,12 @@ const grids = new GridsView(
     dialog: $('themes-dialog'), entries: $('themes-entries'), seeds: $('themes-seeds'), lengths: $('themes-lengths'), show: $('themes-show'), stop: $('themes-stop'),
     told: $('themes-told'), grids: $('themes-grids'),
     limits: {
-      outlet: $('themes-outlet'), width: $('themes-width'), height: $('themes-height'), sym: $('themes-sym'), table: $('themes-table'), summary: $('themes-summary'), reset: $('themes-reset'),
+      outlet: $('themes-outlet'), width: $('themes-width'), height: $('themes-height'), sym: $('themes-sym'), table: $('themes-table'), rules: $('themes-rules'), summary: $('themes-summary'), reset: $('themes-reset'),
     },
   },
   (record, entries) => puzzles.begin(record, entries).catch(unforeseen),
 );
+const moves = new MovesView(editor, helpers, { dialog: $('moves-dialog'), map: $('moves-map'), told: $('moves-told'), moves: $('moves-list') }, (index) => mayEdit() && grid.toggleBlock(index));
 const figures = new Figures(editor, { box: $('figures'), text: $('figures-text'), worst: $('figures-worst') }, { go: (light) => goTo(light), told: tellScores });
 const weakest = new WeakestView(
   editor,
@@ -307,7 +309,15 @@ const wholly = (action) => async () => {
 const ACTIONS = {
   new: () => openDialog($('new-dialog')),
   library: () => library.show(),
-  themes: () => grids.open(),
+  // these have the workers that raise a fill
+  themes: () => {
+    if (filler.isRaising) filler.stop();
+    grids.open();
+  },
+  moves: () => {
+    if (filler.isRaising) filler.stop();
+    moves.open();
+  },
   open: () => pick('.puz,.ipuz,.jpz,.xml,.exolve,.qxw,.qxd,.txt,.xw,.json,.dict,.csv,.zip,.eml'),
   save: wholly(() => files.saveAny()),
   'save-puz': wholly(() => files.save('puz')),

@@ -2,6 +2,9 @@
 
 declare function cannotRun(why: string): void;
 
+// whether the page has begun
+declare var isRunning: boolean;
+
 declare class DecompressionStream extends TransformStream {
   constructor(format: 'gzip' | 'deflate-raw');
 }

@@ -7,7 +7,7 @@ import { deepStrictEqual } from 'node:assert/strict';
 import { Count } from './count.mjs';
 import { pageModules } from './page-modules.mjs';
 
-const answers = await pageModules('answers');
+const answers = await pageModules('engine/answers');
 const [across, down] = [1, 2, 3, 4].reduce(([one, other], number) => [
   { ...one, [number]: { name: `${number} across`, number: String(number), direction: 'across' } }, { ...other, [number]: { name: `${number} down`, number: String(number), direction: 'down' } },
 ], [{}, {}]);

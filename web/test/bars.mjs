@@ -1,16 +1,16 @@
 // What a setter waits for in the editor, beside the bars that it should reach on an idle machine with four cores or more: how good fills are some seconds
 // after the key, how many new grids around theme entries are judged after some seconds and how good these are, and the time of a letter.
 //
-//   node --experimental-websocket web/test/bars.mjs LIST [--page FILE] [--runs N] [--grids DIR]
+//   node --experimental-websocket web/test/bars.mjs LIST [--page FILE] [--runs N] [--grids DIR] [PART..]
 //
-// LIST is a word list with scores up to 100. The grids are patterns of the page, or with --grids the records DIR/american15.xw, DIR/american15-themeless1.xw and
+// LIST is a word list with scores up to 100. The parts are fills, grids and letters; all by default. The grids are patterns of the page, or with --grids the records DIR/american15.xw, DIR/american15-themeless1.xw and
 // DIR/american21.xw. It needs what page.mjs needs. A row has the seconds since the key, the worst word, the mean, the words under 50, the bound, and the
 // thousands of placements that the workers were asked for: on a busy machine these are fewer. Nothing is tested, since times differ.
 import { mkdtempSync, readFileSync, rmSync, writeFileSync } from 'node:fs';
 import { tmpdir } from 'node:os';
 import { join } from 'node:path';
 import { Xw, load } from '../dist/xw.js';
-import { PATTERNS, recordOf, rowsOf } from '../editor/patterns.js';
+import { PATTERNS, recordOf, rowsOf } from '../editor/grids/patterns.js';
 import { Browser, takeList } from './browser.mjs';
 import { UNLIMITED, fillOf, summary, timeOfLetters } from './time.mjs';
 
@@ -22,19 +22,26 @@ function option(name, other) {
 const page = option('--page', new URL('../dist/xw.html', import.meta.url).pathname);
 const runs = Number(option('--runs', 3));
 const folder = option('--grids', '');
-const [list] = words;
+const [list, ...parts] = words;
+const isAsked = (part) => !parts.length || parts.includes(part);
 
 // each with its pattern, its record, its bar, and the seconds of that
 const GRIDS = [
-  ['American 15 × 15', 'american15', 'worst 70, none under 50', 3],
-  ['Themeless 15 × 15', 'american15-themeless1', 'worst 60', 5],
-  ['American 21 × 21', 'american21', 'worst 60, mean 80', 5],
+  ['American 15 × 15', 'american15', 'worst 74', 5],
+  ['Themeless 15 × 15', 'american15-themeless1', 'worst 64', 5],
+  ['American 21 × 21', 'american21', 'worst 70', 5],
 ];
-// the lengths of theme sets, and the seconds after which their grids are counted
+// the lengths of theme sets, and the seconds after which grids are counted
 const SETS = [
   [14, 12, 12, 14], [10, 13, 13, 10], [15, 15, 15], [10, 14, 14, 10], [12, 11, 11, 12], [11, 15, 11], [9, 13, 9, 13], [8, 15, 8], [15, 13, 15], [13, 9, 9, 13], [11, 10, 9, 10, 11], [13, 11, 11, 13],
 ];
 const GRIDS_AFTER = 15;
+// themeless grids around a seed: the most words, blocks and words of three letters, and the worst word of the best of a dozen that is the bar
+const THEMELESS = [[72, 36, 14, 69], [70, 34, 12, 59], [68, 34, 12, 56]];
+const SEED = [9];
+// the lengths of a theme set of a Sunday, the seconds after which its grids are counted, and those after which the best one is
+const SUNDAY = [21, 17, 17, 15, 15, 13, 13];
+const [SUNDAY_AFTER, SUNDAY_BEST] = [15, 30];
 const TIMES = [1, 2, 3, 4, 5, 6];
 
 const room = mkdtempSync(join(tmpdir(), 'xw-bars-'));
@@ -117,42 +124,70 @@ const field = (id, value) => `{
   field.dispatchEvent(new Event('change', { bubbles: true }));
 }`;
 
-// The judged grids around a theme set after some seconds, within the limits that the page lists for a daily paper: what is said of each.
-async function gridsAround(browser, lengths) {
-  const entries = wordsOfLengths(lengths);
-  await browser.value(`(() => { document.querySelector('[data-do=themes]').click(); ${field('outlet', 'New York Times, daily')} ${field('entries', entries.join('\n'))} })()`);
+// Looks for new grids, and tells what is said of each judged one after each of these times in seconds.
+async function gridsAt(browser, { outlet, entries = [], seeds = [], limits = {} }, times) {
+  const fields = { outlet, entries: entries.join('\n'), seeds: seeds.join('\n'), ...limits };
+  await browser.value(`(() => { document.querySelector('[data-do=themes]').click(); ${Object.entries(fields).map(([id, value]) => field(id, value)).join(' ')} })()`);
   const begin = Date.now();
   await browser.click('#themes-show');
-  while (Date.now() - begin < 1000 * GRIDS_AFTER && (await browser.value("document.getElementById('themes-show').hidden"))) await pause(200);
-  const cards = await browser.value("[...document.querySelectorAll('#themes-grids .pattern:not(:has(.bad)) small')].map(({ textContent }) => textContent)");
-  const told = await browser.value("document.getElementById('themes-told').textContent");
-  console.log(`${lengths.join('/')}: ${cards.length} grids after ${((Date.now() - begin) / 1000).toFixed(1)} s; the best one: ${cards[0]}; ${told}`);
+  const all = [];
+  for (const time of times) {
+    await pause(Math.max(0, begin + 1000 * time - Date.now()));
+    const cards = await browser.value("[...document.querySelectorAll('#themes-grids .pattern:not(:has(.bad)) small')].map(({ textContent }) => textContent)");
+    all.push(cards);
+    const told = await browser.value("document.getElementById('themes-told').textContent");
+    console.log(`${[...entries, ...seeds].map(({ length }) => length).join('/')}: ${cards.length} grids after ${((Date.now() - begin) / 1000).toFixed(1)} s; the best one: ${cards[0]}; ${told}`);
+  }
   await browser.press('Escape');
-  return cards;
+  return all;
 }
 
-// The theme sets, and what the bars are: all sets have a dozen grids, all of which fill, 110 of 144 without a word under 50, and a median worst word of 58.
+const worstOf = (cards) => cards.filter((text) => text.startsWith('it fills')).map((text) => Number(/worst (\d+)/.exec(text)[1])).sort((a, b) => a - b);
+
+// The theme sets: how many have a dozen grids, how many of these fill, and how well.
 async function themed(browser) {
   const all = [];
-  for (const lengths of SETS) all.push(await gridsAround(browser, lengths));
-  const filled = all.flat().filter((text) => text.startsWith('it fills'));
-  const worst = filled.map((text) => Number(/worst (\d+)/.exec(text)[1])).sort((a, b) => a - b);
+  for (const lengths of SETS) all.push(...await gridsAt(browser, { outlet: 'New York Times, daily', entries: wordsOfLengths(lengths) }, [GRIDS_AFTER]));
+  const worst = worstOf(all.flat());
   const dozens = all.filter((cards) => cards.length >= 12).length;
   console.log(`theme sets with a dozen judged grids after ${GRIDS_AFTER} s: ${dozens} of ${SETS.length}   (the bar: all)`);
-  console.log(`of ${all.flat().length} grids ${filled.length} fill, ${worst.filter((score) => score >= 50).length} have no word under 50, the median worst word is ${worst[worst.length >> 1]}   (the bar: all, 110 of 144, 58)`);
+  console.log(`of ${all.flat().length} grids ${worst.length} fill, ${worst.filter((score) => score >= 50).length} have no word under 50, the median worst word is ${worst[worst.length >> 1]}   (the bar: all, 110 of 144, 58)`);
 }
 
-async function fills() {
+async function themeless(browser) {
+  for (const [words, blocks, threes, bar] of THEMELESS) {
+    const [cards] = await gridsAt(browser, { outlet: 'New York Times, themeless', seeds: wordsOfLengths(SEED), limits: { words, blocks, threes } }, [GRIDS_AFTER]);
+    console.log(`themeless of ${words} words, the best of ${cards.length} grids after ${GRIDS_AFTER} s: worst ${worstOf(cards).at(-1)}   (the bar: ${bar})`);
+  }
+}
+
+async function sunday(browser) {
+  const [early, late] = await gridsAt(browser, { outlet: 'New York Times, Sunday', entries: wordsOfLengths(SUNDAY) }, [SUNDAY_AFTER, SUNDAY_BEST]);
+  console.log(`21 × 21 with ${SUNDAY.length} theme entries: ${early.length} grids after ${SUNDAY_AFTER} s   (the bar: 12); worst ${worstOf(late).at(-1)} after ${SUNDAY_BEST} s   (the bar: 45)`);
+}
+
+async function fills(browser) {
+  for (const grid of GRIDS) {
+    for (let run = 1; run <= runs; run++) {
+      await open(browser, grid[1], recordFor(grid));
+      await noted(browser, `${grid[0]}, run ${run}`, grid.slice(2));
+    }
+  }
+}
+
+async function grids(browser) {
+  for (let run = 1; run <= runs; run++) {
+    await themed(browser);
+    await themeless(browser);
+    await sunday(browser);
+  }
+}
+
+async function inPage(action) {
   const browser = await Browser.open();
   try {
     await openPage(browser);
-    for (const grid of GRIDS) {
-      for (let run = 1; run <= runs; run++) {
-        await open(browser, grid[1], recordFor(grid));
-        await noted(browser, `${grid[0]}, run ${run}`, grid.slice(2));
-      }
-    }
-    for (let run = 1; run <= runs; run++) await themed(browser);
+    await action(browser);
   } finally {
     await browser.close();
   }
@@ -176,8 +211,9 @@ async function letters() {
 }
 
 try {
-  await fills();
-  await letters();
+  if (isAsked('fills')) await inPage(fills);
+  if (isAsked('grids')) await inPage(grids);
+  if (isAsked('letters')) await letters();
 } finally {
   rmSync(room, { recursive: true, force: true });
 }

@@ -162,15 +162,12 @@ export async function wantGrids(entries, style, { sym = 'half', size = 15, seeds
   for (const [id, value] of [['entries', entries], ['seeds', seeds], ['width', size], ['height', size], ['sym', sym]]) await setOfGrids(id, String(value));
 }
 
-// Waits until the search for grids is over.
-export const gridsAreShown = () => browser.until("document.querySelector('#themes-grids[aria-busy=false] .pattern')");
-
 // Stops the search for grids, if it is not over.
 export const stopGrids = () => browser.value("document.getElementById('themes-stop').hidden || document.getElementById('themes-stop').click()");
 
-// Waits until so many grids are judged, or the search is over, and stops it.
+// Waits until so many grids are judged, and stops the search.
 export async function gridsAreJudged(enough) {
-  await browser.until(`document.querySelector('#themes-grids[aria-busy=false] .pattern') || [...document.querySelectorAll('#themes-grids .pattern')].filter((card) => !card.querySelector('.bad')).length >= ${enough}`);
+  await browser.until(`[...document.querySelectorAll('#themes-grids .pattern')].filter((card) => !card.querySelector('.bad')).length >= ${enough}`);
   await stopGrids();
 }
 

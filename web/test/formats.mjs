@@ -12,7 +12,7 @@ import { zipOf } from './zip.mjs';
 
 const {
   asVersion13, engineText, escapeText, exolveOf, filesIn, foreignKind, ipuzOf, isZip, kindOf, linksOf, lossesOf, readDeck, readExolve, readIpuz, readList, readQxw, textLines, unzipped, withRebus,
-} = await pageModules('exolve', 'ipuz', 'kinds', 'links', 'losses', 'puz-sections', 'puz-versions', 'qxw', 'record', 'word-list', 'zip');
+} = await pageModules('formats/exolve', 'formats/ipuz', 'formats/kinds', 'model/links', 'formats/losses', 'formats/puz-sections', 'formats/puz-versions', 'formats/qxw', 'model/record', 'formats/word-list', 'formats/zip');
 
 const statusOf = (bytes) => {
   try {

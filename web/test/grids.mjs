@@ -9,8 +9,8 @@ import { Xw, load } from '../dist/xw.js';
 import { Count } from './count.mjs';
 import { pageModules } from './page-modules.mjs';
 
-const { Making, OUTLETS, PATTERNS, Search, Turns, checkWanted, gridFrom, limitsAt, mostUnchecked, recordOf, recordOfGrid, rowsOf } = await pageModules(
-  'grids/making', 'grids/british', 'grids/search', 'grids/outlets', 'grids/grid', 'grids/symmetry', 'grids/barred', 'patterns',
+const { Making, OUTLETS, PATTERNS, Search, Turns, checkWanted, gridFrom, limitsAt, mostUnchecked, movesIn, recordOf, recordOfGrid, rowsOf } = await pageModules(
+  'grids/making', 'grids/moves', 'grids/british', 'grids/search', 'grids/outlets', 'grids/grid', 'grids/symmetry', 'grids/barred', 'grids/patterns',
 );
 const SYMMETRIES = ['half', 'quarter', 'leftright', 'updown', 'none'];
 const module = await load(readFileSync(new URL('../dist/xw.wasm', import.meta.url)));
@@ -78,6 +78,32 @@ function makerOf(wanted) {
   if (wanted.style !== 'american') return () => gridFrom(wanted, ++seed);
   const search = new Search(wanted, { count: () => 1000 }, 1);
   return () => search.next();
+}
+
+// A board by its rows: a dot is an empty cell.
+function boardOf(rows) {
+  const [height, width] = [rows.length, rows[0].length];
+  const isShut = (row, column) => (rows[row]?.[column] ?? '#') === '#';
+  const cells = rows.flatMap((text, row) => [...text].map((sign, column) => ({
+    coordinates: `${row + 1} ${column + 1}`, block: sign === '#', letter: /[A-Z]/.test(sign) ? sign : '', right: false, below: false,
+    across: isShut(row, column - 1) && isShut(row, column + 1) ? null : {}, down: isShut(row - 1, column) && isShut(row + 1, column) ? null : {},
+  })));
+  return { width, height, cells };
+}
+
+const withBlocks = (rows, shut) => rows.map((text, row) => [...text].map((sign, column) => (shut.includes(row * text.length + column) ? '#' : sign)).join(''));
+
+// Whether rows have no word of two letters, no cell that is in one word only unless they are a lattice, and are one part.
+function isUsual(rows, isLattice) {
+  const columns = [...rows[0]].map((_, at) => rows.map((row) => row[at]).join(''));
+  const runs = [...rows, ...columns].flatMap((line) => line.split('#').filter(Boolean));
+  if (runs.some(({ length }) => length === 2 || (length === 1 && !isLattice))) return false;
+  const reached = new Set([rows.findIndex((row) => row.includes('.'))].map((row) => `${row} ${rows[row].indexOf('.')}`));
+  for (const one of reached) {
+    const [row, column] = one.split(' ').map(Number);
+    for (const [r, c] of [[row - 1, column], [row + 1, column], [row, column - 1], [row, column + 1]]) if (rows[r]?.[c] === '.') reached.add(`${r} ${c}`);
+  }
+  return reached.size === rows.join('').replace(/#/g, '').length;
 }
 
 // Why there can be no such grid; or ''.
@@ -176,6 +202,9 @@ const CASES = {
     // an entry is none of the words that a fill enters
     const around = making.fill({ lines: ['size 2 2', 'set 1 1 A', 'set 1 2 B'], placements: 100, isScored: true });
     expect(around.answer === 'filled' && [...around.scores].sort().join() === '60,70,80', `of a fill around AB it is said: ${JSON.stringify(around)}`);
+    // AC and CD fill it without the other two, if they may stand twice, as feasible words may; without AC there is no fill
+    expect(making.bound({ lines: ['size 2 2'] }).bound === 71, `no fill is said to be at ${making.bound({ lines: ['size 2 2'] }).bound}`);
+    expect(making.bound({ lines: ['size 2 2', 'set 2 2 X'] }).bound === 0, 'a dead grid has a bound');
     const dead = making.look({ lines: ['size 2 2', 'set 2 2 X'] });
     expect(dead.unmatched.join() === '.X,.X' && dead.fewest === 0 && [...new Set(dead.dead)].sort().join() === '1 2,2 1,2 2', `of a dead grid it is said: ${JSON.stringify(dead)}`);
     expect(making.fill({ lines: ['size 2 2', 'set 2 2 X'], placements: 100, isScored: true }).answer === 'nofill', 'a dead grid fills');
@@ -183,6 +212,31 @@ const CASES = {
     expect(making.begin({ wanted: { entries: [], seeds: [], width: 9, height: 9, style: 'american', sym: 'half', limits: limitsAt(DAILY, 9, 9) }, seed: 1, weak: 0 }), 'there is no empty placing');
     const [first, second] = [0, 0].map((milliseconds) => making.more({ milliseconds }));
     expect(first.tried === 1 && second.tried === 2 && !second.grids.length && second.faults.get('dead') === 2, `of 2 boards without words it is said: ${[...second.faults].join('; ')}`);
+  },
+
+  'cells that could be blocks'() {
+    const american = ['...#...', '...#...', '.......', '##...##', '.......', '...#...', '...#...'];
+    const lattice = ['.......', '.#.#.#.', '.......', '.#.#.#.', '.......', '.#.#.#.', '.......'];
+    const open = Array.from({ length: 7 }, () => '.......');
+    const wide = Array.from({ length: 6 }, () => '.........');
+    for (const [rows, isBritish] of [[american, false], [lattice, true], [open, false], [wide, false]]) {
+      for (const sym of SYMMETRIES.filter((one) => one !== 'quarter' || rows.length === rows[0].length)) {
+        const told = movesIn(boardOf(rows), sym, new Set(['1 1'])).map((orbit) => orbit.join());
+        const turns = new Turns(sym, rows[0].length, rows.length);
+        const due = [...rows.join('')].flatMap((_, index) => {
+          const orbit = turns.orbit(index);
+          const isOpen = Math.min(...orbit) === index && orbit.every((one) => rows.join('')[one] === '.');
+          return isOpen && isUsual(withBlocks(rows, orbit), isBritish) ? [orbit.join()] : [];
+        });
+        expect(told.sort().join(';') === due.sort().join(';'), `${sym}, ${rows.join(' ')}: ${told.join(';')}, and not ${due.join(';')}`);
+      }
+    }
+    // letters stay, but for those in pencil
+    expect(!movesIn(boardOf(['A..', '...', '...']), 'none', new Set()).some((orbit) => orbit.includes(0)), 'a locked letter goes');
+    expect(movesIn(boardOf(['A..', '...', '...']), 'none', new Set(['1 1'])).length === 0, 'a light of two letters is left');
+    expect(movesIn(boardOf(['A...', '....', '....', '....']), 'none', new Set(['1 1'])).some((orbit) => orbit.includes(0)), 'a letter in pencil stays');
+    const barred = boardOf(open);
+    expect(!movesIn({ ...barred, cells: barred.cells.map((cell, at) => ({ ...cell, right: at === 9 })) }, 'none', new Set()).length, 'a grid with bars has blocks');
   },
 
   'entries that cannot stand'() {

@@ -8,7 +8,7 @@ import { mkdtempSync, readFileSync, rmSync, writeFileSync } from 'node:fs';
 import { tmpdir } from 'node:os';
 import { join } from 'node:path';
 import { Xw, load } from '../dist/xw.js';
-import { PATTERNS, recordOf, rowsOf } from '../editor/patterns.js';
+import { PATTERNS, recordOf, rowsOf } from '../editor/grids/patterns.js';
 import { Browser, takeList } from './browser.mjs';
 import { UNLIMITED, fillOf, largeList, summary, timeOfLetters } from './time.mjs';
 

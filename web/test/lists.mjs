@@ -9,7 +9,7 @@ import { pageModules } from './page-modules.mjs';
 
 const {
   Lists, OWN, faultOf, fieldsOf, formOf, joinLists, linesOf, linesOfList, lookAt, previewText, readList, readOwn, readSource, rescore, rescoredText, withColumn,
-} = await pageModules('joined-lists', 'list-form', 'list-preview', 'lists', 'rescoring', 'word-list');
+} = await pageModules('formats/joined-lists', 'formats/list-form', 'formats/list-preview', 'store/lists', 'formats/rescoring', 'formats/word-list');
 
 const bytes = (text) => new Uint8Array(Buffer.from(text));
 const form = (separator, word, score, scale = 100) => ({ separator, word, score, scale });

@@ -8,7 +8,7 @@ import { pageModules } from './page-modules.mjs';
 import { puzOf } from './puz.mjs';
 import { zipOf } from './zip.mjs';
 
-const { attachedTo, isMeant, kindOf, unpacked } = await pageModules('kinds', 'mail', 'packed');
+const { attachedTo, isMeant, kindOf, unpacked } = await pageModules('formats/kinds', 'formats/mail', 'formats/packed');
 
 const PUZ = puzOf({ version: '1.3\0', width: 2, height: 1, solution: 'AB', texts: ['', '', '', 'Clue', ''].map((one) => Buffer.from(one)) });
 const EXOLVE = 'exolve-begin\n  exolve-width: 1\nexolve-end\n';

@@ -8,7 +8,7 @@ import { Count } from './count.mjs';
 import { pageModules } from './page-modules.mjs';
 
 const { GradedCounts, OUTLETS, PATTERNS, Pool, Search, WordCounts, checkWanted, limitsAt, narrowest, rowsOf, wholeLimits } = await pageModules(
-  'grids/search', 'grids/counts', 'grids/outlets', 'grids/pool', 'grids/grid', 'grids/passage', 'patterns',
+  'grids/search', 'grids/counts', 'grids/outlets', 'grids/pool', 'grids/grid', 'grids/passage', 'grids/patterns',
 );
 const LIST = readFileSync('/usr/share/dict/american-english', 'latin1').split('\n').filter((word) => /^[a-z]{3,}$/.test(word)).map((word) => word.toUpperCase());
 const counts = new GradedCounts(LIST, () => true);
@@ -296,7 +296,7 @@ const CASES = {
     pool.add([grid(3, ...twelve), grid(1, ...near), grid(2, ...others)]);
     expect(pool.take(5).map(({ cost }) => cost).join() === '1', 'the cheapest is taken, and both others are like it');
     pool.add([grid(0, ...others, 20)]);
-    expect(pool.size === 3 && pool.take(1).map(({ cost }) => cost).join() === '', 'the new one is like the one that is taken');
+    expect(pool.size === 1 && pool.take(1).map(({ cost }) => cost).join() === '' && pool.size === 0, 'those that are like the one that is taken stay');
     pool.add([grid(5, 30, 31, 32, 33, 34, 35), grid(4, 40, 41, 42, 43, 44, 45)]);
     expect(pool.take(1).map(({ cost }) => cost).join() === '4' && pool.take(1).map(({ cost }) => cost).join() === '5', 'one is taken at a time, the cheapest first');
   },

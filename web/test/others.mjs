@@ -11,7 +11,7 @@ import { pageModules } from './page-modules.mjs';
 import { boardsOf } from './rows.mjs';
 
 const { Board, Dropped, OUTLETS, PATTERNS, Solving, addedComments, changeBeside, commentField, commentsIn, gridFigures, headLines, judgedBy, judgedByAll, lawfulBeside, letterFigures, linksOf, lossesOf, manuscriptRows, numbersOf, rowsOf, rowsOfFigures, solverPage, solverPuzzle, verdictOf, whyUnsolvable, withComment, withoutComment } = await pageModules(
-  'beside', 'board', 'changed', 'comments', 'dropped', 'grids/outlets', 'links', 'losses', 'manuscript', 'patterns', 'solver/puzzle', 'solver/solving', 'statistics',
+  'model/beside', 'model/board', 'model/changed', 'model/comments', 'formats/dropped', 'grids/outlets', 'model/links', 'formats/losses', 'formats/manuscript', 'grids/patterns', 'solver/puzzle', 'solver/solving', 'model/statistics',
 );
 // the board of the search for grids, which counts in its own way
 const { Board: Blocks, Cost, Frame, wholeLimits } = await pageModules('grids/board', 'grids/cost', 'grids/frame', 'grids/outlets');
@@ -60,7 +60,7 @@ const CASES = {
   'the figures of a grid are those of the search for grids'() {
     const names = ['words', 'blocks', 'threes', 'cheaters', 'lumps'];
     const grids = PATTERNS.filter(({ name }) => /American|Themeless|Small/.test(name)).map((pattern) => rowsOf(pattern));
-    same(grids.length, 7);
+    same(grids.length, 9);
     for (const rows of [...grids, ['##...', '##...', '.....', '...##', '...##'], ['####...', '####...', '.......', '.......', '.......', '...####', '...####']]) {
       const [width, height] = [rows[0].length, rows.length];
       const frame = new Frame(width, height, 'none');

@@ -14,7 +14,7 @@ Object.assign(globalThis, { navigator: globalThis.navigator ?? { platform: '' },
 
 const {
   Board, Filler, Lists, MOST_IDLE, Mender, Race, Raiser, gradeFrom, holderText, offerText, partAround, partsAround, progressText, timeText, useMessages, weakestOf,
-} = await pageModules('race', 'raising', 'improving', 'grades', 'lists', 'board', 'mending', 'weak-words', 'fill', 'messages');
+} = await pageModules('engine/race', 'engine/raising', 'views/improving', 'model/grades', 'store/lists', 'model/board', 'engine/mending', 'model/weak-words', 'engine/fill', 'views/messages');
 
 // An element that takes what a message does to it.
 function element() {

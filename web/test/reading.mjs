@@ -4,7 +4,7 @@ import { Xw, load, toText } from '../dist/xw.js';
 import { pageModules } from './page-modules.mjs';
 
 const { Board, asVersion13, droppedOfPuz, entryOf, keptRebus, lights, originalsOf, rebusOf, unescapeText } = await pageModules(
-  'answers', 'board', 'dropped', 'puz-sections', 'puz-versions', 'rebus', 'record',
+  'engine/answers', 'model/board', 'formats/dropped', 'formats/puz-sections', 'formats/puz-versions', 'model/rebus', 'model/record',
 );
 export const module = await load(readFileSync(new URL('../dist/xw.wasm', import.meta.url)));
 
@@ -25,8 +25,7 @@ function lightsIn(xw) {
 // The board that the engine has, and the texts of it as the page shows them.
 function boardOf(xw, originals = []) {
   const lines = (line) => xw.line(line).lines;
-  const board = new Board();
-  board.takeWhole({ show: lines('show'), lights: lines('lights'), cells: lines('cells'), counts: [], circles: lines('circles'), texts: lines('texts') });
+  const board = Board.of({ show: lines('show'), lights: lines('lights'), cells: lines('cells'), counts: [], circles: lines('circles'), texts: lines('texts') });
   const kept = new Map(originals);
   const textOf = (field) => kept.get(field.startsWith('clue ') ? board.clueField(board.byName.get(field.slice(5))) : field) ?? unescapeText(board.texts.get(field) ?? '');
   return { board, textOf, entries: (cell) => entryOf(cell, kept) };

@@ -5,7 +5,7 @@ import { readFileSync } from 'node:fs';
 import { Xw, load, toBytes, toText } from '../dist/xw.js';
 import { pageModules } from './page-modules.mjs';
 
-const { bodyOf, escapeText, parseRecord, textLines, transition, unescapeText } = await pageModules('record');
+const { bodyOf, escapeText, parseRecord, textLines, transition, unescapeText } = await pageModules('model/record');
 
 const LIST = 'cat\ncot\ncut\near\noar\ntea\ntoe\nare\ntar\nate\ntone\nrote\n';
 const LIST_WORDS = LIST.trim().split('\n');

@@ -8,7 +8,7 @@ import { lockedPuzOf, puzOf } from './puz.mjs';
 import { expect, openedOf, refused, same } from './reading.mjs';
 
 const { closedJson, closedXml, readExolve, readIpuz, readPuz, readQxw, readText, readText2, solutionBy, withoutLetters } = await pageModules(
-  'cut', 'exolve', 'ipuz', 'puz', 'qxw', 'text-grids', 'unscramble',
+  'formats/cut', 'formats/exolve', 'formats/ipuz', 'formats/puz', 'formats/qxw', 'formats/text-grids', 'formats/unscramble',
 );
 
 const bytesOf = (...texts) => texts.map((text) => Buffer.from(text, 'latin1'));

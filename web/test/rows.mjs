@@ -6,7 +6,7 @@ export const boardsOf = (Board) => (...rows) => {
   const cells = [...all].map((letter, at) => ({
     coordinates: `${Math.floor(at / width) + 1} ${(at % width) + 1}`, letter: /[A-Z]/.test(letter) ? letter : '', block: letter === '#', across: null, down: null,
   }));
-  const board = Object.assign(new Board(), { width, height: rows.length, cells });
+  const lights = [];
   const isOpen = (at) => all[at] !== undefined && all[at] !== '#';
   const nextIn = { across: (at) => ((at + 1) % width ? at + 1 : -1), down: (at) => at + width };
   const lastIn = { across: (at) => (at % width ? at - 1 : -1), down: (at) => at - width };
@@ -17,12 +17,11 @@ export const boardsOf = (Board) => (...rows) => {
     for (const direction of begun) {
       const own = [];
       for (let at = first; isOpen(at); at = nextIn[direction](at)) own.push(at);
-      const light = { name: `${number} ${direction}`, number: String(number), direction, cells: own, count: 1 };
-      board.lights.push(light);
-      board.byName.set(light.name, light);
+      const light = { name: `${number} ${direction}`, number: String(number), direction, cells: own };
+      lights.push(light);
       cells[first].number = light.number;
       for (const at of own) cells[at][direction] = light;
     }
   }
-  return board;
+  return new Board({ width, height: rows.length, cells, lights, counts: lights.map(() => 1), texts: new Map() });
 };

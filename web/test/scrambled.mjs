@@ -7,7 +7,7 @@ import { Count } from './count.mjs';
 import { pageModules } from './page-modules.mjs';
 import { lockedPuzOf, puzOf, scrambledBy } from './puz.mjs';
 
-const { isScrambled, keysOf, solutionBy, solutionOf, withoutLetters, wordsIn } = await pageModules('locked', 'unscramble');
+const { isScrambled, keysOf, solutionBy, solutionOf, withoutLetters, wordsIn } = await pageModules('views/locked', 'formats/unscramble');
 
 const textsOf = (count) => Array.from({ length: count + 4 }, () => Buffer.from(''));
 const spelled = (solution) => solution && Buffer.from(solution).toString('latin1');

@@ -1,20 +1,21 @@
-// Pictures of each screen of the editor with a puzzle in work, at four sizes, in light, dark and forced colours, to look at.
+// Pictures of each screen of the editor with a puzzle in work, at five sizes, in light, dark and forced colours, to look at.
 //
-//   node --experimental-websocket web/test/screens.mjs DIR [SIZE..]
+//   node --experimental-websocket web/test/screens.mjs DIR [SIZE..] [SCREEN..]
 //
-// It needs what page.mjs needs. A SIZE is the width of a window, such as 360. The pictures are DIR/WIDTH-COLOURS-SCREEN.png.
+// It needs what page.mjs needs. A SIZE is the width of a window, such as 360, and a SCREEN one of the names below; all by default. The pictures are DIR/WIDTH-COLOURS-SCREEN.png.
 import { mkdirSync, mkdtempSync, rmSync, writeFileSync } from 'node:fs';
 import { tmpdir } from 'node:os';
 import { join } from 'node:path';
 import { Browser, takeList } from './browser.mjs';
 import { puzOf } from './puz.mjs';
 
-const SIZES = [[360, 740], [768, 1024], [1280, 800], [1920, 1080]];
+const SIZES = [[360, 740], [390, 844], [768, 1024], [1280, 800], [1920, 1080]];
 const COLOURS = [['light', 'none'], ['dark', 'none'], ['light', 'active']];
 
 const [folder, ...chosen] = process.argv.slice(2);
 mkdirSync(folder, { recursive: true });
 const room = mkdtempSync(join(tmpdir(), 'xw-screens-'));
+const [sizes, names] = [chosen.filter((one) => /^\d+$/.test(one)), chosen.filter((one) => !/^\d+$/.test(one))];
 const browser = await Browser.open();
 const $ = (id) => `document.getElementById('${id}')`;
 
@@ -27,10 +28,20 @@ const SCREENS = {
   menu: () => browser.value(`${$('tab-words')}.click(), ${$('file')}.click()`),
   tools: () => browser.value(`${$('more')}.click(), document.querySelector('[data-tool=colour]').click()`),
   new: () => menu('new'),
+  stock: async () => {
+    await menu('new');
+    await browser.value(`${$('stock')}.open = true, ${$('stock-themes')}.value = '15, 15, 15'`);
+    await browser.until("document.querySelector('#stock-patterns .pattern')");
+    await browser.value(`${$('stock-themes')}.dispatchEvent(new Event('input')), ${$('stock')}.scrollIntoView()`);
+  },
   themes: async () => {
     await menu('themes');
     await browser.value(`${$('themes-entries')}.value = 'CONSTELLATION\\nINTERSTELLARS', ${$('themes-limits')}.open = true, ${$('themes-show')}.click()`);
     await browser.until("document.querySelectorAll('#themes-grids .pattern').length > 2");
+  },
+  moves: async () => {
+    await menu('moves');
+    await browser.until("document.querySelector('#moves-list .pattern')");
   },
   library: () => menu('library'),
   outlets: async () => {
@@ -92,7 +103,7 @@ async function show(width, height, [scheme, forced]) {
   await browser.send('Emulation.setDeviceMetricsOverride', { width, height, deviceScaleFactor: 1, mobile: width < 700 });
   await browser.send('Emulation.setTouchEmulationEnabled', { enabled: width < 700 });
   await browser.send('Emulation.setEmulatedMedia', { features: [{ name: 'prefers-color-scheme', value: scheme }, { name: 'forced-colors', value: forced }] });
-  for (const [name, open] of Object.entries(SCREENS)) {
+  for (const [name, open] of Object.entries(SCREENS).filter(([one]) => !names.length || names.includes(one))) {
     await open();
     await browser.value('new Promise((resolve) => setTimeout(resolve, 300))');
     writeFileSync(join(folder, `${width}-${forced === 'active' ? 'forced' : scheme}-${name}.png`), await browser.picture());
@@ -106,7 +117,7 @@ try {
   await browser.go(new URL('../dist/xw.html', import.meta.url).href);
   await browser.until("/words$/.test(document.getElementById('facts').textContent)");
   await begin();
-  for (const [width, height] of SIZES.filter(([one]) => !chosen.length || chosen.includes(String(one)))) for (const colours of COLOURS) await show(width, height, colours);
+  for (const [width, height] of SIZES.filter(([one]) => !sizes.length || sizes.includes(String(one)))) for (const colours of COLOURS) await show(width, height, colours);
 } finally {
   await browser.close();
   rmSync(room, { recursive: true, force: true });

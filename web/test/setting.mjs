@@ -11,9 +11,9 @@ const {
   anagramsOf, brightened, PLAIN, changeBeside, closeWords, clueWords, colourIn, engineText, enumerationsOf, exolveOf, hasItalics, hiddenIn, isLanguage, isReference, joinPersonal, languagesFor, lengthsOfSpelling, linksOf,
   namedLights, nearDeadEnd,
   numbersOf, partedBy, partsOfText, readExolve, referenceTo, spelledLights, spelledLink, spokenOf, toggledItalics, withScores, withoutItalics,
-} = await pageModules('changed', 'clue-words', 'colours', 'cryptic', 'enumeration', 'exolve', 'kin', 'language', 'links', 'marks', 'near', 'record', 'spoken', 'word-list');
+} = await pageModules('model/changed', 'model/clue-words', 'model/colours', 'model/cryptic', 'model/enumeration', 'formats/exolve', 'model/kin', 'model/language', 'model/links', 'model/marks', 'model/near', 'model/record', 'views/spoken', 'formats/word-list');
 
-const light = (number, direction, cells) => ({ name: `${number} ${direction}`, number: String(number), direction, cells, count: 1 });
+const light = (number, direction, cells) => ({ name: `${number} ${direction}`, number: String(number), direction, cells });
 
 // A board of so many lights, each in a row or a column of its own.
 function boardOf(lights) {
@@ -172,8 +172,8 @@ const CASES = {
 
   'what is near a dead end'() {
     const cells = Array.from({ length: 9 }, () => ({ letter: '', left: '' }));
-    const lights = [light(1, 'across', [0, 1, 2]), light(2, 'across', [3, 4, 5]), light(3, 'across', [6, 7, 8])].map((one) => ({ ...one, count: 0 }));
-    const board = { cells, lights, byName: new Map(lights.map((one) => [one.name, one])), isEntered: ({ cells: own }) => own.every((cell) => cells[cell].letter), through: (cell) => [lights[Math.floor(cell / 3)]] };
+    const lights = [light(1, 'across', [0, 1, 2]), light(2, 'across', [3, 4, 5]), light(3, 'across', [6, 7, 8])];
+    const board = { countOf: () => 0, cells, lights, byName: new Map(lights.map((one) => [one.name, one])), isEntered: ({ cells: own }) => own.every((cell) => cells[cell].letter), through: (cell) => [lights[Math.floor(cell / 3)]] };
     const none = { cells: new Set(), light: '' };
     cells.forEach((cell, at) => Object.assign(cell, { across: lights[Math.floor(at / 3)], down: null }));
     same(nearDeadEnd({ board, reason: none, edited: null }), null);

@@ -6,8 +6,9 @@
 import { deepStrictEqual } from 'node:assert/strict';
 import { Count } from './count.mjs';
 import { pageModules } from './page-modules.mjs';
+import { boardsOf } from './rows.mjs';
 
-const { EditorState, changedBy, differenceOf, keptSteps, only, packedHistory } = await pageModules('history', 'state');
+const { Board, EditorState, changedBy, differenceOf, keptSteps, only, packedHistory } = await pageModules('model/board', 'store/history', 'model/state');
 
 // A state, and what it tells of some parts: what changed, and what was there before.
 function listening(...names) {
@@ -54,6 +55,20 @@ const CASES = {
     state.change({ cursor: 5, direction: 'down' });
     deepStrictEqual([state.cursor, state.direction], [5, 'down']);
     deepStrictEqual(told, [[{ cursor: 5, direction: 'down' }, { cursor: 0, direction: 'across' }]]);
+  },
+
+  'letters are told with the board that was there before'() {
+    const { state, told } = listening('letters', 'board');
+    const board = boardsOf(Board)('C.T', '.#.');
+    state.change({ board });
+    state.holdLetters(board.withLetters(new Map([[1, 'A']]), new Map([[3, 'XY']]), [7, 8]));
+    state.holdLetters(state.board.withLetters(new Map([[0, '']])));
+    state.change({ letters: { cells: new Set([0, 1, 3]), engine: 1 } });
+    const [{ letters, ...others }, { board: before }] = told[1];
+    deepStrictEqual([others, before === board, board.spell(board.lights[0]), board.cells[3].left], [{}, true, 'C.T', undefined]);
+    deepStrictEqual([state.board.spell(board.lights[0]), state.board.cells[3].left, state.board.lights.map((light) => state.board.countOf(light))], ['.AT', 'XY', [7, 8, 0]]);
+    // what did not change is the same
+    deepStrictEqual([state.board.cells[2] === board.cells[2], state.board.lights === board.lights], [true, true]);
   },
 
   'only those are told who named a part'() {

@@ -11,7 +11,7 @@ import { Count } from './count.mjs';
 import { pageModules } from './page-modules.mjs';
 import { zipOf } from './zip.mjs';
 
-const { Dropped, filesIn, lawfulBeside, puzzlesIn, unzipped } = await pageModules('beside', 'dropped', 'puzzles-file', 'zip');
+const { Dropped, filesIn, lawfulBeside, puzzlesIn, unzipped } = await pageModules('model/beside', 'formats/dropped', 'formats/puzzles-file', 'formats/zip');
 const WEB = new URL('../', import.meta.url);
 
 // The ways in which a text becomes markup or code.
@@ -41,8 +41,8 @@ function hashesOf(page, name) {
 
 const CASES = {
   'no script makes markup of a text'() {
-    const folders = ['', 'editor/', 'editor/grids/', 'editor/solver/'].map((folder) => new URL(folder, WEB));
-    const files = folders.flatMap((folder) => readdirSync(folder).filter((name) => /\.(js|html)$|^make-page$/.test(name)).map((name) => new URL(name, folder)));
+    const names = [...readdirSync(WEB), ...readdirSync(new URL('editor/', WEB), { recursive: true }).map((name) => `editor/${name}`)];
+    const files = names.filter((name) => /\.(js|html)$|^make-page$/.test(name)).map((name) => new URL(name, WEB));
     const found = files.flatMap((file) => readFileSync(file, 'utf8').split('\n').map((line, at) => ({ file, line, at })).filter(({ line }) => WAYS.test(line)));
     same(found.map(({ file, at, line }) => `${file.pathname.replace(WEB.pathname, '')}:${at + 1}: ${line.trim()}`), []);
     same(files.length > 80 && files.some(({ pathname }) => pathname.endsWith('print.js')), true);

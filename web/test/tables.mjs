@@ -9,7 +9,7 @@ import { pageModules } from './page-modules.mjs';
 import { textsFrom } from './texts.mjs';
 
 const { bankTable, clueChanges, clueTable, cluesIn, countOf, csvOf, foundText, historyOf, kindOf, oldest, readBankTable, readClueTable, rowsOf, usesText } = await pageModules(
-  'bank-table', 'clue-bank', 'clue-preview', 'clue-table', 'csv', 'keep', 'kinds', 'old-clues',
+  'formats/bank-table', 'store/clue-bank', 'views/clue-preview', 'formats/clue-table', 'formats/csv', 'store/keep', 'formats/kinds', 'views/old-clues',
 );
 
 const MARK = '\ufeff';

@@ -1,7 +1,7 @@
 // Barred grids by the usual British rules: no light under four letters, or three where it cannot be helped; every cell is in a light; a light of
 // N letters has at most N / 2 - 1 unchecked ones, rounded down, and no two of them side by side; all cells connect. The bars are found by
 // toggling them at random, with their images, and keeping what lowers a cost.
-import { randoms } from '../random.js';
+import { randoms } from '../model/random.js';
 
 const STEPS = 14000;
 // the heat at the beginning and at the end: a change that costs as much more is kept once in 2.7 times

@@ -1,5 +1,5 @@
 // British grids around theme entries or without any: lattices with blocks, and barred grids. A seed makes each grid, or none.
-import { randoms, shuffled } from '../random.js';
+import { randoms, shuffled } from '../model/random.js';
 import { barredGrid, edgeAfter } from './barred.js';
 import { crossingPatterns, threesOf } from './grid.js';
 import { Lattice } from './lattice.js';

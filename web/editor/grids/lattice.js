@@ -1,5 +1,5 @@
 // British lattices by the usual rules, around entries that have their places: they have blocks in every other cell of every other row.
-import { shuffled } from '../random.js';
+import { shuffled } from '../model/random.js';
 
 // the most cells of a light that is no theme entry, and the most blocks, as a part of the cells
 const LONGEST_LIGHT = 10;

@@ -1,5 +1,5 @@
 // What a new grid is for, its size and symmetry, and its limits in a table, which a setter can change: the browser keeps what is changed for an outlet.
-import { keepLimits, keptLimits } from '../keep.js';
+import { keepLimits, keptLimits } from '../store/keep.js';
 import { LIMITS, OUTLETS, changedName, limitsFor, wholeLimits } from './outlets.js';
 
 /** @typedef {import('./outlets.js').Limit} Limit */
@@ -7,6 +7,12 @@ import { LIMITS, OUTLETS, changedName, limitsFor, wholeLimits } from './outlets.
 const NAMES = /** @type {Limit[]} */ (Object.keys(LIMITS));
 // what the groups of outlets are called
 const STYLES = { american: 'American', british: 'British lattices', barred: 'Barred grids' };
+// the rules that all grids of a style keep
+const RULES = {
+  american: 'Each letter is in two words, no word has two letters, and two cells or more join any two larger parts.',
+  british: 'No light has two letters, and all cells connect. Half of the letters of a light are checked, but for one if their number is odd, and no three unchecked ones stand side by side.',
+  barred: 'A light of four or five letters has one unchecked letter at most, one of six or seven two, and so on. No two unchecked ones stand side by side.',
+};
 
 export class LimitsView {
   #elements;
@@ -15,7 +21,7 @@ export class LimitsView {
   /** @type {Map<Limit, HTMLInputElement>} */
   #fields = new Map();
 
-  // `elements`: `outlet`, `width`, `height`, `sym`, `table`, `summary`, `reset`.
+  // `elements`: `outlet`, `width`, `height`, `sym`, `table`, `rules`, `summary`, `reset`.
   constructor(elements) {
     this.#elements = elements;
     elements.outlet.append(...Object.keys(STYLES).map(groupOf));
@@ -93,6 +99,7 @@ export class LimitsView {
       row.lastElementChild.textContent = source;
     }
     this.#elements.reset.disabled = !Object.keys(this.#changed[this.#key] ?? {}).length;
+    this.#elements.rules.textContent = `All grids: ${RULES[outlet.style]}`;
     this.#elements.summary.textContent = this.#summary(outlet, width === outlet.width && height === outlet.height);
   }
 

@@ -1,5 +1,5 @@
 // What a worker does for new grids: it searches for them, and has its engine judge them.
-import * as answers from '../answers.js';
+import * as answers from '../engine/answers.js';
 import { BritishSearch } from './british.js';
 import { GradedCounts } from './counts.js';
 import { Search } from './search.js';
@@ -55,6 +55,13 @@ export class Making {
     const dead = lights.filter(({ name }) => isDead.has(name)).flatMap(answers.cellsOf).map(({ coordinates }) => coordinates);
     const logs = open.reduce((sum, count) => sum + Math.log(count + 0.01), 0) / Math.max(1, open.length);
     return { unmatched: unmatched.map(({ pattern }) => pattern), dead, fewest: Math.min(...open), logs };
+  }
+
+  // The least grade at which a grid is proved to have no fill, 0 if it has none at all, and how many words its lights have.
+  bound({ lines }) {
+    const { unmatched, logs } = this.look({ lines });
+    const bound = answers.outcomeOf(this.#ask('best 0')).bound ?? 0;
+    return { bound: unmatched.length ? 0 : bound, logs };
   }
 
   // How well a short search fills a grid: how it ends, and the scores of the words that it enters. Without scores no fill is better than another.

@@ -29,11 +29,12 @@ export const LIMITS = {
 const DAILY = { words: 78, blocks: 38, threes: 20, longest: 10, cheaters: 4, lumps: 0, gap: 1 };
 const THEMELESS = { ...DAILY, words: 72, blocks: 36, threes: 14, longest: 15 };
 const SUNDAY = { words: 140, blocks: 76, threes: 32, longest: 11, cheaters: 6, lumps: 0, gap: 1 };
+const LATTICE = { words: 36, threes: 6 };
 
 /** @returns {Outlet} */
 const american = (name, size, limits, published = []) => ({ name, style: 'american', width: size, height: size, sym: 'half', limits, published });
 /** @returns {Outlet} */
-const lattice = (name) => ({ name, style: 'british', width: 15, height: 15, sym: 'half', limits: {}, published: [] });
+const lattice = (name) => ({ name, style: 'british', width: 15, height: 15, sym: 'half', limits: LATTICE, published: [] });
 
 /** @type {Outlet[]} */
 export const OUTLETS = [
@@ -48,23 +49,25 @@ export const OUTLETS = [
   lattice('Guardian'),
   lattice('Times'),
   lattice('Independent'),
-  { ...lattice('Barred'), style: 'barred', width: 12, height: 12 },
+  { ...lattice('Barred'), style: 'barred', width: 12, height: 12, limits: {} },
 ];
 
 // the limits that grow with the grid, and what a small grid has more of some, since more of its words are at the border
 const GROWING = /** @type {const} */ (['words', 'blocks', 'threes', 'cheaters']);
 const MORE = { words: 2, blocks: 0, threes: 2, cheaters: 0 };
 
-// The limits of an outlet in a grid of another size: in proportion to the cells if it is smaller, and else as many more as lead from a daily to a Sunday.
+// The limits of an outlet in a grid of another size: in proportion to the cells if it is smaller or a lattice, and else as many more as lead from a daily to a
+// Sunday.
 /**
  * @param {Outlet} outlet
  * @returns {Partial<Limits>}
  */
-export function limitsAt({ limits, width, height }, newWidth, newHeight) {
+export function limitsAt({ style, limits, width, height }, newWidth, newHeight) {
   if (width === newWidth && height === newHeight) return limits;
   const [cells, more] = [width * height, newWidth * newHeight - width * height];
   const growth = more / (21 ** 2 - 15 ** 2);
-  const at = (name) => (more < 0 ? Math.ceil((limits[name] * (cells + more)) / cells) + MORE[name] : Math.round(limits[name] + growth * (SUNDAY[name] - DAILY[name])));
+  const isInProportion = more < 0 || style !== 'american';
+  const at = (name) => (isInProportion ? Math.ceil((limits[name] * (cells + more)) / cells) + MORE[name] : Math.round(limits[name] + growth * (SUNDAY[name] - DAILY[name])));
   const grown = GROWING.filter((name) => name in limits).map((name) => [name, at(name)]);
   // a limit that is all of a line stays so
   return { ...limits, ...Object.fromEntries(grown), ...(limits.longest === width && { longest: Math.max(newWidth, newHeight) }) };

@@ -1,6 +1,6 @@
 // Where entries stand in an American grid. Theme entries of one length stand at images of each other, one that has no partner is its own image, and seeds
 // stand anywhere. Many placings are found at random, and each has a score: the lower, the better.
-import { shuffled } from '../random.js';
+import { shuffled } from '../model/random.js';
 
 /** @typedef {import('./frame.js').Run} Run */
 /** @typedef {{ word: string, run: Run, isTheme: boolean }} Stand an entry and where it stands; `word` is empty for the image of a seed */

@@ -1,8 +1,9 @@
 // The grids that a search has found, of which none that is taken is like another.
 import { difference } from './grid.js';
 
-// The most grids that wait, and the cells by which those differ that are taken, in a grid of 225 cells.
+// The most grids that wait, the most that are taken and compared with new ones, and the cells by which those differ, in a grid of 225 cells.
 const MOST = 400;
+const MOST_TAKEN = 240;
 const APART = 12;
 const USUAL_SIZE = 225;
 
@@ -20,17 +21,17 @@ export class Pool {
     this.#waiting = [...this.#waiting, ...grids].sort((a, b) => a.cost - b.cost).slice(0, MOST);
   }
 
-  // Takes the cheapest grids, so many at most.
+  // Takes the cheapest grids, so many at most. Those that are like one of them, or like one that was taken before, go.
   /** @returns {import('./grid.js').Grid[]} */
   take(most) {
     const taken = [];
-    const left = [];
-    for (const grid of this.#waiting) {
-      const isNew = taken.length < most && [...this.#taken, ...taken].every((other) => difference(grid, other) >= apart(grid));
-      (isNew ? taken : left).push(grid);
+    let looked = 0;
+    for (; looked < this.#waiting.length && taken.length < most; looked++) {
+      const grid = this.#waiting[looked];
+      if ([...this.#taken, ...taken].every((other) => difference(grid, other) >= apart(grid))) taken.push(grid);
     }
-    this.#waiting = left;
-    this.#taken.push(...taken);
+    this.#waiting = this.#waiting.slice(looked);
+    this.#taken = [...this.#taken, ...taken].slice(-MOST_TAKEN);
     return taken;
   }
 }

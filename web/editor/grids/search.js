@@ -1,5 +1,5 @@
 // A search for American grids whose limits are part of it: the places of the entries first, and then simulated annealing over blocks and their images.
-import { randoms } from '../random.js';
+import { randoms } from '../model/random.js';
 import { Board } from './board.js';
 import { Cost } from './cost.js';
 import { Frame } from './frame.js';

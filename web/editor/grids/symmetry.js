@@ -32,15 +32,21 @@ export class Turns {
   }
 
   // A cell and its images, each once.
-  /** @returns {number[]} */
+  /**
+   * @param {number} cell
+   * @returns {number[]}
+   */
   orbit(cell) {
     return [...new Set([cell, ...this.#maps.map((map) => map[cell])])];
   }
 
   // A run of cells and its images, each once and in reading order.
-  /** @returns {number[][]} */
+  /**
+   * @param {readonly number[]} cells
+   * @returns {number[][]}
+   */
   runs(cells) {
-    const images = [cells, ...this.#maps.map((map) => cells.map((cell) => map[cell]).sort((a, b) => a - b))];
+    const images = [[...cells], ...this.#maps.map((map) => cells.map((cell) => map[cell]).sort((a, b) => a - b))];
     return [...new Map(images.map((run) => [run.join(), run])).values()];
   }
 }

@@ -1,22 +1,22 @@
 // The dialog of new grids, with theme entries or without: they are found in workers within limits, and each is judged by an engine before it is chosen.
-import { openDialog } from '../dialogs.js';
-import { byFigures, figuresOf, figuresText } from '../grades.js';
-import { sketchOf } from '../library.js';
-import { bodyOf, parseRecord, wordsOf } from '../record.js';
-import { termed } from '../terms.js';
+import { byFigures, figuresOf, figuresText } from '../model/grades.js';
+import { bodyOf, parseRecord, wordsOf } from '../model/record.js';
+import { termed } from '../model/terms.js';
+import { openDialog } from '../views/dialogs.js';
+import { sketchOf } from '../views/library.js';
 import { checkWanted, recordOfGrid, threesOf } from './grid.js';
 import { LimitsView } from './limits-view.js';
 import { Pool } from './pool.js';
 
 const MOST_ENTRIES = 8;
-// how many grids are shown, and how many are judged at most until so many fill
+// how many grids are shown, and how many of those that were found are kept at each step: the best ones
 const MOST_SHOWN = 12;
-const MOST_JUDGED = 60;
+const MOST_KEPT = 200;
 // the most boards with faults that are shown while there is no grid
 const MOST_MISSES = 3;
 // the most workers that make grids
 const MOST_WORKERS = 4;
-// how many calls of so many milliseconds a round of a search has, unless there are enough grids before, and how many of these are looked at
+// how many calls of so many milliseconds a round of a search has at most, until there are enough grids, and how many of these are looked at
 const CALLS = 4;
 const MILLISECONDS = 400;
 const ENOUGH = 120;
@@ -39,13 +39,13 @@ const FAULTS = {
 /** @typedef {{ unmatched: string[], dead: string[], fewest: number, logs: number }} Look */
 /** @typedef {{ card: HTMLElement, figures: ReturnType<typeof figuresOf>, isFilled: boolean, logs: number }} Judged */
 /**
- * A search: the grids that are found and wait, those that were looked at, those that are judged, those that have no fill, and what each worker tells of its
- * boards.
- * @typedef {{ turn: number, wanted: import('./grid.js').Wanted, pool: Pool, looked: { grid: Grid, look: Look }[], judged: Judged[], filled: number, unfilled: Grid[], told: { tried: number, faults: Map<string, number>, nearest: Miss | null }[] }} Searching
+ * A search: the grids that are found and wait, those that were looked at, the best of those that are judged, with their number, the first ones that have no
+ * fill, with their number, and what each worker tells of its boards.
+ * @typedef {{ turn: number, wanted: import('./grid.js').Wanted, pool: Pool, looked: { grid: Grid, look: Look }[], judged: Judged[], count: number, unfilled: Grid[], lost: number, told: { tried: number, faults: Map<string, number>, nearest: Miss | null }[] }} Searching
  */
 
 export class GridsView {
-  /** @type {import('../editor.js').Editor} */
+  /** @type {import('../model/editor.js').Editor} */
   #editor;
   #helpers;
   #elements;
@@ -53,6 +53,9 @@ export class GridsView {
   #seed = 0;
   // rises with each search, and when one is stopped, so that those before it end
   #turn = 0;
+  // the cards of the best grids, in their order
+  /** @type {HTMLElement[]} */
+  #best = [];
 
   // `begin` begins a puzzle with a record, in which these entries stand.
   constructor(editor, helpers, elements, begin) {
@@ -63,6 +66,8 @@ export class GridsView {
     this.begin = begin;
     elements.show.addEventListener('click', () => this.#show());
     elements.stop.addEventListener('click', () => this.#stop());
+    // no other card comes under the pointer before a click
+    elements.grids.addEventListener('pointerleave', () => this.#best.length && this.#arrange());
     elements.entries.addEventListener('input', () => this.#showLengths());
     elements.seeds.addEventListener('input', () => this.#showLengths());
     // Enter in a field shows grids, and does not close the dialog
@@ -119,6 +124,7 @@ export class GridsView {
 
   #show() {
     const turn = ++this.#turn;
+    this.#best = [];
     this.#elements.grids.replaceChildren();
     this.#search(turn).catch((fault) => this.#isOn(turn) && this.#end(fault.message));
   }
@@ -132,6 +138,7 @@ export class GridsView {
     this.#turn++;
     this.#isBusy = false;
     this.#say(text);
+    if (this.#best.length) this.#arrange();
   }
 
   #stop() {
@@ -139,10 +146,10 @@ export class GridsView {
     this.#end(`Stopped. ${textContent}`);
   }
 
-  // Looks for grids until a dozen of those that are judged fill, in rounds: all workers search, look at the cheapest grids, and then fill some of these.
+  // Looks for grids until it is stopped, in rounds: all workers search, look at the cheapest grids, and then fill some of these.
   async #search(turn) {
     /** @type {Searching} */
-    const search = { turn, wanted: this.#wanted, pool: new Pool(), looked: [], judged: [], filled: 0, unfilled: [], told: [] };
+    const search = { turn, wanted: this.#wanted, pool: new Pool(), looked: [], judged: [], count: 0, unfilled: [], lost: 0, told: [] };
     this.#isBusy = true;
     this.#say('looking for grids …');
     const workers = await Promise.all(this.#workers());
@@ -151,24 +158,20 @@ export class GridsView {
     const begun = await Promise.all(workers.map((worker, at) => worker.call('beginGrids', { wanted: search.wanted, seed: seeds[at], weak: this.#weak })));
     if (this.#isOn(turn) && !begun.includes(true)) return this.#end('The entries cannot stand together within these limits: try another size or symmetry, or fewer entries.');
     const inAll = (action) => Promise.all(workers.map((worker, at) => action.call(this, search, worker, at)));
-    while (this.#isDue(search)) {
+    while (this.#isOn(turn)) {
       await inAll(this.#find);
       const grids = search.pool.take(MOST_LOOKED);
       await inAll((_, worker) => this.#look(search, worker, grids));
-      search.looked.sort((a, b) => b.look.logs - a.look.logs);
+      search.looked = search.looked.sort((a, b) => b.look.logs - a.look.logs).slice(0, MOST_KEPT);
       await inAll(this.#fill);
       if (!search.judged.length) await this.#showMisses(search, workers[0]);
     }
-    return this.#isOn(turn) && this.#end(this.#summary(search));
+    return undefined;
   }
 
-  #isDue({ turn, judged, filled }) {
-    return this.#isOn(turn) && filled < MOST_SHOWN && judged.length < MOST_JUDGED;
-  }
-
-  // Looks for grids in a worker, one round.
+  // Looks for grids in a worker, one round, with one call at least.
   async #find(search, worker, at) {
-    for (let call = 0; call < CALLS && this.#isOn(search.turn) && search.pool.size < ENOUGH; call++) {
+    for (let call = 0; call < CALLS && this.#isOn(search.turn) && (!call || search.pool.size < ENOUGH); call++) {
       const { grids, ...told } = await worker.call('moreGrids', { milliseconds: MILLISECONDS });
       search.pool.add(grids);
       search.told[at] = told;
@@ -182,7 +185,7 @@ export class GridsView {
       const grid = grids.shift();
       const look = await worker.call('lookAtGrid', { lines: linesOf(grid) });
       if (look.fewest) search.looked.push({ grid, look });
-      else search.unfilled.push(grid);
+      else this.#lose(search, grid);
     }
   }
 
@@ -191,9 +194,15 @@ export class GridsView {
     for (let count = 0; search.looked.length && count < MOST_FILLED / this.#count && this.#isOn(search.turn); count++) {
       const { grid, look } = search.looked.shift();
       const { answer, scores } = await worker.call('fillGrid', { lines: linesOf(grid), placements: PLACEMENTS, isScored: this.#editor.list.scored });
-      if (answer === 'nofill') search.unfilled.push(grid);
+      if (answer === 'nofill') this.#lose(search, grid);
       else if (this.#isOn(search.turn)) this.#add(search, grid, look, answer === 'filled', scores);
     }
+  }
+
+  // Notes a grid within the limits that has no fill.
+  #lose(search, grid) {
+    search.lost++;
+    if (search.unfilled.length < MOST_MISSES) search.unfilled.push(grid);
   }
 
   // Shows a judged grid at its place among the others.
@@ -201,19 +210,31 @@ export class GridsView {
     const figures = figuresOf(scores, this.#editor.list.weak);
     const fills = figures ? `it fills: ${figuresText(figures)}` : 'it fills';
     const verdict = isFilled ? { textContent: fills, className: 'here' } : { textContent: `${look.fewest.toLocaleString('en')} ${look.fewest === 1 ? 'word' : 'words'} for the tightest light` };
-    search.judged.push({ card: this.#card(search.wanted, grid, verdict), figures, isFilled, logs: look.logs });
-    search.judged.sort(byWorth);
-    if (isFilled) search.filled++;
-    const cards = search.judged.slice(0, MOST_SHOWN).map(({ card }) => card);
+    const card = this.#card(search.wanted, grid, verdict);
+    search.judged.push({ card, figures, isFilled, logs: look.logs });
+    search.judged = search.judged.sort(byWorth).slice(0, MOST_KEPT);
+    search.count++;
+    this.#best = search.judged.slice(0, MOST_SHOWN).map(({ card }) => card);
     const { grids } = this.#elements;
-    const isShown = cards.includes(document.activeElement);
-    if (!isShown) grids.replaceChildren(...cards);
-    else grids.append(...cards.filter((card) => !card.isConnected));
+    // while the pointer is over a grid, others come after those that are shown
+    if (!grids.querySelector('.pattern:hover:not(:has(.bad))')) this.#arrange();
+    else if (grids.children.length < MOST_SHOWN) grids.append(card);
+  }
+
+  // Shows the best grids in their order. One that has the focus keeps it.
+  #arrange() {
+    const { grids } = this.#elements;
+    const [best, at] = [this.#best, this.#best.indexOf(/** @type {HTMLElement} */ (document.activeElement))];
+    if (at < 0) return grids.replaceChildren(...best);
+    for (const card of [...grids.children].filter((one) => !best.includes(one))) card.remove();
+    best[at].before(...best.slice(0, at));
+    best[at].after(...best.slice(at + 1));
+    return undefined;
   }
 
   // Shows grids without a fill, or else the nearest boards, with what is wrong with them.
   async #showMisses(search, worker) {
-    const unfilled = search.unfilled.slice(0, MOST_MISSES).map((grid) => ({ grid, faults: ['nofill'] }));
+    const unfilled = search.unfilled.map((grid) => ({ grid, faults: ['nofill'] }));
     const misses = [...unfilled, ...search.told.flatMap(({ nearest }) => nearest ?? [])].slice(0, MOST_MISSES);
     const looks = [];
     for (const { grid } of misses) looks.push(await worker.call('lookAtGrid', { lines: linesOf(grid) }));
@@ -237,18 +258,18 @@ export class GridsView {
   }
 
   // How many grids are judged, how many boards keep the limits, and what keeps most of the others from that.
-  #summary({ judged, unfilled, told }) {
+  #summary({ count, lost, told }) {
     const tried = told.reduce((sum, one) => sum + (one?.tried ?? 0), 0);
     const faults = new Map();
-    for (const one of told) for (const [fault, count] of one?.faults ?? []) faults.set(fault, (faults.get(fault) ?? 0) + count);
+    for (const one of told) for (const [fault, times] of one?.faults ?? []) faults.set(fault, (faults.get(fault) ?? 0) + times);
     const [first, second] = [...faults].sort(([, one], [, other]) => other - one);
-    const grids = `${judged.length || 'No'} ${judged.length === 1 ? 'grid' : 'grids'}`;
-    const shown = judged.length > MOST_SHOWN ? `The best ${MOST_SHOWN} of ${grids}` : `${grids}${judged.length > 1 ? ', the best first' : ''}`;
-    const kept = `${shown}, of ${tried.toLocaleString('en')} boards that were tried`;
-    const lost = unfilled.length ? ` ${unfilled.length} within the limits ${unfilled.length === 1 ? 'has' : 'have'} no fill from your lists.` : '';
-    if (!first) return `${kept}.${lost}`;
-    const named = [first, ...(second ? [second] : [])].map(([fault, count]) => `${FAULTS[fault]} (${count.toLocaleString('en')})`);
-    return `${kept}.${lost} What keeps others out: ${named.join(', ')}.`;
+    const grids = `${count || 'No'} ${count === 1 ? 'grid' : 'grids'}`;
+    const shown = count > MOST_SHOWN ? `The best ${MOST_SHOWN} of ${grids}` : `${grids}${count > 1 ? ', the best first' : ''}`;
+    const unfilled = lost ? ` ${lost.toLocaleString('en')} within the limits ${lost === 1 ? 'has' : 'have'} no fill from your lists.` : '';
+    const kept = `${shown}, of ${tried.toLocaleString('en')} boards that were tried.${unfilled}`;
+    if (!first) return kept;
+    const named = [first, ...(second ? [second] : [])].map(([fault, times]) => `${FAULTS[fault]} (${times.toLocaleString('en')})`);
+    return `${kept} What keeps others out: ${named.join(', ')}.`;
   }
 
   // The score of words that are not weak.

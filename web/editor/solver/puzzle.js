@@ -1,11 +1,13 @@
 // A puzzle as a solver gets it, as plain values: nothing of what a setter has beside it, such as notes and comments. And the page of one file that has it.
-import { clueText } from '../manuscript.js';
-import { isBritishGrid } from '../terms.js';
+import { clueText } from '../formats/manuscript.js';
+import { isBritishGrid } from '../model/terms.js';
+
+/** @typedef {import('../model/board.js').Light} Light */
 
 // A cell: `solution` has one letter or several, and `colour` six hexadecimal digits. What is not there is left out.
 /** @typedef {{ solution: string, number?: string, right?: true, below?: true, circle?: true, colour?: string }} SolverCell */
 // A light: `number` has those of all lights of its clue, and `cells` are indices.
-/** @typedef {{ name: string, number: string, direction: 'across' | 'down', clue: string, cells: number[] }} SolverLight */
+/** @typedef {{ name: string, number: string, direction: 'across' | 'down', clue: string, cells: readonly number[] }} SolverLight */
 /**
  * @typedef {object} SolverPuzzle
  * @property {Record<'title' | 'author' | 'copyright' | 'notes', string>} texts
@@ -17,22 +19,26 @@ import { isBritishGrid } from '../terms.js';
  */
 
 /**
- * @param {import('../editor.js').Editor} editor
+ * @param {import('../model/editor.js').Editor} editor
  * @returns {SolverPuzzle}
  */
 export function solverPuzzle(editor) {
   const { board, language } = editor;
-  const text = (field) => editor.textOf(field);
+  const text = (/** @type {string} */ field) => editor.textOf(field);
   const hasLengths = isBritishGrid(board);
-  const lightOf = (light) => ({ name: light.name, number: editor.cluedBy(light).numbers, direction: light.direction, clue: clueText(editor, light, hasLengths), cells: light.cells });
-  const inDirection = (direction) => board.lights.filter((light) => light.direction === direction).map(lightOf);
+  const lightOf = (/** @type {Light} */ light) => ({ name: light.name, number: editor.cluedBy(light).numbers, direction: light.direction, clue: clueText(editor, light, hasLengths), cells: light.cells });
+  const inDirection = (/** @type {string} */ direction) => board.lights.filter((light) => light.direction === direction).map(lightOf);
   return {
     texts: { title: text('title'), author: text('author'), copyright: text('copyright'), notes: text('notes') }, language, width: board.width, height: board.height,
     cells: board.cells.map((cell) => (cell.block ? null : cellOf(editor, cell))), lights: [...inDirection('across'), ...inDirection('down')],
   };
 }
 
-/** @returns {SolverCell} */
+/**
+ * @param {import('../model/editor.js').Editor} editor
+ * @param {import('../model/board.js').Cell} cell
+ * @returns {SolverCell}
+ */
 function cellOf(editor, cell) {
   const { number, right, below, circle } = cell;
   const colour = editor.colourOf(cell);
@@ -40,7 +46,7 @@ function cellOf(editor, cell) {
 }
 
 // Why a puzzle cannot be solved; or ''.
-/** @param {Pick<import('../editor.js').Editor, 'board'>} told */
+/** @param {Pick<import('../model/editor.js').Editor, 'board'>} told */
 export function whyUnsolvable({ board }) {
   const empty = board.firstEmpty();
   if (empty >= 0) return `row ${board.rowOf(empty)}, column ${board.columnOf(empty)} is empty`;
@@ -51,7 +57,10 @@ export function whyUnsolvable({ board }) {
 const PLACE = '{"puzzle":"here"}';
 
 // The page of a puzzle: the template with the puzzle as data. In JSON no text begins an element or ends one, since `<` is spelled.
-/** @param {SolverPuzzle} puzzle */
+/**
+ * @param {string} template
+ * @param {SolverPuzzle} puzzle
+ */
 export function solverPage(template, puzzle) {
   return template.replace(PLACE, () => JSON.stringify(puzzle).replaceAll('<', '\\u003c'));
 }

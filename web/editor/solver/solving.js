@@ -38,6 +38,7 @@ export class Solving {
   }
 
   // Goes to a cell, in a direction that it has a light in, if it has one.
+  /** @param {number} index */
   moveTo(index, direction = this.direction) {
     if (!this.puzzle.cells[index]) return;
     this.cursor = index;
@@ -45,6 +46,7 @@ export class Solving {
   }
 
   // Goes to the first empty cell of a light, or to its first one.
+  /** @param {import('./puzzle.js').SolverLight} light */
   toLight(light) {
     this.moveTo(light.cells.find((cell) => !this.entries[cell]) ?? light.cells[0], light.direction);
   }
@@ -54,10 +56,14 @@ export class Solving {
   }
 
   // Turns, or goes to the next cell that is no block.
+  /**
+   * @param {'across' | 'down'} direction
+   * @param {number} step
+   */
   arrow(direction, step) {
     if (direction !== this.direction && this.crossing) return this.turn();
     const { width, cells } = this.puzzle;
-    const isBeyond = (index) => index < 0 || index >= cells.length || (direction === 'across' && Math.floor(index / width) !== Math.floor(this.cursor / width));
+    const isBeyond = (/** @type {number} */ index) => index < 0 || index >= cells.length || (direction === 'across' && Math.floor(index / width) !== Math.floor(this.cursor / width));
     const stride = direction === 'across' ? step : step * width;
     let next = this.cursor + stride;
     while (!isBeyond(next) && !cells[next]) next += stride;
@@ -65,17 +71,22 @@ export class Solving {
   }
 
   // Goes so many lights on, those across first.
+  /** @param {number} step */
   nextLight(step) {
     const { lights } = this.puzzle;
-    if (lights.length) this.toLight(lights[(lights.indexOf(this.light) + step + lights.length) % lights.length]);
+    const at = lights.findIndex((light) => light === this.light);
+    if (lights.length) this.toLight(lights[(at + step + lights.length) % lights.length]);
   }
 
   // Goes to the first cell of the light, or to its last one.
+  /** @param {number} at */
   toEnd(at) {
-    if (this.light) this.moveTo(this.light.cells.at(at));
+    const cell = this.light?.cells.at(at);
+    if (cell !== undefined) this.moveTo(cell);
   }
 
   // Goes to the cell beside the cursor in its light; at the end it stays.
+  /** @param {number} step */
   #step(step) {
     const cells = this.light?.cells ?? [];
     const next = cells[cells.indexOf(this.cursor) + step];
@@ -83,11 +94,16 @@ export class Solving {
   }
 
   // Enters letters into the cell of the cursor, and steps on. What is revealed stays.
+  /** @param {string} letters */
   type(letters) {
     this.#set(this.cursor, letters.toUpperCase());
     this.#step(1);
   }
 
+  /**
+   * @param {number} index
+   * @param {string} letters
+   */
   #set(index, letters) {
     if (!this.puzzle.cells[index] || this.revealed.has(index) || !LETTERS.test(letters)) return;
     this.entries[index] = letters;
@@ -95,6 +111,7 @@ export class Solving {
   }
 
   // Empties the cell of the cursor, and steps on if that is wished.
+  /** @param {number} step */
   clear(step = 0) {
     this.#set(this.cursor, '');
     if (step) this.#step(step);
@@ -114,8 +131,9 @@ export class Solving {
   }
 
   // Whether a cell has what it should have. Of several letters the first one will do.
+  /** @param {number} index */
   isRight(index) {
-    const { solution } = this.puzzle.cells[index];
+    const solution = this.puzzle.cells[index]?.solution ?? '';
     return this.entries[index] === solution || (solution.length > 1 && this.entries[index] === solution[0]);
   }
 
@@ -134,7 +152,7 @@ export class Solving {
   /** @param {Scope} scope */
   reveal(scope) {
     for (const cell of this.cellsIn(scope).filter((one) => !this.isRight(one))) {
-      this.#set(cell, this.puzzle.cells[cell].solution);
+      this.#set(cell, this.puzzle.cells[cell]?.solution ?? '');
       this.revealed.add(cell);
     }
   }

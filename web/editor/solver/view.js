@@ -1,7 +1,7 @@
 // A puzzle to solve: the grid, the clues, and the buttons that check and reveal. It shows a Solving, and is the same in the editor and in a page of its own.
-import { brightened } from '../colours.js';
-import { nodesOfText, put, scrollWithin, speakIn } from '../page.js';
-import { TypingField } from '../typing.js';
+import { brightened } from '../model/colours.js';
+import { nodesOfText, put, scrollWithin, speakIn } from '../views/page.js';
+import { TypingField } from '../views/typing.js';
 
 const SCOPES = /** @type {const} */ (['letter', 'word', 'puzzle']);
 /** @type {Record<string, ['across' | 'down', number]>} */
@@ -9,6 +9,8 @@ const ARROWS = { ArrowLeft: ['across', -1], ArrowRight: ['across', 1], ArrowUp: 
 const SAID = { solved: 'solved', wrong: 'every cell has a letter, and not all are right', open: '' };
 // from so many letters on a cell of several has the smallest type
 const MOST_SIZED = 6;
+
+/** @typedef {import('./solving.js').Scope} Scope */
 
 export class SolverView {
   /** @type {import('./solving.js').Solving} */
@@ -30,6 +32,10 @@ export class SolverView {
   #isTouched = false;
 
   // `changed` is told each change. `leave` is what a button does that leaves the puzzle, if there is to be one.
+  /**
+   * @param {import('./solving.js').Solving} solving
+   * @param {{ changed?: () => void, leave?: (() => void) | null }} actions
+   */
   constructor(solving, { changed = () => {}, leave = null } = {}) {
     const { root } = this;
     this.#solving = solving;
@@ -55,6 +61,7 @@ export class SolverView {
     return head;
   }
 
+  /** @param {(() => void) | null} leave */
   #tools(leave) {
     const tools = made('div', 'solver-tools');
     tools.append(this.#group('Check', (scope) => this.#say(this.#solving.check(scope))), this.#group('Reveal', (scope, button) => this.#reveal(scope, button)));
@@ -66,6 +73,10 @@ export class SolverView {
     return tools;
   }
 
+  /**
+   * @param {string} name
+   * @param {(scope: Scope, pressed: HTMLElement) => void} action
+   */
   #group(name, action) {
     const group = made('span', 'solver-group', `${name} `);
     group.setAttribute('role', 'group');
@@ -101,6 +112,10 @@ export class SolverView {
   }
 
   // All of a puzzle is shown only at a second press.
+  /**
+   * @param {Scope} scope
+   * @param {HTMLElement} pressed
+   */
   #reveal(scope, pressed) {
     if (scope === 'puzzle' && pressed !== this.#armed) {
       this.#disarm();
@@ -144,6 +159,7 @@ export class SolverView {
     return main;
   }
 
+  /** @param {number} index */
   #cell(index) {
     const cell = this.#solving.puzzle.cells[index];
     const root = made('div', '');
@@ -157,6 +173,10 @@ export class SolverView {
     return root;
   }
 
+  /**
+   * @param {string} direction
+   * @param {string} title
+   */
   #list(direction, title) {
     const part = made('section', 'solver-part');
     const list = made('ul', '');
@@ -168,8 +188,9 @@ export class SolverView {
       });
       item.append(made('b', '', light.number), ' ', ...nodesOfText(light.clue));
       this.#clues.set(light.name, item);
-      list.append(made('li', ''));
-      list.lastElementChild.append(item);
+      const row = made('li', '');
+      row.append(item);
+      list.append(row);
     }
     part.append(made('h2', '', title), list);
     return part;
@@ -195,15 +216,17 @@ export class SolverView {
       item.classList.toggle('other', name === this.#solving.crossing?.name);
     }
     const item = light && this.#clues.get(light.name);
-    if (item) scrollWithin(item.closest('.solver-part'), item);
+    const part = item?.closest('.solver-part');
+    if (item && part) scrollWithin(/** @type {HTMLElement} */ (part), item);
   }
 
+  /** @param {number} index */
   #paint(index) {
     const { puzzle, entries, wrong, revealed, cursor, light } = this.#solving;
     const cell = puzzle.cells[index];
     const { root, letter } = this.#cells[index];
     const classes = ['solver-cell'];
-    const add = (isSo, name) => isSo && classes.push(name);
+    const add = (/** @type {unknown} */ isSo, /** @type {string} */ name) => isSo && classes.push(name);
     add(!cell, 'block');
     add(cell?.right, 'right');
     add(cell?.below, 'below');
@@ -220,6 +243,7 @@ export class SolverView {
     if (root.getAttribute('aria-label') !== name) root.setAttribute('aria-label', name);
   }
 
+  /** @param {number} index */
   #nameOf(index) {
     const { puzzle: { cells, width }, entries, wrong, revealed } = this.#solving;
     const cell = cells[index];
@@ -233,6 +257,7 @@ export class SolverView {
     return words.join(', ');
   }
 
+  /** @param {string} text */
   #say(text) {
     put(this.#told, 'textContent', text);
   }
@@ -250,6 +275,7 @@ export class SolverView {
 
   // Keys and touches.
 
+  /** @param {KeyboardEvent} event */
   #key(event) {
     const isField = event.target === this.#several;
     if (event.ctrlKey || event.metaKey || event.altKey || (isField && event.key !== 'Enter')) return;
@@ -258,7 +284,7 @@ export class SolverView {
       this.#enterSeveral();
       return;
     }
-    if (!this.#grid.contains(event.target)) return;
+    if (!this.#grid.contains(/** @type {Node} */ (event.target))) return;
     if (this.#press(event.key, event.shiftKey)) event.preventDefault();
     if (event.key !== 'Escape') return;
     // Tab goes on from light to light, so this leads out of the grid; another Esc leaves a dialog
@@ -267,22 +293,28 @@ export class SolverView {
   }
 
   // Does what a key does; returns whether it does anything.
+  /**
+   * @param {string} key
+   * @param {boolean} isShifted
+   */
   #press(key, isShifted = false) {
     const solving = this.#solving;
+    /** @type {Record<string, () => void>} */
     const moves = {
       Tab: () => solving.nextLight(isShifted ? -1 : 1), Enter: () => solving.turn(), Home: () => solving.toEnd(0), End: () => solving.toEnd(-1),
       ...Object.fromEntries(Object.entries(ARROWS).map(([name, [direction, step]]) => [name, () => solving.arrow(direction, step)])),
     };
+    /** @type {Record<string, (() => void) | undefined>} */
     const edits = { ' ': () => solving.clear(1), Delete: () => solving.clear(), Backspace: () => solving.backspace() };
     const edit = /^[a-zA-Z]$/.test(key) ? () => solving.type(key) : edits[key];
     this.#disarm();
-    if (edit) edit();
-    else moves[key]?.();
+    (edit ?? moves[key])?.();
     if (edit) this.#entered();
-    else if (moves[key]) this.#changed();
-    return Boolean(edit ?? moves[key]);
+    else if (key in moves) this.#changed();
+    return edit !== undefined || key in moves;
   }
 
+  /** @param {Event} event */
   #pointed(event) {
     const cell = /** @type {HTMLElement} */ (event.target).closest('[data-index]');
     if (!cell) return;
@@ -297,10 +329,19 @@ export class SolverView {
   }
 }
 
+/**
+ * @param {string} name
+ * @param {string} className
+ * @param {string} text
+ */
 function made(name, className, text = '') {
   return Object.assign(document.createElement(name), { className, textContent: text });
 }
 
+/**
+ * @param {string} text
+ * @param {() => void} action
+ */
 function button(text, action) {
   const one = Object.assign(made('button', '', text), { type: 'button' });
   one.addEventListener('click', action);

@@ -505,7 +505,7 @@ export const CASES = {
   },
 
   async 'the bank of clues keeps the first date of a clue, and no more than it may'() {
-    await browser.value(`(() => { ${await pageScript('store', 'keep')}; window.store = store; })()`);
+    await browser.value(`(() => { ${await pageScript('store', 'store/keep')}; window.store = store; })()`);
     const left = await browser.value(`(async () => {
       const { clearClues, everyClue, keepClues } = window.store;
       const clue = (clue, at, title = '') => ({ word: 'ODDS', clue, puzzle: 'p', title, at });

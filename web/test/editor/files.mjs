@@ -137,7 +137,7 @@ export const CASES = {
   },
 
   async 'every text is read as it was written, in each format'() {
-    await browser.value(`(() => { ${await pageScript('formats', 'exolve', 'ipuz', 'jpz')}; window.formats = formats; })()`);
+    await browser.value(`(() => { ${await pageScript('formats', 'formats/exolve', 'formats/ipuz', 'formats/jpz')}; window.formats = formats; })()`);
     const all = Array.from({ length: 400 }, (_, seed) => {
       const of = textsFrom(seed + 1);
       return { title: of.line(), author: of.line(), copyright: of.line(), notes: of.notes(), 'clue 1 across': of.clue() };
@@ -158,7 +158,7 @@ export const CASES = {
   },
 
   async 'every text of a session is kept'() {
-    const { engineText, escapeText, textLines } = await pageModules('record');
+    const { engineText, escapeText, textLines } = await pageModules('model/record');
     for (let seed = 1; seed <= 12; seed++) {
       const of = textsFrom(seed);
       const originals = [['author', of.line()], ['copyright', of.line()], ['notes', of.notes()], ['clue 1 1 across', of.clue()], ['note 1 1 across', of.line()]];

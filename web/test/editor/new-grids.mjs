@@ -1,7 +1,7 @@
 // The dialog of new grids: what is judged, within which limits, and when the search ends.
 import { writeFileSync } from 'node:fs';
 import { join } from 'node:path';
-import { gridsAreJudged, gridsAreShown, hasWord, menu, openGraded, openList, setOfGrids, showGrids, stopGrids, wantGrids } from '../doing.mjs';
+import { gridsAreJudged, hasWord, menu, openGraded, openList, setOfGrids, showGrids, stopGrids, wantGrids } from '../doing.mjs';
 import { browser, expect, page, pause, picture, reload, room, runAlone } from '../page.mjs';
 
 const told = () => browser.value("document.getElementById('themes-told').textContent");
@@ -61,11 +61,14 @@ export const CASES = {
     await menu('themes');
     await wantGrids('raindrops\nsnowstorm\nsunsets\nseaside', 'american');
     await browser.click('#themes-show');
-    await gridsAreShown();
+    // it goes on when there are a dozen
+    await browser.until("/^The best 12 of \\d+ grids/.test(document.getElementById('themes-told').textContent)");
+    expect(await browser.value("document.querySelector('#themes-grids[aria-busy=true]') !== null"), 'the search ends by itself');
+    await gridsAreJudged(12);
     const shown = await cards();
     expect(shown.length === 12 && /it fills$/.test(shown[0]), `the grids are ${shown.join('; ')}; ${await told()}`);
     expect(shown.every((text) => /it fills$|words? for the tightest entry$/.test(text)), `a grid is not judged: ${shown.join('; ')}`);
-    expect(/^(12 grids, the best first|The best 12 of \d+ grids), of [\d,]+ boards that were tried\./.test(await told()), await told());
+    expect(/^Stopped\. The best 12 of \d+ grids, of [\d,]+ boards that were tried\./.test(await told()), await told());
     await areWithin({ words: 78, blocks: 38, threes: 20 });
     expect(await browser.value("[...document.querySelectorAll('#themes-grids .pattern')].every((card) => card.scrollWidth <= card.clientWidth)"), 'what is said of a grid does not fit its card');
     await picture('grids-dozen');
@@ -97,6 +100,11 @@ export const CASES = {
     await wantGrids('', 'american');
     expect((await sourceOf('words')) === 'published' && (await sourceOf('threes')) === 'usual', `the sources are ${await sourceOf('words')} and ${await sourceOf('threes')}`);
     await browser.value("document.getElementById('themes-limits').open = true");
+    const rules = () => browser.value("document.getElementById('themes-rules').textContent");
+    expect(/Each letter is in two words/.test(await rules()), await rules());
+    await setOfGrids('outlet', 'Guardian');
+    expect(/no three unchecked/.test(await rules()) && (await fieldOf('words')) === '36' && (await sourceOf('words')) === 'usual', `of a lattice it says: ${await rules()}; ${await fieldOf('words')} words, ${await sourceOf('words')}`);
+    await setOfGrids('outlet', 'New York Times, daily');
     await setOfGrids('words', '74');
     await setOfGrids('threes', '10');
     await setOfGrids('blocks', '');
@@ -189,6 +197,79 @@ export const CASES = {
     await browser.click('#themes-reset');
     await browser.value("document.getElementById('themes-limits').open = false");
     await browser.press('Escape');
+    await menu('built-in');
+    await page.factsAre(/built-in list/);
+  },
+
+  async 'the stock of patterns'() {
+    const shown = () => page.count('#stock-patterns .pattern');
+    const set = (name, value) => browser.value(`(() => {
+      const field = document.getElementById('stock-${name}');
+      field.value = ${JSON.stringify(value)};
+      field.dispatchEvent(new Event('input', { bubbles: true }));
+    })()`);
+    const stock = () => browser.value("document.getElementById('stock-told').textContent");
+    await menu('new');
+    expect((await shown()) === 0, 'patterns of the stock are there before it is opened');
+    await browser.click('#stock summary');
+    await browser.until("document.querySelector('#stock-patterns .pattern')");
+    expect((await stock()) === '100 of 100 patterns' && (await shown()) === 24, `${await stock()}, ${await shown()} of them`);
+    await browser.click('#stock-more');
+    expect((await shown()) === 48 && (await browser.value("[...document.querySelectorAll('#stock-patterns .pattern')].indexOf(document.activeElement)")) === 24, 'the next patterns are not there, or have no focus');
+    await set('themes', '14, 12, 12, 14');
+    expect(/^\d+ of 100 patterns, with room for 14, 12, 12, 14$/.test(await stock()), await stock());
+    const held = await browser.value("[...document.querySelectorAll('#stock-patterns .pattern')].map((card) => card.querySelector('.held').getAttribute('d').split('M').length - 1)");
+    expect(held.length === Number.parseInt(await stock(), 10) && held.length > 0 && held.every((cells) => cells === 52), `the places of the entries have ${held} cells`);
+    // the same as words
+    const asNumbers = await stock();
+    await set('themes', 'fingerprinting, recapitulate, gesticulates, disenchantment');
+    expect((await stock()) === asNumbers, `as words there are ${await stock()}`);
+    await picture('stock-themes');
+    await set('themes', '16');
+    expect((await stock()) === 'none of 100 patterns, with room for 16' && (await shown()) === 0 && (await browser.value("document.getElementById('stock-more').hidden")), await stock());
+    await set('themes', '');
+    await set('form', 'themeless');
+    await set('words', '70');
+    await set('threes', '8');
+    const texts = await browser.value("[...document.querySelectorAll('#stock-patterns .pattern')].map(({ textContent }) => textContent)");
+    expect(texts.length > 0 && texts.every((text) => figuresOf(text).words <= 70 && figuresOf(text).threes <= 8), `within 70 words and 8 of three letters: ${texts}`);
+    expect(await browser.value("[...document.querySelectorAll('#stock-patterns .pattern')].every((card) => card.scrollWidth <= card.clientWidth)"), 'what is said of a pattern does not fit its card');
+    for (const form of ['sunday', 'british15', 'british13', 'daily']) {
+      await set('form', form);
+      await set('words', '');
+      await set('threes', '');
+      expect((await stock()) === '100 of 100 patterns', `${form}: ${await stock()}`);
+      await picture(`stock-${form}`);
+    }
+    const [, words, blocks] = /^(\d+) words, (\d+) blocks/.exec(await browser.value("document.querySelector('#stock-patterns .pattern').textContent"));
+    await browser.click('#stock-patterns .pattern');
+    await page.factsAre(/^15 × 15 · 0 of/);
+    const rows = await page.rows();
+    expect(rows.join('').replace(/[^#]/g, '').length === Number(blocks) && !faultOf(rows, { words: Number(words), blocks: Number(blocks), threes: 20 }), `${faultOf(rows, { words, blocks, threes: 20 })}: ${rows}`);
+    await browser.press('Control+z');
+    await browser.until(`${JSON.stringify(rows.join(''))} !== [...document.querySelectorAll('#grid .cell')].map((cell) => (cell.classList.contains('block') ? '#' : '.')).join('')`);
+  },
+
+  async 'where a block helps'() {
+    await openGraded();
+    await menu('new');
+    for (const side of ['width', 'height']) await browser.value(`document.getElementById('new-${side}').value = 7`);
+    await browser.click('#new-blank');
+    await page.factsAre(/^7 × 7 · 0 of/);
+    await menu('moves');
+    await browser.until("/^As it is: /.test(document.getElementById('moves-told').textContent)");
+    const text = await browser.value("document.getElementById('moves-told').textContent");
+    expect(/ \d+ blocks were tried, and the \d+ most promising were filled: (none|\d+) makes? that better\.$/.test(text), text);
+    const shown = await browser.value("[...document.querySelectorAll('#moves-list .pattern')].map((card) => card.innerText.replaceAll('\\n', ' '))");
+    expect(shown.length > 0 && shown.every((one) => /^row \d, column \d /.test(one)), `the moves are ${shown}`);
+    expect((await page.count('#moves-map svg')) === 1, 'there is no map');
+    await picture('moves');
+    const [, row, column] = /^row (\d), column (\d)/.exec(shown[0]).map(Number);
+    await browser.click('#moves-list .pattern');
+    await browser.until("document.querySelector('#grid .cell.block')");
+    const rows = await page.rows();
+    const [index, all] = [7 * (row - 1) + column - 1, rows.join('')];
+    expect(all[index] === '#' && all[48 - index] === '#' && all.replace(/[^#]/g, '').length === (index === 24 ? 1 : 2), `the block of row ${row}, column ${column} is in ${rows}`);
     await menu('built-in');
     await page.factsAre(/built-in list/);
   },

@@ -2,7 +2,7 @@
 import { writeFileSync } from 'node:fs';
 import { join } from 'node:path';
 import { Xw } from '../../dist/xw.js';
-import { PATTERNS, recordOf, rowsOf } from '../../editor/patterns.js';
+import { PATTERNS, recordOf, rowsOf } from '../../editor/grids/patterns.js';
 import { begin, beginBlank, menu, openGraded, openList, openRecord, openWords, saved } from '../doing.mjs';
 import { isDrafted } from '../holding.mjs';
 import { LIST, PAGE, browser, expect, module, page, picture, ready, room, runAlone } from '../page.mjs';
