@@ -3,7 +3,7 @@
 
 usage: examples/fill.py WORDS RECORD [--seconds S] [--puz FILE]
 
-WORDS is a word list, best with grades. RECORD is a file of commands that make the grid, such as examples/themeless15.xw.
+WORDS is a word list, best with grades. RECORD is a file of commands that make the grid, such as examples/starter15.xw.
 """
 import argparse
 import pathlib

@@ -3,7 +3,7 @@
 
 usage: examples/race.py WORDS RECORD [--processes N] [--limit K] [--xw PROGRAM]
 
-RECORD is a file of commands, such as examples/themeless15.xw or what `--save` wrote. A session resumes it, and hands its record to N more
+RECORD is a file of commands, such as examples/starter15.xw or what `--save` wrote. A session resumes it, and hands its record to N more
 sessions, one for each processor by default. Their first `filled` or `nofill` decides. The letters of the fill are entered into the session by
 `set`, and the other processes are ended. The last line is `filled` or `nofill`; after `filled` the grid stands above it.
 """

@@ -3,7 +3,7 @@
 //
 //   node examples/search.mjs WORDS RECORD [K]
 //
-// RECORD is a file of commands, such as examples/themeless15.xw or what `--save` wrote, and K is the number of placements of the first slices.
+// RECORD is a file of commands, such as examples/starter15.xw or what `--save` wrote, and K is the number of placements of the first slices.
 // A line on standard input stops the search, and so does its end. The last line is `filled`, `nofill` or `stopped`; after `filled` the grid
 // stands above it. It needs the package xw, or in a checkout ./build web.
 import { readFileSync } from 'node:fs';

@@ -3,7 +3,7 @@
 
 usage: examples/search.py WORDS RECORD [--slice K] [--xw PROGRAM]
 
-RECORD is a file of commands, such as examples/themeless15.xw or what `--save` wrote. The first slices have K placements. A line on standard
+RECORD is a file of commands, such as examples/starter15.xw or what `--save` wrote. The first slices have K placements. A line on standard
 input stops the search, and so does its end. The last line is `filled`, `nofill` or `stopped`; after `filled` the grid stands above it.
 """
 import argparse

@@ -5,6 +5,8 @@ import re
 import signal
 import threading
 
+import xw.many
+import xw.race
 from xw import Session
 from xw.many import fill_one
 from xw.race import step
@@ -46,6 +48,20 @@ def step_or_wait(racer, above):
     with open(racer.climb.session.texts()["title"], "a") as file:
         file.write(f"{os.getpid()}\n")
     threading.Event().wait()
+
+
+def step_or_die_once(racer, above):
+    """Searches a slice of a race. The first worker to do so dies, after it is noted in the file that the title of the puzzle names."""
+    path = pathlib.Path(racer.climb.session.texts()["title"])
+    if not path.exists():
+        path.write_text(f"{os.getpid()}\n")
+        die()
+    return step(racer, above)
+
+
+def patch():
+    """Has this process fill and search with the calls above."""
+    xw.many.fill_one, xw.race.step = fill_or_die, step_or_die_once
 
 
 def die(*_):

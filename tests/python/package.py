@@ -23,7 +23,6 @@ import sys
 import tempfile
 import threading
 import time
-import traceback
 import zipfile
 
 import deadly
@@ -38,13 +37,15 @@ sys.dont_write_bytecode = True
 TOP = pathlib.Path(__file__).resolve().parents[2]
 sys.path.insert(0, str(TOP / "tests"))
 
-from counts import last_line
-from needs import Skipped, needs
+from counts import run_cases
+from needs import needs
 
 SQUARE = ["as", "at", "so", "to"]
 # grades with which the best fill of a square has the worst word 60
 GRADED = [("as", 90), ("at", 80), ("so", 60), ("to", 70), ("ti", 50), ("si", 40)]
 TESTS = []
+# a cluster, of Debian's Python
+DASK = "/usr/lib/python3/dist-packages/distributed"
 
 
 def test(function):
@@ -901,6 +902,37 @@ def an_executor_that_loses_a_worker_loses_no_puzzle():
     assert all(isinstance(it.error, concurrent.futures.process.BrokenProcessPool) for it in found)
 
 
+@test
+def executors_race():
+    for executor in (concurrent.futures.ThreadPoolExecutor(2), concurrent.futures.ProcessPoolExecutor(2)):
+        with executor:
+            found = xw.best(GRADED, b"size 2 2\n", workers=2, executor=executor)
+            assert (found.answer, found.fill.grade, found.bound, found.is_best, found.died) == ("filled", 60, 61, True, ())
+            assert xw.best(GRADED, b"size 2 2\n", workers=2, limit=0, executor=executor).placements == 0
+            assert xw.best(SQUARE, b"size 3 3\n", workers=2, executor=executor).answer == "nofill"
+            raises(Fault, lambda: xw.best(SQUARE, b"frob\n", workers=2, executor=executor), status="NoCommand")
+
+
+@test
+def an_executor_that_loses_each_leg_is_told():
+    leg = xw.race.leg
+    xw.race.leg = deadly.die
+    try:
+        with concurrent.futures.ProcessPoolExecutor(1) as executor:
+            raises(concurrent.futures.process.BrokenProcessPool, lambda: xw.best(GRADED, b"size 2 2\n", workers=1, executor=executor))
+    finally:
+        xw.race.leg = leg
+
+
+@test
+def a_cluster_loses_nothing(room):
+    """Puzzles and a race on a scheduler and two workers of Dask, one of which is killed."""
+    needs(DASK)
+    env = {**os.environ, "PYTHONPATH": f"{TOP / 'python'}:{TOP / 'tests/python'}"}
+    ended = subprocess.run(["/usr/bin/python3", TOP / "tests/python/cluster.py", room], env=env, capture_output=True, text=True)
+    assert ended.returncode == 0, ended.stderr[-4000:]
+
+
 def is_there(pid):
     try:
         os.kill(pid, 0)
@@ -1173,23 +1205,20 @@ def wheel_stands_alone(room, wheel):
     assert filled.returncode == 0 and (room / "made.puz").stat().st_size, filled.stderr
 
 
-def main(wheel, *names):
-    passed = failed = skipped = 0
-    for test in (it for it in TESTS if not names or it.__name__ in names):
+def in_a_room(test, wheel):
+    """A function that runs a test, with what it asks for: a folder of its own, and the wheel."""
+
+    def case():
         with tempfile.TemporaryDirectory() as folder:
             there = {"room": pathlib.Path(folder), "wheel": wheel}
-            try:
-                test(**{name: there[name] for name in inspect.signature(test).parameters})
-                passed += 1
-            except Skipped as reason:
-                skipped += 1
-                print(f"skipped: {test.__name__}: {reason}")
-            except Exception:
-                failed += 1
-                print(f"FAILED: {test.__name__}\n{traceback.format_exc()}")
-    print(last_line(passed, failed, skipped))
-    return failed
+            test(**{name: there[name] for name in inspect.signature(test).parameters})
+
+    return case
+
+
+def main(wheel, *names):
+    return run_cases({test.__name__: in_a_room(test, wheel) for test in TESTS if not names or test.__name__ in names})
 
 
 if __name__ == "__main__":
-    sys.exit(bool(main(*sys.argv[1:])))
+    sys.exit(main(*sys.argv[1:]))
