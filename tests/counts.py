@@ -10,8 +10,8 @@ name or not. With --complete a skipped check counts as failed. The status is 0 i
 import argparse
 import pathlib
 import re
-import subprocess
 import sys
+import traceback
 
 sys.dont_write_bytecode = True
 
@@ -27,6 +27,11 @@ def last_line(passed, failed, skipped):
     return f"{passed} passed, {failed} failed" + (f", {skipped} skipped" if skipped else "")
 
 
+def reason_of(error):
+    """What a case found, or where it stopped if it says no more."""
+    return error if isinstance(error, AssertionError) and str(error) else f"{error!r}\n{traceback.format_exc()}"
+
+
 def run_cases(cases):
     """Runs cases, which are functions by their names. Prints what went wrong, what was skipped, and the last line. Returns the exit status."""
     passed = failed = skipped = 0
@@ -37,9 +42,9 @@ def run_cases(cases):
         except Skipped as reason:
             skipped += 1
             print(f"skipped: {name}: {reason}")
-        except (AssertionError, OSError, ValueError, subprocess.SubprocessError) as error:
+        except Exception as error:
             failed += 1
-            print(f"FAILED {name}: {error}")
+            print(f"FAILED {name}: {reason_of(error)}")
     print(last_line(passed, failed, skipped))
     return int(failed > 0 or passed + skipped == 0)
 

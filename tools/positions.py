@@ -1,9 +1,8 @@
 """Small random positions, a grid with entries and a list of words, and what is feasible there by the definition."""
 import itertools
-import pathlib
-import subprocess
 
-XW = pathlib.Path(__file__).resolve().parent.parent / "crates/xw/out/xw"
+from compared import answered
+
 LETTERS = "AES"
 
 
@@ -92,10 +91,8 @@ def rows_of(position, entries):
     ]
 
 
-def ask(position, commands):
+def ask(program, position, commands):
     """The commands of a position with these ones, and the lines that the program answers to these."""
     lines = [*position.commands(), *commands]
-    run = subprocess.run([XW, "edit"], input="".join(line + "\n" for line in lines), capture_output=True, text=True, check=False)
-    answered = run.stdout.splitlines()
     setup = len(list(position.commands()))
-    return lines, answered[setup:]
+    return lines, answered(program, lines).splitlines()[setup:]

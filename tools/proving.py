@@ -3,7 +3,6 @@ import contextlib
 import errno
 import fcntl
 import functools
-import graphlib
 import math
 import os
 import pathlib
@@ -16,9 +15,12 @@ import time
 from concurrent import futures
 from shlex import quote
 
+from schedule import SECONDS_A_BYTE, Schedule, span, weights
+
 TOP = pathlib.Path(os.path.realpath(__file__)).parent.parent
 OUT = TOP / "crates/xw/out"
-# for each crate NAME: a folder with its library, NAME.log, and NAME.done, which has the age of its last proof and names the libraries it uses
+# for each crate NAME: a folder with its library; NAME.log; NAME.done, which has the age of its last proof and names the libraries it uses; and NAME.took, with the
+# seconds of processor time that the proof took and its number of processes
 MADE = OUT / "made"
 PROGRAM = OUT / "xw"
 LIBRARY = TOP / "crates/xw_c/out/libxw.a"
@@ -128,8 +130,10 @@ class Build:
     def __init__(self, root, target):
         self.root, self.target = root, target
         self.crates, self.begun, self.lanes = [*under(root), root], time.monotonic(), free_lanes()
-        # the crates that are not proved, those of them at the start, the jobs of those that are being proved, and the processes at work
-        self.due, self.at_start, self.at_work, self.running = [], [], {}, set()
+        # the crates that are not proved, the jobs of those that are being proved, since when, and the processes at work
+        self.due, self.at_work, self.since, self.running = [], {}, {}, set()
+        # for each crate that was proved, the seconds that it took and those of the schedule
+        self.taken = []
         # no process begins while the build ends
         self.is_ending, self.beginning = False, threading.Lock()
 
@@ -154,25 +158,26 @@ class Build:
     # ---- the schedule and the progress
 
     @functools.cached_property
-    def sizes(self):
-        """The bytes of each crate's sources, to which the time of its proof is about proportional."""
+    def schedule(self):
+        """When each crate is proved. One that was never measured has a weight by the bytes of its sources."""
         paths = lambda crate: (path for part in PARTS for path in (TOP / "crates" / crate / part).rglob("*.*"))
-        return {it: 1 + sum(path.stat().st_size for path in paths(it)) for it in self.crates}
+        sized = {it: SECONDS_A_BYTE * (1 + sum(path.stat().st_size for path in paths(it))) for it in self.crates}
+        return Schedule({it: under(it) for it in self.crates}, {**sized, **weights()}, self.lanes)
 
-    def chains(self, crates):
-        """For each of the crates the longest chain of those that wait for one another, from it up, by size."""
-        behind = {}
-        for crate in reversed(crates):
-            behind[crate] = self.sizes[crate] + max((behind[it] for it in behind if crate in uses()[it]), default=0)
-        return behind
+    def left(self):
+        """About how many seconds the rest takes, by the schedule, and by the time that the crates proved so far took; None before the first one."""
+        if not self.taken or not self.due:
+            return None
+        # a minute at the pace of the schedule comes first, since the first crates are small
+        pace = (60 + sum(seconds for seconds, _ in self.taken)) / (60 + sum(planned for _, planned in self.taken))
+        passed = {it: (time.monotonic() - since) / pace for it, since in self.since.items() if it in self.at_work}
+        return pace * max(self.schedule.ends(self.due, self.at_work, passed).values())
 
     def progress(self):
-        """How far the build is, and about how long the rest takes, by the time that the crates proved so far took."""
-        passed = time.monotonic() - self.begun
-        span = lambda crates: max(sum(map(self.sizes.get, crates)) / self.lanes, *self.chains(crates).values(), 0)
-        whole, rest = span(self.at_start), span(self.due)
-        left = f"; about {math.ceil(passed / 60 * rest / (whole - rest))} min left" if 0 < rest < whole else ""
-        return f"{len(self.crates) - len(self.due)} of {len(self.crates)}", f"{int(passed / 60)} min {int(passed % 60):02} s{left}"
+        """How far the build is, and about how long the rest takes."""
+        passed, left = time.monotonic() - self.begun, self.left()
+        told = f"; about {math.ceil(left / 60)} min left" if left else ""
+        return f"{len(self.crates) - len(self.due)} of {len(self.crates)}", f"{int(passed / 60)} min {int(passed % 60):02} s{told}"
 
     def show(self):
         """Shows the progress on one line of the terminal that is overwritten. The terminal cuts off what is too long for the line
@@ -181,37 +186,30 @@ class Build:
         at_work = "".join(f", {it}" for it in self.at_work)
         print(f"\r\033[?7l\033[Kxw: {count} crates proved; {times}{at_work}\033[?7h", end="", file=sys.stderr, flush=True)
 
-    def begin_ready(self, ready, pool, proofs):
-        """Begins with crates that are ready, those with the longest chains first. Each process loads the crates below, so two take a third more
-        processor time than one, and most crates get one once a processor is free. A crate of the longest chain gets half of the processors at
-        once, or all if no other crate can run beside it."""
-        chains = self.chains(self.due)
-        for crate in sorted(ready, key=chains.get, reverse=True):
-            beside = [it for it in self.due if it not in (crate, *under(crate)) and crate not in under(it)]
-            jobs = self.lanes if not beside else (self.lanes + 1) // 2 if chains[crate] == max(chains.values()) else 1
-            if jobs > 1 or sum(self.at_work.values()) < self.lanes:
-                ready.remove(crate)
-                self.at_work[crate] = jobs
-                proofs[pool.submit(self.prove, crate, jobs)] = crate
+    def begin_ready(self, pool, proofs):
+        """Begins with the crates whose time has come."""
+        for crate, jobs in self.schedule.next(self.due, self.at_work).items():
+            self.at_work[crate], self.since[crate] = jobs, time.monotonic()
+            proofs[pool.submit(self.prove, crate, jobs)] = crate
+
+    def end_with(self, crate):
+        """Notes that a crate is proved."""
+        seconds = time.monotonic() - self.since[crate]
+        self.taken.append((seconds, span(self.schedule.weights[crate], self.at_work.pop(crate))))
+        self.due.remove(crate)
+        if not sys.stderr.isatty():
+            print(f"xw: {crate} proved, {'; '.join(self.progress())}", file=sys.stderr, flush=True)
 
     def prove_all(self):
         """Proves side by side the crates that are due, each once the crates below it are proved. Stops at the first that fails."""
-        order, ready, proofs = graphlib.TopologicalSorter({it: {*under(it)} & {*self.due} for it in self.due}), [], {}
-        order.prepare()
-        self.at_start = [*self.due]
+        proofs = {}
         with futures.ThreadPoolExecutor(len(self.crates)) as pool, self.ending():
             while self.due:
-                ready += order.get_ready()
-                self.begin_ready(ready, pool, proofs)
+                self.begin_ready(pool, proofs)
                 # each second shows the time, and a signal that comes just before the wait
                 for proof in futures.wait(proofs, 1, futures.FIRST_COMPLETED).done:
                     proof.result()
-                    crate = proofs.pop(proof)
-                    order.done(crate)
-                    self.due.remove(crate)
-                    del self.at_work[crate]
-                    if not sys.stderr.isatty():
-                        print(f"xw: {crate} proved, {'; '.join(self.progress())}", file=sys.stderr, flush=True)
+                    self.end_with(proofs.pop(proof))
                 if sys.stderr.isatty():
                     self.show()
 
@@ -226,13 +224,13 @@ class Build:
                 for it in self.running:
                     with contextlib.suppress(ProcessLookupError):
                         os.killpg(it.pid, signal.SIGKILL)
-            if self.at_start and sys.stderr.isatty():
+            if self.since and sys.stderr.isatty():
                 print(file=sys.stderr)
 
     # ---- a crate
 
     def run(self, words, log, cwd=TOP):
-        """Runs a command in a process group of its own, with its output in a log. Raises Failed, with the end of the log."""
+        """Runs a command in a process group of its own, with its output in a log. Returns its seconds of processor time. Raises Failed, with the end of the log."""
         with open(log, "ab") as file:
             with self.beginning:
                 if self.is_ending:
@@ -240,10 +238,11 @@ class Build:
                 how = {"stdin": subprocess.DEVNULL, "stdout": file, "stderr": file, "start_new_session": True}
                 it = subprocess.Popen([str(word) for word in words], cwd=cwd, **how)
                 self.running.add(it)
-            status = it.wait()
+            _, waited, used = os.wait4(it.pid, 0)
+            status = it.returncode = os.waitstatus_to_exitcode(waited)
             self.running.discard(it)
         if not status:
-            return
+            return used.ru_utime + used.ru_stime
         text = log.read_text(errors="replace")
         if FULL in text or shutil.disk_usage(MADE).free < 2**20:
             raise Failed(f"the disk is full; the crates that are proved are kept in {MADE.relative_to(TOP)}")
@@ -268,9 +267,11 @@ class Build:
             words += ["--incremental", borrow(kept, folder / "kept")]
         elif crate not in OBJECTS:
             words += ["--statements"]
-        self.run(words, log, TOP / "crates" / crate)
+        seconds = self.run(words, log, TOP / "crates" / crate)
         if crate in OBJECTS:
             self.link(log) if crate == "xw" else self.archive(log)
+        if not kept.is_dir():
+            (MADE / f"{crate}.took").write_text(f"{seconds} {jobs}\n")
         shutil.rmtree(folder / "kept", ignore_errors=True)
         done.write_text(" ".join(uses()[crate]))
         os.utime(done, ns=(begun, begun))

@@ -10,6 +10,9 @@ import sys
 from documents import TOP
 from steps import ACCEPTED, FAILED, SECONDS, compare
 
+sys.path.append(str(TOP / "tools"))
+from schedule import Schedule
+
 # The commands of the kit that a build calls. Each makes the file after -o. The prover fails on a crate with a file named `wrong`, or `full` for a
 # full disk, or `other` if it is of another kit, and waits as long as there is a file named `held`.
 RT = """#!/bin/sh
@@ -42,7 +45,7 @@ MANUAL = ("commands.md", "embedding.md", "formats.md", "front-ends.md", "glossar
 # the examples that are programs are installed as such
 PROGRAMS = ("board.py", "fill.py", "library.py", "race.py", "search.py", "test_board.py")
 FOLDERS = ("grids", "puzzles")
-EXAMPLES = (*PROGRAMS, "search.mjs", "themeless15.xw", *(str(it.relative_to(TOP / "examples")) for name in FOLDERS for it in (TOP / "examples" / name).iterdir()))
+EXAMPLES = (*PROGRAMS, "search.mjs", "starter15.xw", *(str(it.relative_to(TOP / "examples")) for name in FOLDERS for it in (TOP / "examples" / name).iterdir()))
 
 
 def tree(room, program):
@@ -59,6 +62,7 @@ def tree(room, program):
         shutil.copy(TOP / name, room / "top" / name)
     for name in ("docs", "examples", "completions", "tools"):
         shutil.copytree(TOP / name, room / "top" / name)
+    (room / "top/tools/weights.txt").write_text("low 1\nxw 1\n")
 
 
 def call(room, *words, env=None, **more):
@@ -270,7 +274,22 @@ def names_binaryen(room, program):
     compare("message", ended.stderr, b"xw: the module for the web needs wasm-opt; install binaryen (apt-get install binaryen)\n")
 
 
+def schedules(room, program):
+    """A crate that is alone gets all processors, one of the longest chain its share of them, and one beside it a single one."""
+    below = {"low": [], "long": ["low"], "short": ["low"], "small": ["low"], "top": ["low", "long", "short", "small"]}
+    schedule = Schedule(below, {"low": 40, "long": 90, "short": 60, "small": 30, "top": 20}, 4)
+    due = list(below)
+    compare("at first", schedule.next(due, {}), {"low": 4})
+    compare("above it", schedule.next(due[1:], {}), {"long": 2, "short": 1, "small": 1})
+    compare("at last", schedule.next(["top"], {}), {"top": 4})
+    # two processes take two thirds of the time of one, and four a half
+    compare("ends", schedule.ends(due), {"low": 20, "small": 50, "short": 80, "long": 80, "top": 90})
+    compare("ends of the rest", schedule.ends(due[1:], {"long": 2}, {"long": 45}), {"long": 15, "small": 30, "short": 60, "top": 70})
+
+
 CASES = {
+    "schedule": [schedules],
+} | {
     name: [tree, step]
     for name, step in {
         "progress without a terminal": tells_a_line_a_crate,

@@ -204,7 +204,7 @@ def calls_accepted(room, program):
 def puzzle_made(room, program):
     """Makes monday.puz, and monday.txt with an empty cell in row 3, column 4."""
     letters = "".join(f"set {row} {column} A\n" for row in range(1, 16) for column in range(1, 16))
-    (room / "grid.xw").symlink_to(TOP / "examples/themeless15.xw")
+    (room / "grid.xw").symlink_to(TOP / "examples/starter15.xw")
     lights = call(room, program, "edit --resume grid.xw --to monday.puz", (letters + "lights\n").encode()).stdout.decode()
     clues = "".join(f"clue {name} x\n" for name in re.findall(r"^(\d+ (?:across|down)) ", lights, re.M))
     call(room, program, "edit --from monday.puz --to monday.txt", clues.encode())

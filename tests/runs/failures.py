@@ -4,10 +4,10 @@ import errno
 import pathlib
 import re
 
+from cases import dialogues, exchange
 from failing import ALL, INPUT, OUTPUT, Failing, each_failing
 from samples import PLAIN, TEXT
-from sessions.square import IN_THE_SQUARE, SQUARE
-from steps import ACCEPTED, FAILED, FIRST, REFUSED, compare, exchange, link, scripts, write
+from steps import ACCEPTED, FAILED, FIRST, REFUSED, compare, link, write
 
 from runs.journals import CUT, record
 
@@ -283,7 +283,7 @@ SQUARES = [
 
 def is_broken_off(name):
     """Lets the input and the output of a script fail at each of their calls: the answers are whole up to there."""
-    typed, output = exchange(SQUARE + scripts(IN_THE_SQUARE)[name])
+    typed, output = exchange(dialogues("sessions/square")[name])
     answers = [b""]
     for line in output.splitlines(keepends=True):
         answers[-1] += line
