@@ -451,9 +451,12 @@ def an_interrupt_ends_a_search():
     for call in (lambda: session.autofill(10**6), lambda: list(session.best(10**6))):
         session = Searched(interrupted)
         session.set(1, 1, "a")
+        # a process in the background ignores the signal
+        handler = signal.signal(signal.SIGINT, signal.default_int_handler)
         try:
             raises(KeyboardInterrupt, call)
         finally:
+            signal.signal(signal.SIGINT, handler)
             xw.slices.clock = time.monotonic
         assert session.sent == [1000, 1000] and session.rows()[0] == "A" + "-" * 14
 
