@@ -451,12 +451,9 @@ def an_interrupt_ends_a_search():
     for call in (lambda: session.autofill(10**6), lambda: list(session.best(10**6))):
         session = Searched(interrupted)
         session.set(1, 1, "a")
-        # a process in the background ignores the signal
-        handler = signal.signal(signal.SIGINT, signal.default_int_handler)
         try:
             raises(KeyboardInterrupt, call)
         finally:
-            signal.signal(signal.SIGINT, handler)
             xw.slices.clock = time.monotonic
         assert session.sent == [1000, 1000] and session.rows()[0] == "A" + "-" * 14
 
@@ -1220,6 +1217,8 @@ def in_a_room(test, wheel):
 
 
 def main(wheel, *names):
+    # a process that a shell runs in the background ignores the signal, and so do those that it starts
+    signal.signal(signal.SIGINT, signal.default_int_handler)
     return run_cases({test.__name__: in_a_room(test, wheel) for test in TESTS if not names or test.__name__ in names})
 
 
