@@ -3,7 +3,7 @@ use Rattle.std.proofs.Common.{◌≡◌, ℕ, ◌+◌, ◌<◌, ◌≤◌, bit_o
 use Rattle.std.proofs.lemmas.Bool.{cases_lt}
 use Rattle.std.proofs.lemmas.Nat.{le_or_l, le_or_r}
 
-none_of_two : (a b : ℕ) → bit_or a b ≡ 0 → (a ≡ 0) × (b ≡ 0)
+pub none_of_two : (a b : ℕ) → bit_or a b ≡ 0 → (a ≡ 0) × (b ≡ 0)
 none_of_two a b none = (omega (arith, le_or_l a b), omega (arith, le_or_r a b))
 
 pub none_of_four : (f : ℕ → ℕ) (at : ℕ) → bit_or (bit_or (bit_or (f at) (f (at + 1))) (f (at + 2))) (f (at + 3)) ≡ 0 → (k : ℕ) → at ≤ k → k < at + 4 → f k ≡ 0

@@ -1,8 +1,8 @@
 -- Rows of bits: their length, their bits, and how an operation on words changes them.
-use Rattle.std.proofs.Common.{length-set, ◌≡◌, ◌≢◌, ℕ, zero, suc, ◌+◌, ◌-◌, ◌*◌, ◌/◌, ◌%◌, ◌^◌, ◌<◌, ◌≤◌, min, Bool, true, false, cond, not, ◌&&◌, eqb, ltb, set, bit_or, inl, inr, List, [], ◌∷◌, ◌++◌, map, length, get_or, take, sum_by, count_by, count_ones, bit_and, Fits, w64, refl, sym, ap, ◌∙◌, arith, add-zero, pow-suc}
+use Rattle.std.proofs.Common.{length-set, ◌≡◌, ◌≢◌, ℕ, zero, suc, ◌+◌, ◌-◌, ◌*◌, ◌/◌, ◌%◌, ◌^◌, ◌<◌, ◌≤◌, min, max, Bool, true, false, cond, not, ◌&&◌, ◌||◌, eqb, ltb, set, bit_or, inl, inr, List, [], ◌∷◌, ◌++◌, map, length, get_or, take, sum_by, count_by, count_ones, bit_and, Fits, w64, refl, sym, ap, ◌∙◌, arith, add-zero, pow-suc}
 use Rattle.std.specs.Int.{bit_at, bit_not}
 use Rattle.std.specs.List.{range_with_len}
-use Rattle.std.proofs.lemmas.Nat.Bits.{bit_at_and, bit_at_not, bit_at-lt, bit_at_lowest, bit_at-suc, bit_at-zero, bit_at_set_same, bit_at_set_other, bit_at_clear_same, bit_at_clear_other, bit_at_ones, bit_at_ones_above}
+use Rattle.std.proofs.lemmas.Nat.Bits.{bit_at_and, bit_at_or, bit_at_not, bit_at-lt, bit_at_lowest, bit_at-suc, bit_at-zero, bit_at_set_same, bit_at_set_other, bit_at_clear_same, bit_at_clear_other, bit_at_ones, bit_at_ones_above}
 use Rattle.std.proofs.lemmas.List.{same_lists, get_or_default, get_or-set_same, get_or-set_other}
 use Rattle.std.proofs.lemmas.Nat.{one_shl}
 use Rattle.std.proofs.lemmas.Bool.{cases_eq, cases_lt, cond-true, cond-false, eq-eqb, ne_eqb, lt-ltb, le-ltb}
@@ -25,6 +25,15 @@ least_is_one (suc (suc x)) y p q = absurd (omega arith)
 least_is_one zero (suc (suc y)) p q = absurd (omega arith)
 least_is_one (suc zero) (suc (suc y)) p q = absurd (omega arith)
 
+most_is_one : (x y : ℕ) → x < 2 → y < 2 → eqb (max x y) 1 ≡ (eqb x 1 || eqb y 1)
+most_is_one zero zero p q = refl
+most_is_one zero (suc zero) p q = refl
+most_is_one (suc zero) zero p q = refl
+most_is_one (suc zero) (suc zero) p q = refl
+most_is_one (suc (suc x)) y p q = absurd (omega arith)
+most_is_one zero (suc (suc y)) p q = absurd (omega arith)
+most_is_one (suc zero) (suc (suc y)) p q = absurd (omega arith)
+
 less_is_one : (x : ℕ) → x < 2 → eqb (1 - x) 1 ≡ not (eqb x 1)
 less_is_one zero p = refl
 less_is_one (suc zero) p = refl
@@ -38,6 +47,10 @@ pub has_bit-and : (a b k : ℕ) → has_bit (bit_and a b) k ≡ (has_bit a k && 
 unfolding has_bit
 has_bit-and a b k = ap (λ x. eqb x 1) (bit_at_and a b k) ∙ least_is_one (bit_at a k) (bit_at b k) (bit_at-lt a k) (bit_at-lt b k)
 
+pub has_bit-or : (a b k : ℕ) → has_bit (bit_or a b) k ≡ (has_bit a k || has_bit b k)
+unfolding has_bit
+has_bit-or a b k = ap (λ x. eqb x 1) (bit_at_or a b k) ∙ most_is_one (bit_at a k) (bit_at b k) (bit_at-lt a k) (bit_at-lt b k)
+
 pub has_bit-not : (b k : ℕ) → b < 2 ^ 64 → k < 64 → has_bit (bit_not w64 b) k ≡ not (has_bit b k)
 unfolding has_bit
 has_bit-not b k fits lt = ap (λ x. eqb x 1) (bit_at_not w64 b k fits lt) ∙ less_is_one (bit_at b k) (bit_at-lt b k)
@@ -46,6 +59,14 @@ pub has_bit-without : (a b k : ℕ) → b < 2 ^ 64 → k < 64 → has_bit (witho
 has_bit-without a b k fits lt = has_bit-and a (bit_not w64 b) k ∙ ap (λ t. has_bit a k && t) (has_bit-not b k fits lt)
 
 -- ---- a row
+
+-- the bits of a word of a row
+pub word_bit : (ws : List ℕ) (m k : ℕ) → k < 64 → words_have ws (64 * m + k) ≡ has_bit (get_or ws m 0) k
+unfolding words_have
+word_bit ws m k lt =
+    let word : (64 * m + k) / 64 ≡ m = omega arith in
+    let bit : (64 * m + k) % 64 ≡ k = omega arith in
+    ap (λ n. has_bit (get_or ws n 0) ((64 * m + k) % 64)) word ∙ ap (has_bit (get_or ws m 0)) bit
 
 pub length-bits_of : (ws : List ℕ) (n : ℕ) → length (bits_of ws n) ≡ n
 unfolding bits_of

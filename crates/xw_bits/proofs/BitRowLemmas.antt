@@ -9,7 +9,7 @@ use lib.Lanes.{zip2}
 use Rattle.xw_bits.specs.Bits.{RowOfBits, words_have, bits_of, has_bit}
 use Rattle.xw_bits.specs.BitRow.{row_of, IsBitRow}
 use Rattle.xw_bits.specs.declared.bit_row.BitRow.TheInside.{Inside}
-use Rattle.xw_bits.proofs.BitLemmas.{has_bit-none, has_bit-and, length-bits_of, get_or-bits_of, bits_of_is, count-nothing_past, bits_of-combined, words_have-set_same, words_have-set_other}
+use Rattle.xw_bits.proofs.BitLemmas.{has_bit-none, has_bit-and, word_bit, length-bits_of, get_or-bits_of, bits_of_is, count-nothing_past, bits_of-combined, words_have-set_same, words_have-set_other}
 
 pub view_len : (r : Inside) {v : RowOfBits} → row_of r ≡ v → r.len ≡ length v.bits
 view_len r is = sym (length-bits_of r.words.items r.len) ∙ ap (λ (x : RowOfBits). length x.bits) is
@@ -48,21 +48,6 @@ view-combined g r s {v} {w} ws is is_other same each =
     ∙ ap (λ bs. zip2 g bs (bits_of s.words.items r.len)) (view_bits r is)
     ∙ ap (λ n. zip2 g v.bits (bits_of s.words.items n)) same
     ∙ ap (zip2 g v.bits) (view_bits s is_other)
-
--- the same bit by bit, for rows of the same length
-pub combined_bit : (g : Bool → Bool → Bool) (r s : Inside) {v w : RowOfBits} (ws : List ℕ) → row_of r ≡ v → row_of s ≡ w → IsBitRow r → IsBitRow s
-    → ((i : ℕ) → words_have ws i ≡ g (words_have r.words.items i) (words_have s.words.items i)) → ((b : Bool) → g false b ≡ false)
-    → (i : ℕ) → get_or (bits_of ws r.len) i false ≡ g (get_or v.bits i false) (get_or w.bits i false)
-combined_bit g r s {v} {w} ws is is_other inv inv_other each none i =
-    elim (cases_lt i r.len) [
-      | inl lt ↦
-          get_or-bits_of ws r.len i false lt ∙ each i
-          ∙ ap (λ b. g b (words_have s.words.items i)) (sym (bit_is r is inv i))
-          ∙ ap (g (get_or v.bits i false)) (sym (bit_is s is_other inv_other i))
-      | inr le ↦
-          get_or_past (bits_of ws r.len) i false (omega (arith, le, length-bits_of ws r.len))
-          ∙ sym (ap (λ b. g b (get_or w.bits i false)) (get_or_past v.bits i false (omega (arith, le, view_len r is))) ∙ none (get_or w.bits i false))
-    ]
 
 -- if no bit past the end is set, the count over all words is the count of the row
 pub counted_whole : (ws : List ℕ) (n : ℕ) → n ≤ 64 * length ws → ((i : ℕ) → n ≤ i → words_have ws i ≡ false) → count_by (λ b. b) (bits_of ws (64 * length ws)) ≡ count_by (λ b. b) (bits_of ws n)
@@ -145,19 +130,12 @@ module _ (r : Inside) {v : RowOfBits} (is : row_of r ≡ v) (inv : IsBitRow r) (
   abbrev pub left : ℕ
   left = bit_and (get_or r.words.items chunk 0) word
 
-  pub own_bit : (k : ℕ) → k < 64 → words_have r.words.items (64 * chunk + k) ≡ has_bit (get_or r.words.items chunk 0) k
-  unfolding words_have
-  own_bit k lt =
-      let there : (64 * chunk + k) / 64 ≡ chunk = omega arith in
-      let bit : (64 * chunk + k) % 64 ≡ k = omega arith in
-      ap (λ n. has_bit (get_or r.words.items n 0) ((64 * chunk + k) % 64)) there ∙ ap (has_bit (get_or r.words.items chunk 0)) bit
-
   pub left_low : (k : ℕ) → k < 64 → has_bit left k ≡ (ltb k (min (r.len - 64 * chunk) 64) && has_bit left k)
   left_low k lt = elim (cases_lt k (min (r.len - 64 * chunk) 64)) [
     | inl below ↦ sym (ap (λ t. t && has_bit left k) (lt-ltb k (min (r.len - 64 * chunk) 64) below))
     | inr past ↦
         has_bit-and (get_or r.words.items chunk 0) word k
-        ∙ ap (λ t. t && has_bit word k) (sym (own_bit k lt) ∙ inv.nothing_past (64 * chunk + k) (omega (arith, past, lt)))
+        ∙ ap (λ t. t && has_bit word k) (sym (word_bit r.words.items chunk k lt) ∙ inv.nothing_past (64 * chunk + k) (omega (arith, past, lt)))
         ∙ sym (ap (λ t. t && has_bit left k) (le-ltb k (min (r.len - 64 * chunk) 64) past))
   ]
 
@@ -166,7 +144,7 @@ module _ (r : Inside) {v : RowOfBits} (is : row_of r ≡ v) (inv : IsBitRow r) (
     | inl below ↦
         replaced_inside r is inv chunk left left within left_low k lt below
         ∙ has_bit-and (get_or r.words.items chunk 0) word k
-        ∙ ap (λ t. t && has_bit word k) (sym (own_bit k lt) ∙ sym (bit_is r is inv (64 * chunk + k)))
+        ∙ ap (λ t. t && has_bit word k) (sym (word_bit r.words.items chunk k lt) ∙ sym (bit_is r is inv (64 * chunk + k)))
     | inr past ↦
         get_or_past (bits_of (set r.words.items chunk left) r.len) (64 * chunk + k) false (omega (arith, past, view_len r is, length-bits_of (set r.words.items chunk left) r.len))
         ∙ sym (ap (λ t. t && has_bit word k) (get_or_past v.bits (64 * chunk + k) false past))
@@ -181,7 +159,7 @@ put_low r is inv i bit word within each k lt = elim (cases_lt k (min (r.len - 64
   | inr past ↦
       each k lt
       ∙ cond-false (eqb k (i % 64)) bit (has_bit (get_or r.words.items (i / 64) 0) k) (ne_eqb k (i % 64) (λ e. omega (arith, e, past, within, view_len r is)))
-      ∙ sym (own_bit r is inv (i / 64) 0 (omega (arith, within)) k lt)
+      ∙ sym (word_bit r.words.items (i / 64) k lt)
       ∙ inv.nothing_past (64 * (i / 64) + k) (omega (arith, past, lt))
       ∙ sym (ap (λ t. t && has_bit word k) (le-ltb k (min (r.len - 64 * (i / 64)) 64) past))
 ]

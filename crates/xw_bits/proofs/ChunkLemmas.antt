@@ -32,9 +32,6 @@ module _ (f : ℕ → Bool) (chunk word : ℕ) (bits : (k : ℕ) → k < 64 → 
       at_index i low high ∙ ap (λ w. has_bit w (i - 64 * chunk)) zero_word ∙ has_bit-none (i - 64 * chunk)
 
   -- the lowest set bit
-  pub lowest_within : 0 < word → word < 2 ^ 64 → trailing_zeros w64 word < 64
-  lowest_within some fits = (bit_at-trailing_zeros w64 word some fits).0
-
   pub lowest_passes : 0 < word → word < 2 ^ 64 → f (64 * chunk + trailing_zeros w64 word) ≡ true
   unfolding has_bit
   lowest_passes some fits =

@@ -8,3 +8,6 @@ pub mod ChunkLemmas
 pub mod Apart
 pub mod RowBlocks
 pub mod Summaries
+pub mod Marks
+pub mod MarkedWords
+pub mod KeptBlocks

@@ -1,5 +1,5 @@
 -- Changes of words or marks that keep the summary right.
-use Rattle.std.proofs.Common.{◌≡◌, ℕ, ◌+◌, ◌*◌, ◌/◌, ◌%◌, ◌<◌, ◌≤◌, Bool, true, false, cond, ◌&&◌, eqb, set, bit_and, List, [], length, get_or, Option, Some, None, IfSome, IfNone, refl, sym, ap, ◌∙◌, inl, inr, subst, arith}
+use Rattle.std.proofs.Common.{◌≡◌, ℕ, ◌+◌, ◌*◌, ◌/◌, ◌%◌, ◌<◌, ◌≤◌, Bool, true, false, cond, ◌&&◌, eqb, set, bit_and, List, [], length, get_or, Option, Some, None, IfSome, IfNone, is_some, refl, sym, ap, ◌∙◌, inl, inr, subst, arith}
 use Rattle.std.proofs.lemmas.Bool.{cases_lt, cases_eq, cond-true, cond-false, eq-eqb, ne_eqb, both_ways}
 use Rattle.std.specs.Prelude.{Vec, replicate}
 use Rattle.std.specs.Vec.{with_items}
@@ -84,6 +84,14 @@ other_clear false b none = refl
 pub if_some : {A : Type 0} (o : Option A) {P Q : A → Type 0} → ((x : A) → P x → Q x) → IfSome o P → IfSome o Q
 if_some None f is = tt
 if_some (Some x) f is = f x is
+
+pub if_some_both : {A : Type 0} (o : Option A) {P Q R : A → Type 0} → ((x : A) → P x → Q x → R x) → IfSome o P → IfSome o Q → IfSome o R
+if_some_both None f is is_too = tt
+if_some_both (Some x) f is is_too = f x is is_too
+
+pub none_is : {A : Type 0} (o : Option A) {P : Type 0} → is_some o ≡ false → IfNone o P → P
+none_is None none is = is
+none_is (Some x) none is = absurd (both_ways true none refl)
 
 pub if_none : {A : Type 0} (o : Option A) {P Q : Type 0} → (P → Q) → IfNone o P → IfNone o Q
 if_none None f is = f is

@@ -8,8 +8,8 @@ ghost use Rattle.xw_bits.specs.Bits.{RowOfBits, has_bit, chunk_bit};
 ghost use Rattle.xw_bits.specs.SetBits.{set_indices};
 
 use crate::kernels::{
-    block_at, count_after, count_words, is_within, keep_at, low_bits, make_room_for_bit,
-    next_common, sift_words, with_bit,
+    block_at, copy_marked, count_after, count_kept, count_words, keep_at, low_bits,
+    make_room_for_bit, next_common, sift_words, with_bit,
 };
 use crate::ones::{Ones, next_one};
 use crate::summary::{make_room_for_mark, next_both, put_bit, put_word, unmark_block};
@@ -22,9 +22,9 @@ pub const MAX_BITS: usize = 0x1FF_FFFF_FFFF_FFFF;
 
 /// A row of bits, packed 64 to a word.
 ///
-/// The row caches the number of set bits once `keep_count` has counted them. `set_chunk`, `put` and
-/// a `push` of a clear bit keep the cache up to date, and `copy_from` copies that of the other row;
-/// every other change drops it.
+/// The row caches the number of set bits once `keep_count` has counted them. `keep_block`,
+/// `strike_block`, `keep_chunk`, `set_chunk`, `put` and a `push` of a clear bit keep the cache up to
+/// date, and `copy_from` copies that of the other row; every other change drops it.
 #[derive(Drop)]
 pub struct BitRow {
     words: Vec<u64>,
@@ -120,8 +120,12 @@ impl BitRow {
         ensures room { self.new.room ≡ self.old.room }
     {
         self.counted = other.counted;
-        self.words.as_mut_slice().copy_from_slice(&other.words);
-        self.summary.as_mut_slice().copy_from_slice(&other.summary);
+        copy_marked(
+            &mut self.words,
+            &mut self.summary,
+            &other.words,
+            &other.summary,
+        );
     }
 
     /// Clears all bits. The length stays.
@@ -152,10 +156,7 @@ impl BitRow {
         ensures above { (i : ℕ) → 64 * at + 512 ≤ i → slice_index_or self.new.bits i false ≡ slice_index_or self.old.bits i false }
         ensures room { self.new.room ≡ self.old.room }
     {
-        if is_within(&self.words, at, block) {
-            return;
-        }
-        self.counted = None;
+        self.counted = count_kept(&self.words, at, block, self.counted);
         keep_at(&mut self.words, at, block);
         unmark_block(&self.words, &mut self.summary, at);
     }

@@ -1,7 +1,7 @@
 //! Bit operations on slices of 64-bit words. The loops take several words per step, then the rest
 //! one by one.
-ghost use Rattle.std.specs.Prelude.{◌≡◌, ℕ, ◌+◌, ◌*◌, ◌/◌, ◌^◌, ◌<◌, ◌≤◌, length, slice_index, bit_and, sum_by, count_by, count_ones, slice_range, slice_set, not, ◌&&◌, ◌==◌, nat_lt, if◌then◌else◌, true, false, vec_len, vec_capacity, IfSome, IfNone};
-ghost use Rattle.xw_bits.specs.Bits.{has_bit, words_have, bits_of};
+ghost use Rattle.std.specs.Prelude.{◌≡◌, ℕ, ◌+◌, ◌-◌, ◌*◌, ◌/◌, ◌^◌, ◌<◌, ◌≤◌, length, slice_index, bit_and, sum_by, count_by, count_ones, slice_range, slice_set, not, ◌&&◌, ◌==◌, nat_lt, if◌then◌else◌, true, false, vec_len, vec_capacity, IfSome, IfNone};
+ghost use Rattle.xw_bits.specs.Bits.{has_bit, words_have, bits_of, block_kept};
 ghost use Rattle.xw_bits.specs.Summary.{IsSummary};
 
 use crate::summary::{next_both, sift_word};
@@ -95,6 +95,28 @@ fn joined(words: &[u64], at: usize) -> u64
     words[at] | words[at + 1] | words[at + 2] | words[at + 3]
 }
 
+/// The index of the first word that has a set bit in common with the word of `other` at the same index, among those
+/// with a mark. Bit k of `marks` is the mark of the word at `first + k`.
+fn common_in(words: &[u64], other: &[u64], first: usize, marks: u64) -> Option<usize>
+    requires small { first < 2 ^ 63 }
+    requires words { (k : ℕ) → k < 64 → has_bit marks k ≡ true → first + k < length words.now }
+    requires other { (k : ℕ) → k < 64 → has_bit marks k ≡ true → first + k < length other.now }
+    ensures found { IfSome result (λ at. (first ≤ at) × (at < first + 64) × (has_bit marks (at - first) ≡ true)) }
+    ensures common { IfSome result (λ at. 0 < bit_and (slice_index words.now at) (slice_index other.now at)) }
+    ensures passed { IfSome result (λ at. (k : ℕ) → k < 64 → first + k < at → has_bit marks k ≡ true → bit_and (slice_index words.now (first + k)) (slice_index other.now (first + k)) ≡ 0) }
+    ensures none { IfNone result ((k : ℕ) → k < 64 → has_bit marks k ≡ true → bit_and (slice_index words.now (first + k)) (slice_index other.now (first + k)) ≡ 0) }
+{
+    let mut left = marks;
+    while left != 0 {
+        let chunk = first + left.trailing_zeros() as usize;
+        if words[chunk] & other[chunk] != 0 {
+            return Some(chunk);
+        }
+        left &= left - 1;
+    }
+    None
+}
+
 /// The index of the first word, from `from` on, that has a set bit in common with the word of
 /// `other` at the same index. Visits only words that are marked in both summaries.
 pub fn next_common(
@@ -111,12 +133,21 @@ pub fn next_common(
     ensures passed { IfSome result (λ at. (k : ℕ) → from ≤ k → k < at → bit_and (slice_index words.now k) (slice_index other.now k) ≡ 0) }
     ensures none { IfNone result ((k : ℕ) → from ≤ k → bit_and (slice_index words.now k) (slice_index other.now k) ≡ 0) }
 {
-    let mut at = from;
-    while let Some(chunk) = next_both(summary, other_summary, at) {
-        if words[chunk] & other[chunk] != 0 {
-            return Some(chunk);
+    let many = summary.len().min(other_summary.len());
+    let mut part = from / 64;
+    let mut mask = u64::MAX << (from % 64);
+    while part < many {
+        let found = common_in(
+            words,
+            other,
+            64 * part,
+            summary[part] & other_summary[part] & mask,
+        );
+        if found.is_some() {
+            return found;
         }
-        at = chunk + 1;
+        part += 1;
+        mask = u64::MAX;
     }
     None
 }
@@ -135,14 +166,6 @@ pub fn is_clear_block(words: &[u64], at: usize) -> bool
     ensures { result ≡ true → (k : ℕ) → at ≤ k → k < at + 8 → slice_index words.now k ≡ 0 }
 {
     joined(words, at) | joined(words, at + 4) == 0
-}
-
-/// Whether `block` has every bit that is set in the eight words from `at` on.
-pub fn is_within(words: &[u64], at: usize, block: u64x8) -> bool
-    requires { at + 8 ≤ length words.now }
-    ensures { result ≡ true → (chunk k : ℕ) → chunk < 8 → k < 64 → has_bit (slice_index words.now (at + chunk)) k ≡ (has_bit (slice_index words.now (at + chunk)) k && has_bit (slice_index block chunk) k) }
-{
-    is_clear_block((u64x8::from_slice(&words[at..]) & !block).as_array(), 0)
 }
 
 /// Intersects the eight words from `at` on with `block`.
@@ -189,4 +212,68 @@ pub fn with_bit(word: u64, i: usize, bit: bool) -> u64
     ensures { (k : ℕ) → k < 64 → has_bit result k ≡ (if k == i then bit else has_bit word k) }
 {
     if bit { word | 1 << i } else { word & !(1 << i) }
+}
+
+/// Makes the words and their summary those of `other`. Visits only the words that are marked in one of the summaries.
+pub fn copy_marked(words: &mut [u64], summary: &mut [u64], other: &[u64], other_summary: &[u64])
+    requires same { length words.old ≡ length other.now }
+    requires same_summary { length summary.old ≡ length other_summary.now }
+    requires summary { IsSummary words.old summary.old }
+    requires other { IsSummary other.now other_summary.now }
+    requires small { length words.old < 2 ^ 57 }
+    requires few { length summary.old < 2 ^ 57 }
+    ensures words { words.new ≡ other.now }
+    ensures summary { summary.new ≡ other_summary.now }
+{
+    for part in 0..summary.len() {
+        let marks = summary[part] | other_summary[part];
+        if marks == 0 {
+            continue;
+        }
+        copy_part(words, other, 64 * part, marks);
+        summary[part] = other_summary[part];
+    }
+}
+
+/// Makes the 64 words from `first` on those of `other`, where words without a mark are the same already. Bit k of
+/// `marks` is the mark of the word at `first + k`.
+fn copy_part(words: &mut [u64], other: &[u64], first: usize, marks: u64)
+    requires same { length words.old ≡ length other.now }
+    requires small { length words.old < 2 ^ 57 }
+    requires within { first < length words.old }
+    requires marked { (k : ℕ) → k < 64 → has_bit marks k ≡ true → first + k < length words.old }
+    requires unmarked { (k : ℕ) → k < 64 → has_bit marks k ≡ false → slice_index words.old (first + k) ≡ slice_index other.now (first + k) }
+    ensures below { (k : ℕ) → k < first → slice_index words.new k ≡ slice_index words.old k }
+    ensures inside { (k : ℕ) → k < 64 → slice_index words.new (first + k) ≡ slice_index other.now (first + k) }
+    ensures above { (k : ℕ) → first + 64 ≤ k → slice_index words.new k ≡ slice_index words.old k }
+{
+    if marks.count_ones() >= 16 {
+        let end = (first + 64).min(words.len());
+        words[first..end].copy_from_slice(&other[first..end]);
+        return;
+    }
+    let mut left = marks;
+    while left != 0 {
+        let at = first + left.trailing_zeros() as usize;
+        words[at] = other[at];
+        left &= left - 1;
+    }
+}
+
+/// The number of set bits after the eight words from `at` on are intersected with `block`. `counted` is the number before;
+/// `None` if it is not known, and then the result is `None` too.
+pub fn count_kept(words: &[u64], at: usize, block: u64x8, counted: Option<usize>) -> Option<usize>
+    requires within { at + 8 ≤ length words.now }
+    requires small { length words.now < 2 ^ 57 }
+    requires counted { IfSome counted (λ count. count ≡ count_by (λ bit. bit) (bits_of words.now (64 * length words.now))) }
+    ensures { IfSome result (λ count. count ≡ count_by (λ bit. bit) (bits_of (block_kept words.now at block) (64 * length words.now))) }
+{
+    let count = counted?;
+    let gone = u64x8::from_slice(&words[at..]) & !block;
+    let gone = gone.to_array();
+    let mut cleared = 0;
+    for k in 0..8 {
+        cleared += gone[k].count_ones() as usize;
+    }
+    Some(count - cleared)
 }

@@ -9,7 +9,7 @@ use Rattle.xw_words.specs.declared.bank.Added.{Added}
 use Rattle.xw_words.specs.declared.bank.Added.TheVariants.{New, Returned}
 use Rattle.xw_letters.specs.Letter.{folded}
 use Rattle.xw_words.specs.Word.{is_bad_letter, is_word_length, judged, word_of}
-use Rattle.xw_words.specs.Dictionary.{Entry, Dictionary, row, entry_at, index_in, index_of_word, most_words, added_at, add_to, answer_on, add_answer, IsNew}
+use Rattle.xw_words.specs.Dictionary.{Entry, Dictionary, known_words, entry_at, index_in, index_of_word, most_words, added_at, add_to, answer_on, add_answer, IsNew}
 use Rattle.xw_words.proofs.DictionaryLemmas.{judged-Ok}
 
 -- the bytes spell a word of a valid length that is not known, and the dictionary has room for it
@@ -18,8 +18,8 @@ pub record IsNewWord (words : Dictionary) (bytes : List ℕ) : Type 0 where
   pub low : 2 ≤ length bytes
   pub high : length bytes ≤ 255
   pub unknown : index_of_word words (map folded bytes) ≡ None
-  pub few : length (row words (length bytes)) < most_words
-  pub answer : add_answer words bytes ≡ Ok (New (length (row words (length bytes))))
+  pub few : length (known_words words (length bytes)) < most_words
+  pub answer : add_answer words bytes ≡ Ok (New (length (known_words words (length bytes))))
 
 judged_same : (bad : Option ℕ) (len : ℕ) (x y : List ℕ) → judged bad len x ≡ Ok y → y ≡ x
 judged_same (Some index) len x y h = cc
@@ -46,12 +46,12 @@ new_word words bytes new = split (word_of bytes) refl new where
       let fit = judged-Ok {X = List ℕ} (position is_bad_letter bytes) (length bytes) (map folded bytes) word is in
       let same : word ≡ map folded bytes = judged_same (position is_bad_letter bytes) (length bytes) (map folded bytes) word is in
       let long : length word ≡ length bytes = ap length same ∙ length-map bytes folded in
-      let found = new_index (row words (length word)) (index_in (row words (length word)) word) h in
+      let found = new_index (known_words words (length word)) (index_in (known_words words (length word)) word) h in
       record {
         letters = fit.0;
         low = fit.1;
         high = fit.2;
         unknown = ap (index_of_word words) (sym same) ∙ found.0;
-        few = subst (λ n. length (row words n) < most_words) long found.1.0;
-        answer = ap (answer_on add_to words) is ∙ found.1.1 ∙ ap (λ n. Ok (New (length (row words n)))) long;
+        few = subst (λ n. length (known_words words n) < most_words) long found.1.0;
+        answer = ap (answer_on add_to words) is ∙ found.1.1 ∙ ap (λ n. Ok (New (length (known_words words n)))) long;
       }

@@ -1,12 +1,12 @@
 -- Lemmas about the board of a grid, and about words that agree with its letters.
-use Rattle.std.proofs.Common.{◌≡◌, ℕ, ◌+◌, ◌-◌, ◌*◌, ◌<◌, ◌≤◌, Bool, true, false, ◌&&◌, eqb, List, [], ◌∷◌, map, length, get_or, drop, Some, None, refl, sym, ◌∙◌, ap, subst, arith, inl, inr}
+use Rattle.std.proofs.Common.{◌≡◌, ℕ, zero, suc, ◌+◌, ◌-◌, ◌*◌, ◌<◌, ◌≤◌, Bool, true, false, ◌&&◌, eqb, List, [], ◌∷◌, map, length, get_or, drop, Some, None, refl, sym, ◌∙◌, ap, subst, arith, inl, inr}
 use Rattle.std.specs.Prelude.{slice_get, All, is_some}
 use Rattle.xw_letters.specs.Letter.{is_capital}
 use Rattle.xw_letters.proofs.LetterSetLemmas.{has-none}
 use Rattle.std.specs.List.{range_with_len}
 use Rattle.std.proofs.Math.Nat.{add-mul}
 use Rattle.std.proofs.lemmas.Nat.{mul-le}
-use Rattle.std.proofs.lemmas.Bool.{cases_lt, cases_eq, ne_eqb}
+use Rattle.std.proofs.lemmas.Bool.{cases_lt, cases_eq, ne_eqb, and_parts, false≢true}
 use Rattle.std.proofs.lemmas.List.{drop_more, drop_all, get_or-map, get_or_past, length-map}
 use Rattle.std.proofs.lemmas.List.FromFn.{length-map-range_with_len, get_or-map-range_with_len}
 use Rattle.std.proofs.lemmas.Option.{slice_get-get_or, get_or_from_slice_get, slice_get_cases}
@@ -27,6 +27,20 @@ pub agrees_more : (board : Board) (cells letters : List ℕ) (k : ℕ) → k < l
 agrees_more board cells letters k below same here =
     let below' : k < length letters = omega arith in
     rw (drop_more cells k 0 below, drop_more letters k 0 below', here) refl
+
+-- each cell allows the letter of a word that agrees
+pub agrees_at : (board : Board) (cells word : List ℕ) → agrees board cells word ≡ true → (k : ℕ) → k < length cells → allows (entry board (get_or cells k 0)) (get_or word k 0) ≡ true
+agrees_at board [] word all k below = absurd (omega (arith, below))
+agrees_at board (cell ∷ cells) [] all k below = absurd (false≢true all)
+agrees_at board (cell ∷ cells) (letter ∷ word) all zero below = (and_parts (allows (entry board cell) letter) (agrees board cells word) all).0
+agrees_at board (cell ∷ cells) (letter ∷ word) all (suc k) below = agrees_at board cells word (and_parts (allows (entry board cell) letter) (agrees board cells word) all).1 k (omega (arith, below))
+
+-- and the word has as many letters
+pub agrees_length : (board : Board) (cells word : List ℕ) → agrees board cells word ≡ true → length word ≡ length cells
+agrees_length board [] [] all = refl
+agrees_length board [] (letter ∷ word) all = absurd (false≢true all)
+agrees_length board (cell ∷ cells) [] all = absurd (false≢true all)
+agrees_length board (cell ∷ cells) (letter ∷ word) all = ap suc (agrees_length board cells word (and_parts (allows (entry board cell) letter) (agrees board cells word) all).1)
 
 -- one more cell that has a letter, and one that has none
 pub entered_more : (board : Board) (cells : List ℕ) (k : ℕ) → k < length cells → is_some (entry board (get_or cells k 0)) ≡ true → is_wholly_entered board (drop k cells) ≡ is_wholly_entered board (drop (k + 1) cells)

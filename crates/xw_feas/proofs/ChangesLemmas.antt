@@ -3,7 +3,7 @@ use Rattle.std.proofs.Common.{◌≡◌, ℕ, suc, ◌+◌, ◌-◌, ◌*◌, �
 use Rattle.std.specs.Prelude.{bytes_eq}
 use Rattle.std.specs.List.{range_with_len}
 use Rattle.std.proofs.lemmas.List.Elements.{filter_agree}
-use Rattle.xw_grid.specs.Grid.{Grid, IsGrid, cell_at, index_of, is_open as cell_is_open, is_open_square}
+use Rattle.xw_grid.specs.Grid.{Grid, IsGrid, cell_at, index_of, is_open as grid_is_open, is_open_square}
 use Rattle.std.specs.Prelude.{slice_get, None}
 use Rattle.xw_grid.proofs.GridLemmas.{cell_at-inside, index_of-cell_at}
 use Rattle.xw_feas.specs.Board.{board_of, is_open}
@@ -12,7 +12,7 @@ use Rattle.xw_feas.specs.Changes.{letters_of, letters_at, cells_that_differ, cha
 use Rattle.xw_feas.proofs.BoardLemmas.{is_open-square}
 
 -- a cell of the grid is open if and only if it is open on the board
-pub open_index : (grid : Grid) (index : ℕ) → IsGrid grid → index < grid.width * grid.height → cell_is_open grid (cell_at grid index) ≡ is_open (board_of grid) index
+pub open_index : (grid : Grid) (index : ℕ) → IsGrid grid → index < grid.width * grid.height → grid_is_open grid (cell_at grid index) ≡ is_open (board_of grid) index
 open_index grid index is within =
     let inside = cell_at-inside grid index is within in
     ap (λ b. is_open_square (cond b (slice_get grid.squares (index_of grid (cell_at grid index))) None)) inside

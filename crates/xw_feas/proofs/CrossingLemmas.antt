@@ -12,7 +12,7 @@ use Rattle.xw_grid.specs.Grid.{Grid, index_of, cell_at}
 use Rattle.xw_grid.specs.Light.{step, lights_of, no_light, same_direction, is_on_line, holds, passes, index_through}
 use Rattle.xw_grid.proofs.GridLemmas.{cell_at-index_of, index_of-cell_at}
 use Rattle.xw_grid.proofs.OrderLemmas.{lights_are_apart}
-use Rattle.xw_grid.proofs.LightTableLemmas.{held_step, index_is as through_is}
+use Rattle.xw_grid.proofs.LightTableLemmas.{held_step, index_is as light_table_lemmas_index_is}
 use Rattle.xw_feas.specs.Board.{Board, board_of, light_at, IsCrossing, other_than, first_found}
 use Rattle.xw_feas.proofs.BoardLemmas.{length-lights}
 use Rattle.xw_feas.proofs.FormedLemmas.{light_in, cell_of, length-light_at, within_lights, index_is, inside_at}
@@ -44,7 +44,7 @@ through_at grid light position cell below meets =
     ap (cell_at grid) (sym meets ∙ index_is grid light position below) ∙ cell_at-index_of grid (cell_of grid light position) (inside_at grid light position below) in
     let there : is_on_line (towards grid light) start size (cell_at grid cell) ≡ true =
     ap (is_on_line (towards grid light) start size) is ∙ on_line (towards grid light) start size position (omega (arith, length-light_at grid light within)) in
-    through_is (lights_of grid) (lights_are_apart grid) (towards grid light) (cell_at grid cell) light no_light within
+    light_table_lemmas_index_is (lights_of grid) (lights_are_apart grid) (towards grid light) (cell_at grid cell) light no_light within
     (and_from (same_direction (towards grid light) (towards grid light)) (is_on_line (towards grid light) start size (cell_at grid cell)) (same_direction_itself (towards grid light)) there)
 
 -- a light that is found passes through the cell

@@ -1,10 +1,10 @@
 -- The elements of lists, tests of all and of some of them, and the parts of a list.
-use Rattle.std.proofs.Common.{◌≡◌, ℕ, set, zero, suc, Bool, true, false, cond, List, [], ◌∷◌, ◌++◌, map, refl, sym, ◌∙◌, ap, subst, arith, inl, inr}
-use Rattle.std.specs.Prelude.{filter, slice_get, Contains}
+use Rattle.std.proofs.Common.{◌≡◌, ℕ, set, zero, suc, Bool, true, false, cond, if◌then◌else◌, List, [], ◌∷◌, ◌++◌, map, refl, sym, ◌∙◌, ap, subst, arith, inl, inr}
+use Rattle.std.specs.Prelude.{All, filter, slice_get, Contains}
 use Rattle.std.specs.List.{list_any, list_all}
 use Rattle.std.proofs.lemmas.Bool.{and_parts, and_from, or_cases, or_left, or_right, cases_Bool, false≢true}
 use Rattle.std.proofs.lemmas.List.{get_or-map, length-map}
-use Rattle.std.proofs.lemmas.List.Elements.{Contains-append_left, Contains-append_right}
+use Rattle.std.proofs.lemmas.List.Elements.{All-push, Contains-append_left, Contains-append_right}
 
 -- ---- elements
 
@@ -34,6 +34,11 @@ slice_get-set_other (y ∷ ys) zero zero x apart = absurd (apart refl)
 slice_get-set_other (y ∷ ys) zero (suc index) x apart = refl
 slice_get-set_other (y ∷ ys) (suc at) zero x apart = refl
 slice_get-set_other (y ∷ ys) (suc at) (suc index) x apart = slice_get-set_other ys at index x (λ e. apart (ap suc e))
+
+-- a fact of all elements after another one was pushed, if there was room for it
+pub all_pushed : {X : Type 0} (P : X → Type 0) (list new : List X) (last : X) (pushed : Bool) → new ≡ (if pushed then list ++ last ∷ [] else list) → P last → All P list → All P new
+all_pushed P list new last true are is all = subst (All P) (sym are) (All-push P list last all is)
+all_pushed P list new last false are is all = subst (All P) (sym are) all
 
 -- ---- tests
 

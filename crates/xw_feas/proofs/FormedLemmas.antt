@@ -11,7 +11,7 @@ use Rattle.xw_grid.specs.declared.cell.Direction.{Direction}
 use Rattle.xw_grid.specs.declared.cell.Direction.TheVariants.{Across, Down}
 use Rattle.xw_grid.specs.declared.lights.Light.{Light}
 use Rattle.xw_grid.specs.Grid.{Grid, IsGrid, is_inside, is_open_square, index_of, cell_at}
-use Rattle.xw_grid.specs.Grid.{is_open as is_open_cell}
+use Rattle.xw_grid.specs.Grid.{is_open as grid_is_open}
 use Rattle.std.specs.Prelude.{slice_get, None}
 use Rattle.xw_grid.specs.Light.{step, lights_of, no_light}
 use Rattle.xw_grid.proofs.GridLemmas.{cell_at-index_of}
@@ -54,7 +54,7 @@ index_is grid index k below =
     ∙ get_or-map (index_of grid) (map (step light.name.direction light.start) (range_with_len 0 light.size)) k light.start 0 (omega (arith, length-map-range_with_len (step light.name.direction light.start) 0 light.size))
     ∙ ap (index_of grid) (get_or-map-range_with_len (step light.name.direction light.start) 0 light.size k k light.start under (omega arith))
 
-open_at : (grid : Grid) (index k : ℕ) → k < length (light_at (board_of grid) index) → is_open_cell grid (cell_of grid index k) ≡ true
+open_at : (grid : Grid) (index k : ℕ) → k < length (light_at (board_of grid) index) → grid_is_open grid (cell_of grid index k) ≡ true
 open_at grid index k below =
     let within = within_lights grid index k below in
     cells_of_are_open grid index no_light within k (omega (arith, length-light_at grid index within))

@@ -26,3 +26,4 @@ pub mod Idle
 pub mod JudgeLemmas
 pub mod Noting
 pub mod ToldLemmas
+pub mod TryingLemmas

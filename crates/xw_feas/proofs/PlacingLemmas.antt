@@ -6,7 +6,7 @@ use Rattle.xw_text.proofs.Position.{position_is_none}
 use Rattle.xw_letters.specs.Letter.{IsLetter, folded}
 use Rattle.xw_letters.proofs.LetterSetLemmas.{letter_is_capital}
 use Rattle.xw_words.specs.Word.{is_bad_letter}
-use Rattle.xw_words.specs.Dictionary.{IsDictionary, row, entry_at, no_entry}
+use Rattle.xw_words.specs.Dictionary.{IsDictionary, known_words, entry_at, no_entry}
 use Rattle.xw_grid.specs.Grid.{Grid}
 use Rattle.xw_grid.specs.Light.{lights_of, cells_of, no_light}
 use Rattle.xw_feas.specs.declared.edit.Refusal.{Refusal}
@@ -24,7 +24,7 @@ good_letter code is = ap not (or_left _ _ (letter_is_capital code is))
 good_letters : (word : List ℕ) → All IsLetter word → position is_bad_letter word ≡ None
 good_letters word letters = position_is_none is_bad_letter word 0 (λ k below. good_letter (get_or word k 0) (letters k 0 below))
 
-folded_letter : (code : ℕ) → IsLetter code → folded code ≡ code
+pub folded_letter : (code : ℕ) → IsLetter code → folded code ≡ code
 folded_letter code is = ap (λ b. cond b (code - 32) code) (not_above (nat_le 97 code) refl) where
   not_above : (b : Bool) → nat_le 97 code ≡ b → nat_le 97 code ≡ false
   not_above false e = e
@@ -45,15 +45,15 @@ word_accepted grid light word in_grid letters long =
     ∙ ap (λ w. Ok (with_letters grid (cells_of found) w)) (folded_letters word letters)
 
 -- the letters of a known word of the length of a light
-pub known_letters : (state : State) (light index : ℕ) → IsDictionary state.words → index < known_count state light → All IsLetter (entry_at (row state.words (light_of state light).size) index).word
+pub known_letters : (state : State) (light index : ℕ) → IsDictionary state.words → index < known_count state light → All IsLetter (entry_at (known_words state.words (light_of state light).size) index).word
 known_letters state light index is within = (is.words (light_of state light).size).letters index no_entry within
 
-pub known_length : (state : State) (light index : ℕ) → IsDictionary state.words → index < known_count state light → length (entry_at (row state.words (light_of state light).size) index).word ≡ (light_of state light).size
+pub known_length : (state : State) (light index : ℕ) → IsDictionary state.words → index < known_count state light → length (entry_at (known_words state.words (light_of state light).size) index).word ≡ (light_of state light).size
 known_length state light index is within = (is.words (light_of state light).size).long index no_entry within
 
 -- the grid after a known word was placed in a light
 pub known_accepted : (state : State) (light index : ℕ) → IsDictionary state.words → light < length (lights_of state.grid) → index < known_count state light
-    → grid_after state.grid (known_placed state light index) ≡ Ok (with_letters state.grid (cells_of (light_of state light)) (entry_at (row state.words (light_of state light).size) index).word)
+    → grid_after state.grid (known_placed state light index) ≡ Ok (with_letters state.grid (cells_of (light_of state light)) (entry_at (known_words state.words (light_of state light).size) index).word)
 known_accepted state light index is in_grid within =
     word_accepted state.grid light _ in_grid (known_letters state light index is within) (known_length state light index is within)
 

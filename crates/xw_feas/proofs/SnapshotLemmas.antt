@@ -1,7 +1,7 @@
 -- States that can share a snapshot.
 use Rattle.std.proofs.Common.{◌≡◌, ℕ, suc, List, [], ◌∷◌, map, length, get_or, refl, sym, ◌∙◌, ap, arith}
 use Rattle.std.proofs.lemmas.Simd.{map-map}
-use Rattle.xw_words.specs.Dictionary.{Dictionary, Entry, no_entry, row, capped, AreLeft, limited, all_limited, with_least}
+use Rattle.xw_words.specs.Dictionary.{Dictionary, Entry, no_entry, known_words, capped, AreLeft, limited, all_limited, with_least}
 use Rattle.xw_words.proofs.DictionaryLemmas.{length-limited, row-with_least}
 use Rattle.xw_feas.specs.Shape.{SameCounts}
 use Rattle.xw_feas.specs.Snapshot.{IsTwin, CanSave}
@@ -69,17 +69,14 @@ CanSave-then first second third a b = record { shape = SameShape-then first.grid
 pub CanSave-least : (state : State) (grade : ℕ) → CanSave state (record state { words = with_least grade state.words })
 CanSave-least state grade = record { shape = (IsTwin-itself state).shape; words = λ other. with_least-again state.words other grade }
 
-pub CanSave-back : (state : State) (grade : ℕ) → CanSave (record state { words = with_least grade state.words }) state
-CanSave-back state grade = record { shape = (IsTwin-itself state).shape; words = λ other. sym (with_least-again state.words other grade) }
-
 -- the known words of each length are as many
 pub saved_counts : (old new : State) → CanSave old new → SameCounts old.words new.words
 saved_counts old new can len =
-    sym (length-limited (capped 0) (row new.words len))
+    sym (length-limited (capped 0) (known_words new.words len))
     ∙ ap length (sym (row-with_least 0 new.words len))
-    ∙ ap (λ (words : Dictionary). length (row words len)) (can.words 0)
+    ∙ ap (λ (words : Dictionary). length (known_words words len)) (can.words 0)
     ∙ ap length (row-with_least 0 old.words len)
-    ∙ length-limited (capped 0) (row old.words len)
+    ∙ length-limited (capped 0) (known_words old.words len)
 
 -- with the same least grade the dictionaries are equal
 pub saved_words : (old new : State) → IsWellFormed old → IsWellFormed new → CanSave old new → old.words.least ≡ new.words.least → new.words ≡ old.words
@@ -88,3 +85,7 @@ saved_words old new old_formed new_formed can same =
     ∙ can.words new.words.least
     ∙ ap (λ least. with_least least old.words) (sym same)
     ∙ with_least-same old old_formed
+
+-- the dictionary of a saved state, from that of a state that it can be exchanged with
+pub saved_again : (saved now : State) (least : ℕ) → IsWellFormed saved → least ≡ saved.words.least → CanSave saved now → with_least least now.words ≡ saved.words
+saved_again saved now least formed same can = can.words least ∙ ap (λ n. with_least n saved.words) same ∙ with_least-same saved formed

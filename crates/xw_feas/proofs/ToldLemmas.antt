@@ -10,7 +10,7 @@ use Rattle.xw_grid.specs.Grid.{Grid, cells}
 use Rattle.xw_grid.specs.Light.{lights_of, cells_of, no_light}
 use Rattle.xw_feas.specs.declared.noted.Notes.{Notes}
 use Rattle.xw_feas.specs.declared.told.Told.{Told}
-use Rattle.xw_feas.specs.declared.told.Told.TheVariants.{Nothing, Cells, List as Listed, Shape, Word, Least}
+use Rattle.xw_feas.specs.declared.told.Told.TheVariants.{Nothing, Cells, List as ToldList, Shape, Word, Least}
 use Rattle.xw_feas.specs.State.{State, Action, after, grid_after, write_list, by_fault, word_placed, list_written, symmetry_chosen, least_chosen}
 use Rattle.xw_feas.specs.Told.{Tells, KeepsAnswers, IsToldBy, IsForetold, of_cells, fields_told, is_list}
 use Rattle.xw_feas.specs.Written.{with_entry_of, entries_written, cells_named}
@@ -44,7 +44,7 @@ least_made state now grade made =
 
 module _ (before : State) (lights : List Light) (notes : Notes) (action : Action) where
   pub list_foretold : (told : Told) → is_list told ≡ true → IsForetold before lights notes action told → (list : List (Cell × Option ℕ)) × (action ≡ list_written list) × (notes.noted.items ≡ map (with_entry_of before.grid) (cells before.grid))
-  list_foretold (Listed count) listed foretold = foretold
+  list_foretold (ToldList count) listed foretold = foretold
   list_foretold Nothing listed foretold = absurd (false≢true listed)
   list_foretold Cells listed foretold = absurd (false≢true listed)
   list_foretold (Shape lights) listed foretold = absurd (false≢true listed)
@@ -54,7 +54,7 @@ module _ (before : State) (lights : List Light) (notes : Notes) (action : Action
   pub foretold_made : (now : State) → lights ≡ lights_of before.grid → after before action ≡ Ok now → (told : Told) → is_list told ≡ false → IsForetold before lights notes action told → IsToldBy before now lights notes action told
   foretold_made now are made Nothing other foretold = foretold now made
   foretold_made now are made Cells other foretold = foretold
-  foretold_made now are made (Listed count) other foretold = absurd (false≢true (sym other))
+  foretold_made now are made (ToldList count) other foretold = absurd (false≢true (sym other))
   foretold_made now are made (Shape lights) other foretold = foretold
   foretold_made now are made (Word len index) other foretold = foretold
   foretold_made now are made (Least least) other (grade, is, was_least, turns) =

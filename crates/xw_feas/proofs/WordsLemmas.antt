@@ -6,7 +6,7 @@ use Rattle.std.proofs.lemmas.List.Quantifiers.{position-Some}
 use Rattle.std.proofs.lemmas.List.Elements.{filter_agree}
 use Rattle.std.proofs.lemmas.List.{get_or-drop, length-drop, drop-drop}
 use Rattle.xw_text.proofs.Position.{position-None}
-use Rattle.xw_words.specs.Dictionary.{Entry, Dictionary, no_entry, entry_at, row as known_words}
+use Rattle.xw_words.specs.Dictionary.{Entry, Dictionary, no_entry, entry_at, known_words}
 use Rattle.std.specs.Prelude.{Ok}
 use Rattle.xw_grid.specs.declared.cell.LightName.{LightName}
 use Rattle.xw_grid.specs.declared.lights.Light.{Light}

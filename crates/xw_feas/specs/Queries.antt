@@ -1,7 +1,7 @@
 -- What the queries of an engine return, from the answers.
 use Rattle.std.specs.Prelude.{◌≡◌, ℕ, ◌+◌, Bool, not, cond, ◌&&◌, ◌==◌, List, [], drop, length, slice_index, slice_index_or, count_by, position, Option, Some, None, option_map, Result, Ok, Err, if◌then◌else◌}
 use Rattle.xw_letters.specs.LetterSet.{letters_in}
-use Rattle.xw_words.specs.Dictionary.{Entry, Dictionary, row as known_words}
+use Rattle.xw_words.specs.Dictionary.{Entry, Dictionary, known_words}
 use Rattle.xw_grid.specs.declared.cell.Cell.{Cell}
 use Rattle.xw_grid.specs.declared.cell.LightName.{LightName}
 use Rattle.xw_grid.specs.declared.fault.GridFault.TheVariants as grids

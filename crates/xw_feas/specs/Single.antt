@@ -1,14 +1,18 @@
 -- The facts that engines keep are propositions (two proofs of one are equal), so ghost fields can
 -- hold them.
-use Rattle.std.specs.Prelude.{◌≡◌, ℕ, ◌<◌, Bool, List, [], length, filter, slice_index_or, Some, None, IsTrue, ◌↔◌}
+use Rattle.std.specs.Prelude.{◌≡◌, ℕ, ◌<◌, Bool, true, false, List, [], length, filter, slice_index_or, Some, None, IsTrue, ◌↔◌}
 use mathlib.Core.HLevel.{Π_prop, ×_prop, ⊥_prop}
 use mathlib.Core.Logic.{∥∥₁_prop, ↔_prop}
 use mathlib.Core.Path.{refl}
 use mathlib.Core.Bool.{Bool-set}
 use Rattle.xw_feas.specs.Board.{Board, board_of}
-use Rattle.xw_words.specs.Dictionary.{Entry, Dictionary, row, AreWords, IsDictionary}
+use Rattle.xw_words.specs.Dictionary.{Entry, Dictionary, known_words, AreWords, IsDictionary}
+use Rattle.xw_grid.specs.declared.cell.Direction.{Direction}
+use Rattle.xw_grid.specs.declared.cell.Direction.TheVariants.{Across, Down}
 use Rattle.xw_grid.specs.declared.cell.Square.{Square}
 use Rattle.xw_grid.specs.declared.cell.Square.TheVariants.{Block, Open}
+use Rattle.xw_grid.specs.declared.lights.Light.{Light}
+use Rattle.xw_grid.specs.EditLaws.{SameShape}
 use Rattle.xw_grid.specs.Grid.{Grid, IsSquare, IsGrid}
 use Rattle.xw_feas.specs.State.{State}
 use Rattle.xw_feas.specs.WellFormed.{IsLaidOut, IsWellFormed}
@@ -87,7 +91,7 @@ AreWords-prop len entries x y = λ i. record {
 IsDictionary-prop : (dictionary : Dictionary) → IsProp (IsDictionary dictionary)
 IsDictionary-prop dictionary x y = λ i. record {
   lengths = Coded-set coded_ℕ _ _ x.lengths y.lengths i;
-  words = Π_prop (λ len. AreWords-prop len (row dictionary len)) x.words y.words i;
+  words = Π_prop (λ len. AreWords-prop len (known_words dictionary len)) x.words y.words i;
   none_shorter = Π_prop (λ len. Π_prop (λ short. Coded-set (coded_list coded_entry) _ _)) x.none_shorter y.none_shorter i;
   least = le_prop x.least y.least i;
   left = Π_prop (λ len. Π_prop (λ k. Π_prop (λ d. Π_prop (λ below. Bool-set _ _)))) x.left y.left i;
@@ -109,4 +113,32 @@ IsWellFormed-prop state x y = λ i. record {
   grid = IsGrid-prop state.grid x.grid y.grid i;
   board = IsLaidOut-prop (board_of state.grid) x.board y.board i;
   dictionary = IsDictionary-prop state.words x.dictionary y.dictionary i;
+}
+
+-- a direction as a flag, and a light as the tuple of its fields
+abbrev is_across : Direction → Bool
+is_across Across = true
+is_across Down = false
+
+abbrev direction_of : Bool → Direction
+direction_of true = Across
+direction_of false = Down
+
+direction_again : (direction : Direction) → direction_of (is_across direction) ≡ direction
+direction_again Across = refl
+direction_again Down = refl
+
+abbrev coded_direction : Coded Direction
+coded_direction = code_by Bool coded_bool is_across direction_of direction_again
+
+abbrev coded_light : Coded Light
+coded_light = code_by ((ℕ × Direction) × ((ℕ × ℕ) × ℕ)) (coded× (coded× coded_ℕ coded_direction) (coded× (coded× coded_ℕ coded_ℕ) coded_ℕ))
+    (λ light. ((light.name.number, light.name.direction), ((light.start.row, light.start.col), light.size)))
+    (λ parts. record { name = record { number = parts.0.0; direction = parts.0.1 }; start = record { row = parts.1.0.0; col = parts.1.0.1 }; size = parts.1.1 }) (λ light. refl)
+
+pub SameShape-prop : (one other : Grid) → IsProp (SameShape one other)
+SameShape-prop one other x y = λ i. record {
+  lights = Coded-set (coded_list coded_light) _ _ x.lights y.lights i;
+  opens = Π_prop (λ cell. Coded-set coded_bool _ _) x.opens y.opens i;
+  cells = Coded-set coded_ℕ _ _ x.cells y.cells i;
 }

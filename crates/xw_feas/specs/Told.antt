@@ -8,7 +8,7 @@ use Rattle.xw_grid.specs.Light.{lights_of}
 use Rattle.xw_feas.specs.declared.noted.Notes.{Notes}
 use Rattle.xw_feas.specs.declared.position.Position.{Position}
 use Rattle.xw_feas.specs.declared.told.Told.{Told}
-use Rattle.xw_feas.specs.declared.told.Told.TheVariants.{Nothing, Cells, List as Listed, Shape, Word, Least}
+use Rattle.xw_feas.specs.declared.told.Told.TheVariants.{Nothing, Cells, List as ToldList, Shape, Word, Least}
 use Rattle.xw_feas.specs.Layout.{layout_of}
 use Rattle.xw_feas.specs.Position.{state_of}
 use Rattle.xw_feas.specs.State.{State, Action, after, list_written, symmetry_chosen, least_chosen}
@@ -22,7 +22,7 @@ of_cells written before = record { cells = written; before = before; word = None
 abbrev pub fields_told : List Light → Dictionary → Notes → Told → Fields
 fields_told lights words notes Nothing = of_cells [] lights
 fields_told lights words notes Cells = of_cells notes.written lights
-fields_told lights words notes (Listed count) = of_cells (take count notes.noted.items) lights
+fields_told lights words notes (ToldList count) = of_cells (take count notes.noted.items) lights
 fields_told lights words notes (Shape before) = of_cells notes.written before
 fields_told lights words notes (Word len index) = record { cells = []; before = lights; word = Some (len, index); turned = λ len. false; back = false }
 fields_told lights words notes (Least least) = record { cells = []; before = lights; word = None; turned = λ len. slice_index_or notes.turned len false; back = nat_lt words.least least }
@@ -49,13 +49,13 @@ pub record KeepsAnswers (before now : State) : Type 0 where
 
 -- whether the cells of a list are told
 abbrev pub is_list : Told → Bool
-is_list (Listed count) = true
+is_list (ToldList count) = true
 is_list told = false
 
 -- what is told of the edit that led from one state to another is true
 abbrev pub IsToldBy : State → State → List Light → Notes → Action → Told → Type 0
 IsToldBy before now lights notes action Nothing = KeepsAnswers before now
-IsToldBy before now lights notes action (Listed count) = (count ≤ length notes.noted.items) × Tells before action (fields_told lights now.words notes (Listed count))
+IsToldBy before now lights notes action (ToldList count) = (count ≤ length notes.noted.items) × Tells before action (fields_told lights now.words notes (ToldList count))
 IsToldBy before now lights notes action told = Tells before action (fields_told lights now.words notes told)
 
 -- the same for a position after the edit
@@ -68,6 +68,6 @@ told_by now told = fields_told now.lights now.bank.words now.notes told
 -- what is noted before an edit that needs no memory is made: of a list all entries, and of a least grade the one before
 abbrev pub IsForetold : State → List Light → Notes → Action → Told → Type 0
 IsForetold before lights notes action Nothing = (now : State) → after before action ≡ Ok now → KeepsAnswers before now
-IsForetold before lights notes action (Listed count) = (list : List (Cell × Option ℕ)) × (action ≡ list_written list) × (notes.noted.items ≡ map (with_entry_of before.grid) (cells before.grid))
+IsForetold before lights notes action (ToldList count) = (list : List (Cell × Option ℕ)) × (action ≡ list_written list) × (notes.noted.items ≡ map (with_entry_of before.grid) (cells before.grid))
 IsForetold before lights notes action (Least least) = (grade : ℕ) × (action ≡ least_chosen grade) × (least ≡ before.words.least) × ((len : ℕ) → slice_index_or notes.turned len false ≡ turns_words before.words (least_chosen grade) len)
 IsForetold before lights notes action told = Tells before action (fields_told lights before.words notes told)

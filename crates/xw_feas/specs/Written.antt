@@ -5,7 +5,7 @@ use Rattle.std.specs.Option.{option_eq}
 use Rattle.xw_words.specs.declared.fault.WordFault.{WordFault}
 use Rattle.xw_words.specs.declared.bank.Added.{Added}
 use Rattle.xw_words.specs.declared.bank.Added.TheVariants.{New, Returned}
-use Rattle.xw_words.specs.Dictionary.{Dictionary, row, add_answer, strike_answer, capped, is_turned}
+use Rattle.xw_words.specs.Dictionary.{Dictionary, known_words, add_answer, strike_answer, capped, is_turned}
 use Rattle.xw_grid.specs.declared.cell.Cell.{Cell}
 use Rattle.xw_grid.specs.declared.lights.Light.{Light}
 use Rattle.xw_grid.specs.Grid.{Grid, cells, entry}
@@ -40,7 +40,7 @@ cells_written grid other = []
 
 -- whether an edit chooses a least grade that leaves out an active word of this length, or brings one back
 abbrev pub turns_words : Dictionary → Action → ℕ → Bool
-turns_words words (least_chosen grade) len = list_any (is_turned (capped grade)) (row words len)
+turns_words words (least_chosen grade) len = list_any (is_turned (capped grade)) (known_words words len)
 turns_words words other len = false
 
 -- a cell with its entry

@@ -4,9 +4,9 @@
 ghost use Rattle.std.specs.Prelude.{◌≡◌, ◌⊎◌, ◌<◌, ◌≤◌, ◌&&◌, ℕ, Some, length, slice_index, slice_get, All, unwrap_or, IfSome};
 ghost use Rattle.xw_letters.specs.Letter.{IsLetter, is_capital};
 ghost use Rattle.xw_letters.specs.LetterSet.{has};
-ghost use Rattle.xw_grid.specs.Grid.{is_open_square as is_open_in, letter_in as letter_of};
+ghost use Rattle.xw_grid.specs.Grid.{is_open_square as spec_is_open_square, letter_in as spec_letter_in};
 ghost use Rattle.xw_grid.specs.Light.{lights_of};
-ghost use Rattle.xw_feas.specs.Board.{board_of, indices_of, light_at, is_open as is_open_index, entry as entry_at, IsCrossing, other_than as other_than_light, allows, is_wholly_entered};
+ghost use Rattle.xw_feas.specs.Board.{board_of, indices_of, light_at, is_open as spec_is_open, entry as spec_entry, IsCrossing, other_than as spec_other_than, allows, is_wholly_entered};
 ghost use Rattle.xw_feas.specs.Fits.{Fits, stride_of};
 ghost use Rattle.xw_feas.specs.Passes.{Passes};
 
@@ -65,9 +65,9 @@ impl<'a> Model for Board<'a> {
     ghost use Rattle.std.specs.Prelude.{◌≡◌};
     ghost use Rattle.xw_grid.specs.Grid.{IsGrid};
     ghost use Rattle.xw_grid.specs.Light.{lights_of};
-    ghost use Rattle.xw_feas.specs.Board.{Board as BoardOfIndices, board_of};
+    ghost use Rattle.xw_feas.specs.Board.{Board as SpecBoard, board_of};
 
-    ghost Value = { BoardOfIndices };
+    ghost Value = { SpecBoard };
 
     ghost view = { λ board. board_of board.grid.now };
 
@@ -139,14 +139,14 @@ impl<'a> Board<'a> {
 
     /// Whether the cell is open.
     pub fn is_open(&self, cell: usize) -> bool
-        ensures { result ≡ is_open_index self.now cell }
+        ensures { result ≡ spec_is_open self.now cell }
     {
         is_open_square(square_at(self.squares, cell))
     }
 
     /// The letter in a cell; `None` if the cell has none.
     pub fn entry(&self, cell: usize) -> Option<Letter>
-        ensures entry { result ≡ entry_at self.now cell }
+        ensures entry { result ≡ spec_entry self.now cell }
         ensures letter { IfSome result IsLetter }
     {
         letter_in(square_at(self.squares, cell))
@@ -154,7 +154,7 @@ impl<'a> Board<'a> {
 
     /// The letter in a cell; A if the cell is empty.
     pub fn letter(&self, cell: usize) -> Letter
-        ensures { result ≡ unwrap_or (entry_at self.now cell) 65 }
+        ensures { result ≡ unwrap_or (spec_entry self.now cell) 65 }
     {
         match self.entry(cell) {
             Some(letter) => letter,
@@ -165,7 +165,7 @@ impl<'a> Board<'a> {
 
 /// The light that was found, unless it is `light` itself.
 fn other_than(light: usize, found: Option<usize>) -> Option<usize>
-    ensures { result ≡ other_than_light light found }
+    ensures { result ≡ spec_other_than light found }
 {
     match found {
         Some(other) if other != light => Some(other),
@@ -180,13 +180,13 @@ fn square_at(squares: &[Square], index: usize) -> Option<Square>
 }
 
 fn is_open_square(square: Option<Square>) -> bool
-    ensures { result ≡ is_open_in square }
+    ensures { result ≡ spec_is_open_square square }
 {
     matches!(square, Some(Square::Open(_)))
 }
 
 fn letter_in(square: Option<Square>) -> Option<Letter>
-    ensures entry { result ≡ letter_of square }
+    ensures entry { result ≡ spec_letter_in square }
     ensures letter { IfSome result IsLetter }
 {
     match square {

@@ -10,7 +10,7 @@ ghost use Rattle.xw_feas.specs.Feasible.{Answers, AreAnswers};
 ghost use Rattle.xw_feas.specs.State.{State, IsAfter, action_of, after, known_placed, known_count};
 ghost use Rattle.xw_feas.specs.Engine.{IsEdited};
 ghost use Rattle.xw_feas.specs.Placings.{placed_after};
-ghost use Rattle.xw_feas.specs.Position.{state_of as position_state};
+ghost use Rattle.xw_feas.specs.Position.{state_of};
 ghost use Rattle.xw_feas.specs.WellFormed.{IsWellFormed};
 ghost use Rattle.xw_feas.specs.Queries.{count_answer, next_answer, next_found, words_of, AreLetters};
 
@@ -66,7 +66,7 @@ pub trait Feasible: Drop {
 
     /// The grid with its lights, and the dictionary.
     fn position(&self) -> &Position
-        ensures { position_state result.now ≡ state self.now };
+        ensures { state_of result.now ≡ state self.now };
 
     /// The number of feasible words of a light, by its index.
     fn word_count_at(&self, light: usize) -> usize

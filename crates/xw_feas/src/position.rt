@@ -2,8 +2,8 @@
 //! room for what is pending, it is made, which cannot fail, and tells what it changed.
 ghost use Rattle.std.specs.Prelude.{◌≡◌, ◌<◌, length, true, IfOk, IfErr, OnOk, OnErr, IsOk, IsOkUnless, Ok, Err};
 ghost use Rattle.xw_words.specs.Bank.{has_room};
-ghost use Rattle.xw_words.specs.Dictionary.{IsDictionary, IsNew, add_answer, strike_answer};
-ghost use Rattle.xw_grid.specs.Edit.{set_symmetry as symmetry_set};
+ghost use Rattle.xw_words.specs.Dictionary.{IsDictionary, IsNew, add_answer, strike_answer, with_least};
+ghost use Rattle.xw_grid.specs.Edit.{set_symmetry as spec_set_symmetry};
 ghost use Rattle.xw_grid.specs.EditLaws.{SameShape};
 ghost use Rattle.xw_grid.specs.Grid.{IsGrid};
 ghost use Rattle.xw_grid.specs.Light.{lights_of};
@@ -278,6 +278,14 @@ impl Position {
         self.grid.copy_from(grid);
     }
 
+    /// Chooses the least grade of an active word.
+    #[tactic(auto, using(crate::proofs::WellFormedLemmas::state_formed))]
+    pub fn choose_least(&mut self, least: u8)
+        ensures { state_of self.new ≡ record { grid = self.old.grid; words = with_least least self.old.bank.words } }
+    {
+        limit_in(&mut self.bank, least);
+    }
+
     /// Reserves room for a word that is not known. Returns `Memory` if an allocation fails.
     pub fn reserve(&mut self, word: &[u8], index: usize) -> Result<(), WordFault>
         requires { add_answer self.old.bank.words word.now ≡ Ok (Added.New index) }
@@ -404,5 +412,14 @@ fn add_in(bank: &mut Bank, word: &[u8], grade: Option<u8>)
     let mut letters = [Letter::first(); LONGEST];
     spell(&mut letters, word);
     let _ = bank.add_reserved(&letters[..word.len()], grade);
+    bank.well_formed();
+}
+
+/// Chooses the least grade of an active word.
+fn limit_in(bank: &mut Bank, least: u8)
+    ensures words { bank.new.words ≡ with_least least bank.old.words }
+    ensures distinct { IsDictionary bank.new.words }
+{
+    bank.set_least(least);
     bank.well_formed();
 }

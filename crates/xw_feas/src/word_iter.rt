@@ -1,6 +1,6 @@
 //! An iterator over the feasible words of a light.
 ghost use Rattle.std.specs.Prelude.{◌≡◌, ◌<◌, length, slice_get};
-ghost use Rattle.xw_words.specs.Dictionary.{row as known_words, entry_at, most_words};
+ghost use Rattle.xw_words.specs.Dictionary.{known_words, entry_at, most_words};
 ghost use Rattle.xw_feas.specs.Board.{board_of, spelled, light_at};
 ghost use Rattle.xw_feas.specs.Queries.{words_answer};
 ghost use Rattle.xw_feas.specs.Spelled.{spelling};

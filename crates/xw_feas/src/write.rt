@@ -1,6 +1,6 @@
 //! Writing a list of cells, each with a letter or empty.
 ghost use Rattle.std.specs.Prelude.{◌≡◌, ℕ, true, All, Option, IfErr, OnOk, OnErr, Ok, Err, Some, None, IsTrue};
-ghost use Rattle.xw_grid.specs.declared.cell.Cell.{Cell as CellOfGrid};
+ghost use Rattle.xw_grid.specs.declared.cell.Cell.{Cell as SpecCell};
 ghost use Rattle.xw_grid.specs.Edit.{with_entry};
 ghost use Rattle.xw_grid.specs.EditLaws.{SameShape};
 ghost use Rattle.xw_feas.specs.Layout.{IsIdle};
@@ -29,7 +29,7 @@ pub(crate) fn judge_cell(grid: &Grid, cell: Cell) -> Result<(), GridFault>
 
 /// Returns the fault of the first cell of the list that cannot be written.
 pub(crate) fn judge_list(grid: &Grid, list: &[(Cell, Option<Letter>)]) -> Result<(), GridFault>
-    ensures ok { OnOk result (All (λ (written : CellOfGrid × Option ℕ). fault_at grid.now written.0 ≡ None) list.now) }
+    ensures ok { OnOk result (All (λ (written : SpecCell × Option ℕ). fault_at grid.now written.0 ≡ None) list.now) }
     ensures refused { IfErr result (λ fault. write_list list.now grid.now ≡ Err fault) }
 {
     for index in 0..list.len() {
@@ -50,7 +50,7 @@ fn enter(grid: &mut Grid, cell: Cell, letter: Option<Letter>)
 }
 
 fn enter_list(grid: &mut Grid, list: &[(Cell, Option<Letter>)])
-    requires { All (λ (written : CellOfGrid × Option ℕ). fault_at grid.old written.0 ≡ None) list.now }
+    requires { All (λ (written : SpecCell × Option ℕ). fault_at grid.old written.0 ≡ None) list.now }
     ensures written { write_list list.now grid.old ≡ Ok grid.new }
     ensures shape { SameShape grid.old grid.new }
 {

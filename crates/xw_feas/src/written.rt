@@ -26,9 +26,9 @@ pub struct Written {
 
 impl Model for Written {
     ghost use Rattle.std.specs.Prelude.{List, ℕ, Option, ◌≤◌, take};
-    ghost use Rattle.xw_grid.specs.declared.cell.Cell.{Cell as CellOfGrid};
+    ghost use Rattle.xw_grid.specs.declared.cell.Cell.{Cell as SpecCell};
 
-    ghost Value = { List (CellOfGrid × Option ℕ) };
+    ghost Value = { List (SpecCell × Option ℕ) };
 
     ghost view = { λ written. take written.count written.cells };
 

@@ -3,7 +3,7 @@ use Rattle.std.proofs.Common.{◌≡◌, ℕ, ◌<◌, true, List, [], length, g
 use Rattle.std.specs.Prelude.{All, Some, None}
 use Rattle.std.proofs.lemmas.List.{get_or-map, length-map, get_or_default, ext_get_or}
 use Rattle.xw_letters.specs.Letter.{IsLetter}
-use Rattle.xw_words.specs.Dictionary.{Entry, row, no_entry}
+use Rattle.xw_words.specs.Dictionary.{Entry, known_words, no_entry}
 use Rattle.xw_grid.specs.Light.{lights_of, no_light}
 use Rattle.xw_feas.specs.Board.{board_of, light_at, spelled, entry}
 use Rattle.xw_feas.specs.State.{State}
@@ -31,7 +31,7 @@ pub known_after : (state : State) (light index : ℕ) → IsWellFormed state →
     → fewest_after state light (get_or (spellings_at (position_of state) light) index []) ≡ fewest_words (placed (position_of state) light (get_or (spellings_at (position_of state) light) index []))
 known_after state light index formed below within =
     let size = length (light_at (board_of state.grid) light) in
-    let known = row state.words size in
+    let known = known_words state.words size in
     let is = formed.dictionary.words size in
     let there : index < length known = omega (arith, within, length-map known (λ (w : Entry). w.word)) in
     let word : get_or (spellings_at (position_of state) light) index [] ≡ (get_or known index no_entry).word = get_or-map (λ (w : Entry). w.word) known index no_entry [] there in

@@ -23,8 +23,8 @@ use Rattle.xw_fill.specs.declared.best.climb.Climb.{Climb}
 use Rattle.xw_fill.specs.declared.named_lights.plan.Plan.{Plan}
 use Rattle.xw_feas.proofs.BoardLemmas.{length-lights}
 use Rattle.xw_feas.proofs.SnapshotLemmas.{IsTwin-turned}
-use Rattle.xw_fill.proofs.MarksLemmas.{filled_twin}
 use Rattle.xw_fill.proofs.LeastLemmas.{at_least-same, least_within}
+use Rattle.xw_fill.proofs.StateLemmas.{filled_twin}
 use Rattle.xw_fill.proofs.GradeLemmas.{none_up}
 use Rattle.xw_fill.proofs.Naming.{fill_same}
 
@@ -40,13 +40,13 @@ pub filled_at_twin : (named : ℕ → Bool) (before after : State) (grade : ℕ)
 filled_at_twin named before after grade is = subst (IsTwin before) (sym is.holds) (filled_twin before is.entries)
 
 -- what a prober found, as the search has it
-pub known_probed : {E S : Type 0} (saved : S → State) (climb : Climb E S) (prober : Prober E S) (start after : State) (probe : Probe) → IsClimbing saved climb start → prober.plan ≡ climb.prober.plan → IsProbed (flags climb.prober.plan.named.items) start climb.prober.least after probe → IsProbed (flags prober.plan.named.items) (saved climb.start) climb.prober.least after probe
+pub known_probed : {E S : Type 0} (saved : S → State) (climb : Climb E S) (prober : Prober) (start after : State) (probe : Probe) → IsClimbing saved climb start → prober.plan ≡ climb.prober.plan → IsProbed (flags climb.prober.plan.named.items) start climb.prober.least after probe → IsProbed (flags prober.plan.named.items) (saved climb.start) climb.prober.least after probe
 known_probed saved climb prober start after probe is plan found =
     subst (λ (s : State). IsProbed (flags prober.plan.named.items) s climb.prober.least after probe) (sym is.began)
     (subst (λ (p : Plan). IsProbed (flags p.named.items) start climb.prober.least after probe) (sym plan) found)
 
 -- the same climb with a prober that has served one more probe, and with what another one has counted
-pub probed : {E S : Type 0} (saved : S → State) (climb other : Climb E S) (prober : Prober E S) (start : State) → IsClimbing saved climb start → IsProber saved prober start → prober.plan ≡ climb.prober.plan → prober.fresh ≡ climb.prober.fresh → IsClimbing saved (record climb { prober = prober; counted = other.counted }) start
+pub probed : {E S : Type 0} (saved : S → State) (climb other : Climb E S) (prober : Prober) (start : State) → IsClimbing saved climb start → IsProber prober start → prober.plan ≡ climb.prober.plan → prober.fresh ≡ climb.prober.fresh → IsClimbing saved (record climb { prober = prober; counted = other.counted }) start
 probed saved climb other prober start is served same fresh = record {
   prober = served;
   began = is.began;
@@ -151,8 +151,8 @@ climbed_offered {E} {S} saved before now filled worst sum from to offered above 
       let better = gets_better before.found before.sum before.prober.least worst sum kept.0 above in
       let next : next_grade now ≡ suc worst = ap (λ f. grade_above f now.prober.least) kept.1 in
       record {
-        plan = ap (λ (p : Prober E S). p.plan) prober;
-        least = ap (λ (p : Prober E S). p.least) prober;
+        plan = ap (λ (p : Prober). p.plan) prober;
+        least = ap (λ (p : Prober). p.least) prober;
         found = omega (arith, better.0, next);
         sum = λ same. omega (arith, better.1 (sym next ∙ same), kept.2);
         bound = omega (arith, bound);
@@ -161,7 +161,7 @@ climbed_offered {E} {S} saved before now filled worst sum from to offered above 
         counted = counted;
         idle = λ none was. subst (λ f. IfSome f (λ n. saved now.best ≡ saved now.start)) (sym kept.1) (kept.3 ∙ idle none ∙ sym start);
       }
-  | inr left ↦ climbed_same saved before now from to (ap (λ (p : Prober E S). p.plan) prober) (ap (λ (p : Prober E S). p.least) prober) left.1 left.2 bound left.3 start made limit counted
+  | inr left ↦ climbed_same saved before now from to (ap (λ (p : Prober). p.plan) prober) (ap (λ (p : Prober). p.least) prober) left.1 left.2 bound left.3 start made limit counted
 ]
 
 -- one step after another

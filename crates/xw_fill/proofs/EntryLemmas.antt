@@ -12,7 +12,7 @@ use Rattle.xw_grid.specs.declared.cell.Square.{Square}
 use Rattle.xw_grid.specs.declared.cell.Square.TheVariants.{Block, Open}
 use Rattle.xw_grid.specs.Grid.{Grid, IsGrid, IsSquare, is_open, index_of, cell_at}
 use Rattle.xw_grid.proofs.GridLemmas.{index_of-cell_at}
-use Rattle.xw_feas.specs.Board.{board_of, square_is_open, square_entry, is_open as is_open_at}
+use Rattle.xw_feas.specs.Board.{board_of, square_is_open, square_entry, is_open as board_is_open}
 use Rattle.xw_feas.specs.State.{State}
 use Rattle.xw_feas.specs.WellFormed.{IsWellFormed}
 use Rattle.xw_feas.proofs.BoardLemmas.{length-entries}
@@ -38,7 +38,7 @@ opens_square (Block ∷ squares) zero letter h = cc
 opens_square (Open entered ∷ squares) zero letter h = refl
 opens_square (square ∷ squares) (suc cell) letter h = opens_square squares cell letter h
 
-opens_entry : (grid : Grid) (cell letter : ℕ) → entry_in (board_of grid).entries cell ≡ Some letter → is_open_at (board_of grid) cell ≡ true
+opens_entry : (grid : Grid) (cell letter : ℕ) → entry_in (board_of grid).entries cell ≡ Some letter → board_is_open (board_of grid) cell ≡ true
 unfolding board_of
 opens_entry grid cell letter h = opens_square grid.squares cell letter h
 

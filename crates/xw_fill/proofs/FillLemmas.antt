@@ -6,7 +6,7 @@ use Rattle.std.proofs.lemmas.Bool.{and_parts, and_from, cases_Bool, false≢true
 use Rattle.std.proofs.lemmas.List.{get_or-map}
 use Rattle.std.proofs.lemmas.Slice.Eq.{bytes_eq-Decides}
 use Rattle.xw_feas.specs.Board.{Board, entry, allows, agrees, light_at, is_open, is_wholly_entered, spelled}
-use Rattle.xw_words.specs.Dictionary.{Entry, Dictionary, row as known_words}
+use Rattle.xw_words.specs.Dictionary.{Entry, Dictionary, known_words}
 use Rattle.xw_feas.specs.Feasible.{Family, IsSupported, base_words, base_words_at}
 use Rattle.xw_fill.specs.Position.{Position, entries_with, placed, with_entries, holding}
 use Rattle.xw_fill.proofs.Shaped.{IsShaped}

@@ -16,10 +16,7 @@ use Rattle.xw_fill.specs.declared.search.Filling.{Filling}
 use Rattle.xw_fill.specs.declared.search.Filling.TheVariants.{Filled, NoFill, Limit}
 use Rattle.xw_fill.specs.Inner.Progress.{entries_of, HasEntered, is_target, is_watched, AreAlive, IsPlan}
 use Rattle.xw_fill.specs.declared.named_lights.plan.Plan.{Plan}
-use Rattle.xw_fill.specs.declared.named_lights.frame.Frame.{Frame}
 use Rattle.xw_fill.specs.declared.best.probe.Prober.{Prober}
-use Rattle.xw_fill.specs.declared.stack.Stack.{Stack}
-use Rattle.xw_fill.specs.Inner.Stack.{IsReady}
 use Rattle.xw_fill.specs.Inner.Climbing.{DiffersInLeast, IsDeadAt, AreAliveAt, AreActiveAt, AreFresh, IsProber}
 use Rattle.xw_fill.proofs.BelowLemmas.{Among, Among-contained, Contains-among}
 use Rattle.xw_fill.proofs.FeasibleWordsLemmas.{feasible-gives, feasible-from, is_feasible_word-gives}
@@ -27,11 +24,9 @@ use Rattle.xw_fill.proofs.SearchLemmas.{open_base}
 use Rattle.xw_fill.proofs.FillLemmas.{active_base, entered_base, has_words}
 use Rattle.xw_fill.proofs.NamedFills.{entered_only, in_board, has_word, any_at, entered_start, watched_changes}
 use Rattle.xw_fill.proofs.LetterSearch.{refuted_has_none, position_at}
-use Rattle.xw_grid.specs.EditLaws.{SameShape}
-use Rattle.xw_feas.specs.Snapshot.{IsTwin, CanSave}
-use Rattle.xw_feas.proofs.ShapeLemmas.{SameShape-then}
-use Rattle.xw_feas.proofs.SnapshotLemmas.{with_least-again, with_least-same, IsTwin-itself, IsTwin-turned, CanSave-twin, CanSave-then, CanSave-least, CanSave-back}
-use Rattle.xw_fill.proofs.MarksLemmas.{IsTwin-entries}
+use Rattle.xw_feas.specs.Snapshot.{CanSave}
+use Rattle.xw_feas.proofs.SnapshotLemmas.{with_least-again, CanSave-itself, CanSave-then, CanSave-least}
+use Rattle.xw_fill.proofs.StateLemmas.{CanSave-entries}
 use Rattle.xw_fill.proofs.LeastLemmas.{active_down, at_least-again, at_least-same}
 
 -- the position with the words of a grade and better
@@ -192,27 +187,13 @@ module _ (named fresh watched : List Bool) (before now : State) (grade : ℕ) (i
 
 -- ---- a search with the words of a grade and better
 
--- ---- the prober
-
--- a prober whose stack has served one more search
-pub served : {E S : Type 0} (saved : S → State) (prober : Prober E S) (stack : Stack E Frame S) (start : State) → IsProber saved prober start → IsReady saved stack start → IsProber saved (record prober { stack = stack }) start
-served saved prober stack start is ready = record { plan = is.plan; fresh = is.fresh; least = is.least; ready = ready }
-
--- a prober that has served one more search, with another stack
-pub served_more : {E S : Type 0} (saved : S → State) (before now : Prober E S) (start : State) → IsProber saved before start → now.plan ≡ before.plan → now.fresh ≡ before.fresh → now.least ≡ before.least → IsReady saved now.stack start → IsProber saved now start
-served_more saved before now start is plan fresh least ready = record {
+-- a prober with the same plan, flags and least grade
+pub served_more : (before now : Prober) (start : State) → IsProber before start → now.plan ≡ before.plan → now.fresh ≡ before.fresh → now.least ≡ before.least → IsProber now start
+served_more before now start is plan fresh least = record {
   plan = subst (IsPlan (position_of start)) (sym plan) is.plan;
   fresh = subst (AreFresh (position_of start)) (sym (ap (λ vec. vec.items) fresh)) is.fresh;
   least = least ∙ is.least;
-  ready = ready;
 }
-
--- the same facts about an equal prober
-pub same_prober : {E S : Type 0} (saved : S → State) (start : State) {one other : Prober E S} → one ≡ other → IsProber saved other start → IsProber saved one start
-same_prober {E} {S} saved start same is = subst (λ (prober : Prober E S). IsProber saved prober start) (sym same) is
-
-pub same_least : {E S : Type 0} {one other : Prober E S} → one ≡ other → one.least ≡ other.least
-same_least {E} {S} same = ap (λ (prober : Prober E S). prober.least) same
 
 -- the plan for a state is one with another least grade
 pub plan_at : (state : State) (grade : ℕ) (plan : Plan) → IsPlan (position_of state) plan → IsPlan (position_of (at_least state grade)) plan
@@ -228,17 +209,11 @@ found_at {Fault} named before made now grade result made_is result_is entered =
     let has : HasEntered named made now Filled = subst (λ (r : Result Filling Fault). IfOk r (HasEntered named made now)) result_is entered in
     (subst (λ (s : State). IsFillOf named (position_of s) (entries_of now)) made_is has.0, subst (λ (s : State). DiffersInEntries s now) made_is has.1)
 
--- what a search that found that there is no fill shows, and leaves
-pub none_at : {Fault : Type 0} (named : ℕ → Bool) (before made now : State) (grade : ℕ) (result : Result Filling Fault) → made ≡ at_least before grade → result ≡ Ok NoFill → IfOk result (IsAutofilled named made now)
-    → HasNoneAt named before grade × (now ≡ at_least before grade)
+-- what a search that found that there is no fill shows
+pub none_at : {Fault : Type 0} (named : ℕ → Bool) (before made now : State) (grade : ℕ) (result : Result Filling Fault) → made ≡ at_least before grade → result ≡ Ok NoFill → IfOk result (IsAutofilled named made now) → HasNoneAt named before grade
 none_at {Fault} named before made now grade result made_is result_is is =
     let has : IsAutofilled named made now NoFill = subst (λ (r : Result Filling Fault). IfOk r (IsAutofilled named made now)) result_is is in
-    (λ entries fill. has.0 entries (subst (λ (s : State). IsFillOf named (position_of s) entries) (sym made_is) fill), has.1 ∙ made_is)
-
-pub limit_at : {Fault : Type 0} (named : ℕ → Bool) (before made now : State) (grade : ℕ) (result : Result Filling Fault) → made ≡ at_least before grade → result ≡ Ok Limit → IfOk result (IsAutofilled named made now) → now ≡ at_least before grade
-limit_at {Fault} named before made now grade result made_is result_is is =
-    let has : IsAutofilled named made now Limit = subst (λ (r : Result Filling Fault). IfOk r (IsAutofilled named made now)) result_is is in
-    has ∙ made_is
+    λ entries fill. has.0 entries (subst (λ (s : State). IsFillOf named (position_of s) entries) (sym made_is) fill)
 
 -- back to the least grade that there was
 pub back_at : (before now after : State) (grade least : ℕ) → IsWellFormed before → least ≡ before.words.least → now ≡ at_least before grade → after ≡ at_least now least → after ≡ before
@@ -247,23 +222,18 @@ back_at before now after grade least formed least_is now_is after_is =
 
 -- ---- parts
 
--- a search changes only entries, whatever it found
-pub filling_twin : {Fault : Type 0} (named : ℕ → Bool) (before now : State) (result : Result Filling Fault) → IfOk result (HasEntered named before now) → IfOk result (IsAutofilled named before now) → OnErr result (now ≡ before) → IsTwin before now
-filling_twin named before now (Ok Filled) has is same = IsTwin-entries before now has.1
-filling_twin named before now (Ok NoFill) has is same = subst (IsTwin before) (sym is.1) (IsTwin-itself before)
-filling_twin named before now (Ok Limit) has is same = subst (IsTwin before) (sym is) (IsTwin-itself before)
-filling_twin named before now (Err failed) has is same = subst (IsTwin before) (sym same) (IsTwin-itself before)
+-- a snapshot of the state before a search can save the state after it, whatever it found
+pub filling_saved : {Fault : Type 0} (named : ℕ → Bool) (before now : State) (result : Result Filling Fault) → IfOk result (HasEntered named before now) → IfOk result (IsAutofilled named before now) → OnErr result (now ≡ before) → CanSave before now
+filling_saved named before now (Ok Filled) has is same = CanSave-entries before now has.1
+filling_saved named before now (Ok NoFill) has is same = subst (CanSave before) (sym is.1) (CanSave-itself before)
+filling_saved named before now (Ok Limit) has is same = subst (CanSave before) (sym is) (CanSave-itself before)
+filling_saved named before now (Err failed) has is same = subst (CanSave before) (sym same) (CanSave-itself before)
 
--- entries that were written and filled with words of a grade, and then the least grade that there was
-pub twin_back : (before written filled after : State) (grade least : ℕ) → IsWellFormed before → least ≡ before.words.least → IsTwin before written → IsTwin (at_least written grade) filled → after ≡ at_least filled least → IsTwin before after
-twin_back before written filled after grade least formed least_is first second after_is = record {
-  shape = subst (λ (s : State). SameShape before.grid s.grid) (sym after_is) (SameShape-then before.grid written.grid filled.grid first.shape second.shape);
-  words = ap (λ (s : State). s.words) after_is ∙ ap (with_least least) second.words ∙ with_least-again written.words least grade ∙ ap (with_least least) first.words ∙ ap (λ n. with_least n before.words) least_is ∙ with_least-same before formed;
-}
+-- the state with another least grade, and after a search there
+pub saved_at : (before made now : State) (grade : ℕ) → made ≡ at_least before grade → CanSave made now → CanSave before now
+saved_at before made now grade is can = CanSave-then before made now (subst (CanSave before) (sym is) (CanSave-least before grade)) can
 
--- snapshots of a state can save the state with entries written and another least grade, and the other way round
-pub can_save_part : (before written now : State) (grade : ℕ) → IsTwin before written → now ≡ at_least written grade → CanSave before now × CanSave now before
-can_save_part before written now grade twin is = (
-  subst (CanSave before) (sym is) (CanSave-then before written (at_least written grade) (CanSave-twin before written twin) (CanSave-least written grade)),
-  subst (λ s. CanSave s before) (sym is) (CanSave-then (at_least written grade) written before (CanSave-back written grade) (CanSave-twin written before (IsTwin-turned before written twin))),
-)
+-- a state that differs in the least grade from one that can be saved
+pub saved_found : (before now rest after : State) (least : ℕ) → CanSave before now → DiffersInLeast now rest → after ≡ at_least rest least → CanSave before after
+saved_found before now rest after least can differs after_is =
+    CanSave-then before now after can (subst (CanSave now) (sym (after_is ∙ differs least)) (CanSave-least now least))

@@ -1,7 +1,7 @@
 -- The search does not depend on the bound on placements, the chosen light is the first with the fewest words, and the
 -- answer is unique.
 use Rattle.std.proofs.Common.{◌≡◌, ℕ, zero, suc, ◌+◌, ◌-◌, ◌<◌, ◌≤◌, Bool, true, false, cond, not, ◌&&◌, List, [], ◌∷◌, length, Option, Some, None, refl, sym, ◌∙◌, ap, subst, arith, inl, inr}
-use Rattle.std.specs.Prelude.{nat_lt}
+use Rattle.std.specs.Prelude.{nat_lt, Result, Ok, Err, IfOk, OnErr}
 use Rattle.std.specs.List.{list_any}
 use Rattle.std.proofs.lemmas.Bool.{cases_eq, true≢false, false≢true, ltb-true, ltb-false}
 use Rattle.xw_feas.specs.State.{State}
@@ -229,7 +229,7 @@ choice_idle position false None some none = refl
 choice_idle position false (Some light) some none = absurd (words_idle (λ word. found (placed position light word)) (λ word. due (placed position light word)) (feasible_words position light) some none)
 
 -- a search that may make no placement leaves the state as it was
-pub filling_idle : (limit : ℕ) (before after : State) (filling : Filling) → IsShaped (position_of before).board → limit ≡ 0 → IsFilling limit before after filling → after ≡ before
+filling_idle : (limit : ℕ) (before after : State) (filling : Filling) → IsShaped (position_of before).board → limit ≡ 0 → IsFilling limit before after filling → after ≡ before
 filling_idle limit before after Filled shaped none is =
     let position = position_of before in
     let searched = search_is position shaped in
@@ -237,3 +237,7 @@ filling_idle limit before after Filled shaped none is =
     is.2 ∙ ap (λ (p : Position). filled_in before p.board.entries) ends ∙ sym (DiffersInEntries-itself before)
 filling_idle limit before after NoFill shaped none is = is.2
 filling_idle limit before after Limit shaped none is = is.1
+
+pub idle_ok : {Fault : Type 0} (limit : ℕ) (before after : State) (result : Result Filling Fault) → IsShaped (position_of before).board → limit ≡ 0 → IfOk result (IsFilling limit before after) → OnErr result (after ≡ before) → after ≡ before
+idle_ok limit before after (Ok filling) shaped none is same = filling_idle limit before after filling shaped none is
+idle_ok limit before after (Err fault) shaped none is same = same

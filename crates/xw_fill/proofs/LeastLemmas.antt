@@ -6,7 +6,7 @@ use Rattle.std.proofs.lemmas.Bool.{cases_lt, and_parts, and_from, le-leb, leb-tr
 use Rattle.std.proofs.lemmas.List.{get_or-map, length-map}
 use Rattle.std.proofs.lemmas.List.Quantifiers.{position-Some}
 use Rattle.std.proofs.lemmas.Slice.Eq.{bytes_eq-Decides}
-use Rattle.xw_words.specs.Dictionary.{Dictionary, Entry, no_entry, row, entry_at, index_of_word, best_grade, capped, is_left, limited, all_limited, with_least}
+use Rattle.xw_words.specs.Dictionary.{Dictionary, Entry, no_entry, known_words, entry_at, index_of_word, best_grade, capped, is_left, limited, all_limited, with_least}
 use Rattle.xw_words.proofs.DictionaryLemmas.{length-limited, row-with_least}
 use Rattle.xw_feas.specs.State.{State}
 use Rattle.xw_feas.specs.WellFormed.{IsWellFormed}
@@ -31,9 +31,9 @@ left_parts least entry h =
     (parts.0, leb-true least entry.grade parts.1)
 
 -- the index of a word that is active at a grade
-known_at : (words : Dictionary) (word : List ℕ) (grade : ℕ) → IsActive (with_least grade words) word → (k : ℕ) × (k < length (row words (length word))) × ((entry_at (row words (length word)) k).word ≡ word) × (is_left (capped grade) (entry_at (row words (length word)) k) ≡ true)
+known_at : (words : Dictionary) (word : List ℕ) (grade : ℕ) → IsActive (with_least grade words) word → (k : ℕ) × (k < length (known_words words (length word))) × ((entry_at (known_words words (length word)) k).word ≡ word) × (is_left (capped grade) (entry_at (known_words words (length word)) k) ≡ true)
 known_at words word grade active =
-    let entries = row words (length word) in
+    let entries = known_words words (length word) in
     let known : Entry = active.0 in
     let there = subst (λ (es : List Entry). Contains es known) (row-with_least grade words (length word)) active.1.0 in
     let below : there.0 < length entries = omega (arith, there.1, length-limited (capped grade) entries) in
@@ -41,9 +41,9 @@ known_at words word grade active =
     (there.0, below, ap (λ (e : Entry). e.word) is ∙ active.1.1, ap (λ (e : Entry). e.active) is ∙ active.1.2)
 
 -- a word at an index is active at a grade
-active_at : (words : Dictionary) (word : List ℕ) (grade k : ℕ) → k < length (row words (length word)) → (entry_at (row words (length word)) k).word ≡ word → is_left (capped grade) (entry_at (row words (length word)) k) ≡ true → IsActive (with_least grade words) word
+active_at : (words : Dictionary) (word : List ℕ) (grade k : ℕ) → k < length (known_words words (length word)) → (entry_at (known_words words (length word)) k).word ≡ word → is_left (capped grade) (entry_at (known_words words (length word)) k) ≡ true → IsActive (with_least grade words) word
 active_at words word grade k below spells left =
-    let entries = row words (length word) in
+    let entries = known_words words (length word) in
     let known = limited (capped grade) (entry_at entries k) in
     let there : Contains (all_limited (capped grade) entries) known = (k, omega (arith, below, length-limited (capped grade) entries), get_or-map (limited (capped grade)) entries k no_entry known below) in
     (known, (subst (λ (es : List Entry). Contains es known) (sym (row-with_least grade words (length word))) there, spells, left))
@@ -52,8 +52,8 @@ active_at words word grade k below spells left =
 pub active_down : (words : Dictionary) (grade lower : ℕ) (word : List ℕ) → lower ≤ grade → IsActive (with_least grade words) word → IsActive (with_least lower words) word
 active_down words grade lower word below active =
     let at = known_at words word grade active in
-    let parts = left_parts (capped grade) (entry_at (row words (length word)) at.0) at.3 in
-    active_at words word lower at.0 at.1 at.2 (and_from _ _ parts.0 (le-leb (capped lower) (entry_at (row words (length word)) at.0).grade (omega (arith, below, parts.1))))
+    let parts = left_parts (capped grade) (entry_at (known_words words (length word)) at.0) at.3 in
+    active_at words word lower at.0 at.1 at.2 (and_from _ _ parts.0 (le-leb (capped lower) (entry_at (known_words words (length word)) at.0).grade (omega (arith, below, parts.1))))
 
 -- ---- states
 
@@ -79,12 +79,12 @@ differs_lights before after differs = ap (λ (state : State). light_count (posit
 pub graded-none : (words : Dictionary) (word : List ℕ) (grade : ℕ) → index_of_word words word ≡ None → IsActive (with_least grade words) word → ⊥
 graded-none words word grade none active =
     let at = known_at words word grade active in
-    false≢true (sym (no_index (λ (e : Entry). bytes_eq e.word word) (row words (length word)) no_entry 0 none at.0 (omega arith) at.1) ∙ (bytes_eq-Decides _ word).1 at.2)
+    false≢true (sym (no_index (λ (e : Entry). bytes_eq e.word word) (known_words words (length word)) no_entry 0 none at.0 (omega arith) at.1) ∙ (bytes_eq-Decides _ word).1 at.2)
 
 -- the word at an index is the one that was looked for
-graded-index : (words : Dictionary) (word : List ℕ) (index k : ℕ) → HasDistinctWords words → index_of_word words word ≡ Some index → k < length (row words (length word)) → (entry_at (row words (length word)) k).word ≡ word → k ≡ index
+graded-index : (words : Dictionary) (word : List ℕ) (index k : ℕ) → HasDistinctWords words → index_of_word words word ≡ Some index → k < length (known_words words (length word)) → (entry_at (known_words words (length word)) k).word ≡ word → k ≡ index
 graded-index words word index k distinct found below spells =
-    let known = row words (length word) in
+    let known = known_words words (length word) in
     let long = length-map known (λ (e : Entry). e.word) in
     let there = position-Some (λ (e : Entry). bytes_eq e.word word) known index no_entry found in
     let same : (entry_at known index).word ≡ word = (bytes_eq-Decides _ word).0 there.1 in
@@ -92,21 +92,21 @@ graded-index words word index k distinct found below spells =
     (get_or-map (λ (e : Entry). e.word) known k no_entry [] below ∙ spells ∙ sym same ∙ sym (get_or-map (λ (e : Entry). e.word) known index no_entry [] there.0))
 
 -- a known word that is active at a grade has this grade or a better one
-pub graded-some : (words : Dictionary) (word : List ℕ) (index grade : ℕ) → HasDistinctWords words → index_of_word words word ≡ Some index → grade ≤ best_grade → IsActive (with_least grade words) word → grade ≤ (entry_at (row words (length word)) index).grade
+pub graded-some : (words : Dictionary) (word : List ℕ) (index grade : ℕ) → HasDistinctWords words → index_of_word words word ≡ Some index → grade ≤ best_grade → IsActive (with_least grade words) word → grade ≤ (entry_at (known_words words (length word)) index).grade
 graded-some words word index grade distinct found within active =
     let at = known_at words word grade active in
     let here = graded-index words word index at.0 distinct found at.1 at.2 in
-    let parts = left_parts (capped grade) (entry_at (row words (length word)) at.0) at.3 in
-    subst (λ k. grade ≤ (entry_at (row words (length word)) k).grade) here (omega (arith, within, parts.1))
+    let parts = left_parts (capped grade) (entry_at (known_words words (length word)) at.0) at.3 in
+    subst (λ k. grade ≤ (entry_at (known_words words (length word)) k).grade) here (omega (arith, within, parts.1))
 
 -- a word that is active at some grade is active at its own and each lower one
-pub graded-reached : (words : Dictionary) (word : List ℕ) (index grade other : ℕ) → HasDistinctWords words → index_of_word words word ≡ Some index → IsActive (with_least other words) word → grade ≤ (entry_at (row words (length word)) index).grade → IsActive (with_least grade words) word
+pub graded-reached : (words : Dictionary) (word : List ℕ) (index grade other : ℕ) → HasDistinctWords words → index_of_word words word ≡ Some index → IsActive (with_least other words) word → grade ≤ (entry_at (known_words words (length word)) index).grade → IsActive (with_least grade words) word
 graded-reached words word index grade other distinct found active below =
     let at = known_at words word other active in
     let here = graded-index words word index at.0 distinct found at.1 at.2 in
-    let parts = left_parts (capped other) (entry_at (row words (length word)) at.0) at.3 in
-    let within = subst (λ k. grade ≤ (entry_at (row words (length word)) k).grade) (sym here) below in
-    active_at words word grade at.0 at.1 at.2 (and_from _ _ parts.0 (le-leb (capped grade) (entry_at (row words (length word)) at.0).grade (omega (arith, within))))
+    let parts = left_parts (capped other) (entry_at (known_words words (length word)) at.0) at.3 in
+    let within = subst (λ k. grade ≤ (entry_at (known_words words (length word)) k).grade) (sym here) below in
+    active_at words word grade at.0 at.1 at.2 (and_from _ _ parts.0 (le-leb (capped grade) (entry_at (known_words words (length word)) at.0).grade (omega (arith, within))))
 
 -- ---- the worst grade of some lights
 

@@ -18,8 +18,7 @@ use Rattle.xw_fill.specs.Position.{Position, position_of, with_entries, holding,
 use Rattle.xw_fill.specs.Search.{light_count, is_entered, spelling, spell_same}
 use Rattle.xw_fill.proofs.Shaped.{IsShaped, shaped}
 use Rattle.xw_fill.proofs.BelowLemmas.{any_below-gives, any_below-none}
-use Rattle.xw_fill.proofs.MarksLemmas.{IsTwin-entries}
-use Rattle.xw_fill.proofs.StateLemmas.{DiffersInEntries-then, same_state}
+use Rattle.xw_fill.proofs.StateLemmas.{DiffersInEntries-then, IsTwin-entries}
 use Rattle.xw_fill.proofs.StackLemmas.{differs_back}
 use Rattle.xw_fill.proofs.PlacingLemmas.{cell_in, entered-at, entered-from, spelled-same}
 use Rattle.xw_fill.specs.NamedFill.{flags, entry_in}
@@ -146,14 +145,6 @@ letter_refuted named start now cell letter watched is may are refuted =
 pub entered_at : (start before after : State) (frame : Frame) (entries : List (Option ℕ)) → IsAt start entries before → IsLetterEntered frame before after → IsAt start (with_frame entries frame) after
 entered_at start before after frame entries at entered = (DiffersInEntries-then start before after at.0 entered.entries, entered.entered ∙ ap (λ e. with_frame e frame) at.1)
 
--- a letter leads to a state from one state alone
-pub letter_once : (frame : Frame) (one other after : State) → IsLetterEntered frame one after → IsLetterEntered frame other after → other ≡ one
-letter_once frame one other after a b =
-    let differs = DiffersInEntries-then one after other a.entries (differs_back other after b.entries) in
-    let same : entries_of other ≡ entries_of one =
-    sym (set_back (entries_of other) frame.cell frame.letter b.empty) ∙ ap (λ e. set e frame.cell None) (sym b.entered ∙ a.entered) ∙ set_back (entries_of one) frame.cell frame.letter a.empty in
-    same_state one other differs (position_at one other differs ∙ ap (holding (position_of one)) same)
-
 -- what holds of a search under way: the letters of the stack are entered, and a cell is being filled
 pub record IsUnderway (named : ℕ → Bool) (start : State) (stack : List Frame) (cell tried : ℕ) (state : State) : Type 0 where
   pub frames : AreFrames named (position_of start) (entries_of start) stack
@@ -197,6 +188,12 @@ module _ (named : ℕ → Bool) (start : State) (is : IsShaped (board_of start.g
         AreFrames-more named (position_of start) (entries_of start) stack frame underway.frames (record { right = underway.here; only = λ forced. subst (λ (p : Position). IsOnlyLetter p frame.cell frame.letter) (at_position start before now underway.at) (only forced) }),
         subst (λ e. IsAt start e state) (sym ends) at,
       )
+
+  -- each watched light has a feasible word
+  pub underway_alive : (stack : List Frame) (cell tried : ℕ) (state : State) (watched : List Bool) → IsUnderway named start stack cell tried state → ((light : ℕ) → light < light_count (position_of start) → flags watched light ≡ is_watched named (position_of start) light) → AreAlive (flags watched) (position_of state)
+  underway_alive stack cell tried state watched underway are =
+      subst (AreAlive (flags watched)) (sym (at_position start state (end_of (entries_of start) stack) underway.at))
+      (λ light in_grid watch. underway.here.is_open.alive light in_grid (sym (are light in_grid) ∙ watch))
 
   -- a cell is chosen to be filled
   pub underway_at : (stack : List Frame) (cell tried : ℕ) (state : State) → AreFrames named (position_of start) (entries_of start) stack → IsOpen named (position_of start) (end_of (entries_of start) stack) → IsAt start (end_of (entries_of start) stack) state

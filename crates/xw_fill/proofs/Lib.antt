@@ -1,7 +1,6 @@
 pub mod BelowLemmas
 pub mod Shaped
 pub mod StateLemmas
-pub mod MarksLemmas
 pub mod StackLemmas
 pub mod FeasibleWordsLemmas
 pub mod FeasibleLettersLemmas
@@ -14,6 +13,7 @@ pub mod FillLemmas
 pub mod ScanLemmas
 pub mod WordsLemmas
 pub mod Trail
+pub mod TrialLemmas
 pub mod Searching
 pub mod SuggestingLemmas
 pub mod ChoiceLemmas

@@ -5,7 +5,7 @@ use Rattle.std.proofs.lemmas.Bool.{and_parts, and_from, cases_Bool, false≢true
 use Rattle.std.proofs.lemmas.List.{get_or-map, length-map, map-append, get_or_default, take_more, take_more_set}
 use Rattle.std.proofs.lemmas.List.Quantifiers.{position-Some}
 use Rattle.std.proofs.lemmas.Slice.Eq.{bytes_eq-Decides}
-use Rattle.xw_words.specs.Dictionary.{Entry, no_entry, Dictionary, row as known_words, index_of_word}
+use Rattle.xw_words.specs.Dictionary.{Entry, no_entry, Dictionary, known_words, index_of_word}
 use Rattle.xw_feas.specs.Known.{spellings}
 use Rattle.xw_feas.specs.Board.{Board, entry, spelled}
 use Rattle.xw_fill.proofs.Shaped.{HasDistinctWords}

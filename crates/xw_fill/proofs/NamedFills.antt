@@ -7,7 +7,7 @@ use Rattle.std.proofs.lemmas.List.{get_or-map, length-map, length-set, get_or-se
 use Rattle.xw_letters.specs.Letter.{IsLetter, is_capital}
 use Rattle.xw_letters.specs.LetterSet.{has}
 use Rattle.xw_letters.proofs.LetterSetLemmas.{capital_is_letter}
-use Rattle.xw_words.specs.Dictionary.{Dictionary, Entry, row as known_words}
+use Rattle.xw_words.specs.Dictionary.{Dictionary, Entry, known_words}
 use Rattle.xw_feas.specs.Board.{Board, is_open, allows, agrees, light_at, is_wholly_entered, spelled}
 use Rattle.xw_feas.specs.Feasible.{Family, IsSupported, base_words, base_words_at}
 use Rattle.xw_feas.specs.WellFormed.{HasLetterEntries}

@@ -156,6 +156,10 @@ filled_all limit before after Filled laid found has_it =
 filled_all limit before after NoFill laid found has_it = (λ entries is. has_it entries (fill_from_all (position_of before) entries is), found.2)
 filled_all limit before after Limit laid found has_it = found.1
 
+pub filled_ok : {Fault : Type 0} (limit : ℕ) (before after : State) (result : Result Filling Fault) → IsLaidOut (board_of before.grid) → IfOk result (IsFilling limit before after) → IfOk result (HasFill before after) → IfOk result (IsAutofilled (λ light. true) before after)
+filled_ok limit before after (Ok filling) laid found has_it = filled_all limit before after filling laid found has_it
+filled_ok limit before after (Err fault) laid found has_it = tt
+
 -- ---- the same lights
 
 any_below-same : (f g : ℕ → Bool) (n : ℕ) → ((k : ℕ) → k < n → f k ≡ g k) → any_below f n ≡ any_below g n

@@ -9,7 +9,7 @@ use Rattle.std.proofs.lemmas.List.Sums.{sum_by-set}
 use Rattle.xw_letters.specs.Letter.{IsLetter}
 use Rattle.xw_grid.specs.declared.cell.Cell.{Cell}
 use Rattle.xw_grid.specs.declared.cell.Square.TheVariants.{Open}
-use Rattle.xw_grid.specs.Grid.{IsSquare, is_open, index_of, cell_at, entry as entry_of}
+use Rattle.xw_grid.specs.Grid.{IsSquare, is_open, index_of, cell_at, entry as grid_entry}
 use Rattle.xw_grid.proofs.GridLemmas.{index_of-cell_at}
 use Rattle.xw_feas.specs.State.{State}
 use Rattle.xw_feas.specs.WellFormed.{IsWellFormed}
@@ -55,11 +55,11 @@ good_letter None h = tt
 good_letter (Some letter) h = h
 
 -- an empty cell is needed
-pub needed_empty : (state : State) (light : ℕ) (cell : Cell) (found : Option ℕ) → is_open state.grid cell ≡ true → found ≡ entry_of state.grid cell → is_some found ≡ false → IsNeeded (position_of state) light (entries_of state) (index_of state.grid cell)
+pub needed_empty : (state : State) (light : ℕ) (cell : Cell) (found : Option ℕ) → is_open state.grid cell ≡ true → found ≡ grid_entry state.grid cell → is_some found ≡ false → IsNeeded (position_of state) light (entries_of state) (index_of state.grid cell)
 needed_empty state light cell found opens is none letter h =
     absurd (false≢true (sym none ∙ ap is_some (is ∙ entry_of_open state.grid cell opens ∙ h)))
 
-pub spared_cell : (before now : State) (light : ℕ) (cell : Cell) (found : Option ℕ) → is_open before.grid cell ≡ true → found ≡ entry_of before.grid cell → is_some found ≡ true
+pub spared_cell : (before now : State) (light : ℕ) (cell : Cell) (found : Option ℕ) → is_open before.grid cell ≡ true → found ≡ grid_entry before.grid cell → is_some found ≡ true
     → entries_of now ≡ set (entries_of before) (index_of before.grid cell) None → DiffersInEntries before now → lacks_words (position_of now) light ≡ true → IsSpared before light (index_of before.grid cell) now
 spared_cell before now light cell found opens is some entries rest dead =
     let there = some_letter found some in
@@ -81,7 +81,7 @@ set_twice (entry ∷ entries) zero first second = refl
 set_twice (entry ∷ entries) (suc k) first second = ap (λ rest. entry ∷ rest) (set_twice entries k first second)
 
 -- the entry was written back
-pub cell_back : (before between now : State) (cell : Cell) (found : Option ℕ) → is_open before.grid cell ≡ true → found ≡ entry_of before.grid cell
+pub cell_back : (before between now : State) (cell : Cell) (found : Option ℕ) → is_open before.grid cell ≡ true → found ≡ grid_entry before.grid cell
     → entries_of between ≡ set (entries_of before) (index_of before.grid cell) None → DiffersInEntries before between
     → entries_of now ≡ set (entries_of between) (index_of between.grid cell) found → DiffersInEntries between now → now ≡ before
 cell_back before between now cell found opens is emptied rest written rest_now =

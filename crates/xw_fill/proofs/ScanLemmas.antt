@@ -20,7 +20,7 @@ use Rattle.xw_feas.specs.Feasible.{Answers}
 use Rattle.xw_fill.specs.Position.{Position, position_of, holding, DiffersInEntries}
 use Rattle.xw_feas.specs.Engine.{IsEdited}
 use Rattle.xw_feas.specs.declared.changed.Changed.{Changed}
-use Rattle.xw_fill.specs.declared.tries.Try.{Try}
+use Rattle.xw_fill.specs.declared.trial.Trial.{Trial}
 use Rattle.xw_fill.specs.Below.{any_below}
 use Rattle.xw_fill.specs.FeasibleWords.{feasible_words}
 use Rattle.xw_fill.specs.Search.{light_count, is_entered, is_repeat, lacks_words, is_dead, chosen_below, chosen}
@@ -28,7 +28,7 @@ use Rattle.xw_fill.specs.Filling.{scanned, outlook, next_of, unless_repeated}
 use Rattle.xw_fill.specs.declared.scan.Scan.{Scan}
 use Rattle.xw_fill.specs.declared.scan.Scan.TheVariants.{Blocked, Open}
 use Rattle.xw_fill.specs.declared.search.Next.TheVariants.{Spent}
-use Rattle.xw_fill.specs.Inner.Tries.{without_letters, taken_back}
+use Rattle.xw_fill.specs.Inner.Trial.{without_letters, taken_back}
 use Rattle.xw_fill.proofs.BelowLemmas.{any_below-from}
 
 -- a light with 0 feasible words
@@ -190,10 +190,10 @@ take_back-pass before light pos blanks list so_far below not_blank =
     }
 
 -- writing the list undoes the placement
-pub take_back-end : (before now : State) (answers_before answers_now : Answers) (tried : Try) (list : List (Cell × Option ℕ)) (pos : ℕ) (result : Result Changed Refusal) → IsTakingBack before tried.light tried.blanks list pos
-    → length (light_at (board_of before.grid) tried.light) ≤ pos → IsEdited before answers_before (list_written list) result now answers_now
-    → (position_of now ≡ taken_back (position_of before) tried) × DiffersInEntries before now
-take_back-end before now answers_before answers_now tried list pos result so_far all edited =
+pub take_back-end : (before now : State) (answers_before answers_now : Answers) (trial : Trial) (list : List (Cell × Option ℕ)) (pos : ℕ) (result : Result Changed Refusal) → IsTakingBack before trial.light trial.blanks list pos
+    → length (light_at (board_of before.grid) trial.light) ≤ pos → IsEdited before answers_before (list_written list) result now answers_now
+    → (position_of now ≡ taken_back (position_of before) trial) × DiffersInEntries before now
+take_back-end before now answers_before answers_now trial list pos result so_far all edited =
     let done = edit_done before now (record before { grid = so_far.grid }) answers_before answers_now (list_written list) result (ap (λ r. with_grid before (by_fault r)) so_far.written) refl edited in (
       ap position_of done ∙ so_far.partly.0 ∙ ap (holding (position_of before)) (sym (without_letters-end _ _ pos _ all) ∙ so_far.entries),
       subst (DiffersInEntries before) (sym done) so_far.partly.1,

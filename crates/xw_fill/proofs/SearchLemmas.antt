@@ -1,11 +1,11 @@
 -- Lemmas on dead positions, the chosen light, and the number of lights that are not wholly entered.
-use Rattle.std.proofs.Common.{◌≡◌, ◌≢◌, ℕ, zero, suc, ◌+◌, ◌<◌, ◌≤◌, Bool, true, false, cond, not, ◌&&◌, List, [], ◌∷◌, map, length, get_or, Option, Some, None, refl, sym, ◌∙◌, ap, subst, arith, add-one, inl, inr}
+use Rattle.std.proofs.Common.{◌≡◌, ◌≢◌, ℕ, zero, suc, ◌<◌, ◌≤◌, Bool, true, false, cond, not, ◌&&◌, List, [], ◌∷◌, map, length, get_or, Option, Some, None, refl, sym, ◌∙◌, ap, subst, arith, inl, inr}
 use Rattle.std.specs.Prelude.{filter, Contains, nat_lt, bytes_eq}
 use Rattle.std.proofs.lemmas.Bool.{and_parts, and_from, cases_Bool, false≢true, cases_lt, cases_eq, or_parts, or_from, cond_both, false_from_ne_true}
 use Rattle.std.proofs.lemmas.List.{get_or_past, get_or-map}
 use Rattle.std.proofs.lemmas.Slice.Eq.{bytes_eq-Decides}
 use Rattle.xw_feas.specs.Board.{Board, entry, agrees, light_at, is_wholly_entered, spelled}
-use Rattle.xw_words.specs.Dictionary.{Entry, Dictionary, row as known_words}
+use Rattle.xw_words.specs.Dictionary.{Entry, Dictionary, known_words}
 use Rattle.xw_feas.specs.Feasible.{base_words, base_words_at}
 use Rattle.xw_fill.specs.Position.{Position, placed}
 use Rattle.xw_fill.proofs.Shaped.{IsShaped}
@@ -29,9 +29,6 @@ one_or_none : (after before : Bool) → (after ≡ true → before ≡ true) →
 one_or_none true before h = rw (h refl) (omega arith)
 one_or_none false before h = omega arith
 
-pub count_below-more : (test : ℕ → Bool) (n count next : ℕ) (b : Bool) → count ≡ count_below test n → test n ≡ b → next ≡ count + cond b 1 0 → next ≡ count_below test (n + 1)
-count_below-more test n count next b so_far here is = rw add-one (is ∙ ap (λ k. k + cond b 1 0) so_far ∙ ap (λ passes. count_below test n + cond passes 1 0) (sym here))
-
 pub count_below-le : (after before : ℕ → Bool) (n : ℕ) → ((k : ℕ) → k < n → after k ≡ true → before k ≡ true) → count_below after n ≤ count_below before n
 count_below-le after before zero h = omega arith
 count_below-le after before (suc n) h =
@@ -53,13 +50,6 @@ count_below-less after before (suc n) k h below gone was =
           let here = one_or_none (after n) (before n) (h n (omega arith)) in
           omega arith
     ]
-
-pub count_below-most : (test : ℕ → Bool) (n : ℕ) → count_below test n ≤ n
-count_below-most test zero = omega arith
-count_below-most test (suc n) =
-    let rest = count_below-most test n in
-    let here = one_or_none (test n) true (λ e. refl) in
-    omega arith
 
 -- the chosen light
 abbrev IsOpenBelow : Position → ℕ → ℕ → Type 0

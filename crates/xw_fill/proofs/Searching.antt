@@ -1,11 +1,11 @@
 -- The invariant of a search for a fill, and how each step keeps it.
-use Rattle.std.proofs.Common.{◌≡◌, ℕ, zero, suc, ◌+◌, ◌<◌, ◌≤◌, Bool, true, false, cond, not, List, [], ◌∷◌, ◌++◌, map, length, get_or, Option, Some, None, refl, sym, ◌∙◌, ap, subst, arith}
-use Rattle.std.specs.Prelude.{is_none, Result, Ok, Err, MatchResult, IsErrAnd, IfOk}
+use Rattle.std.proofs.Common.{◌≡◌, ℕ, zero, suc, ◌+◌, ◌<◌, ◌≤◌, Bool, true, false, cond, List, [], ◌∷◌, ◌++◌, length, get_or, Option, Some, None, refl, sym, ◌∙◌, ap, subst, arith}
+use Rattle.std.specs.Prelude.{Result, Ok, Err, MatchResult, IsErrAnd, IfOk, OnErr}
 use Rattle.std.specs.Option.{option_to_list}
 use Rattle.std.specs.List.{list_any}
 use Rattle.std.proofs.lemmas.Bool.{false≢true}
-use Rattle.std.proofs.lemmas.List.{nil_from_length, get_or-map}
-use Rattle.xw_feas.specs.Board.{board_of, light_at, entry}
+use Rattle.std.proofs.lemmas.List.{nil_from_length}
+use Rattle.xw_feas.specs.Board.{board_of, light_at}
 use Rattle.xw_feas.specs.State.{State}
 use Rattle.xw_fill.proofs.Shaped.{shaped, distinct_words}
 use Rattle.xw_fill.proofs.StateLemmas.{same_state}
@@ -13,18 +13,19 @@ use Rattle.xw_feas.specs.WellFormed.{IsWellFormed}
 use Rattle.xw_fill.specs.Position.{Position, position_of, filled_in, DiffersInEntries}
 use Rattle.xw_fill.specs.FeasibleWords.{is_feasible_word}
 use Rattle.xw_fill.specs.Search.{light_count, is_entered, is_dead, chosen, found_in, due_of, due_in, end_in, unentered_count, found, due, end}
-use Rattle.xw_fill.specs.Inner.Tries.{AreBlanks, taken_back}
-use Rattle.xw_fill.specs.Filling.{outlook, next_of, IsFilling, HasFill}
+use Rattle.xw_fill.specs.Inner.Stack.{first_or, LeadThrough}
+use Rattle.xw_fill.specs.Inner.Tries.{IsMade}
+use Rattle.xw_fill.specs.Filling.{outlook, next_of, IsFilling, HasFill, UnlessFilled}
 use Rattle.xw_fill.specs.declared.tries.Try.{Try}
 use Rattle.xw_fill.specs.declared.search.Filling.{Filling}
 use Rattle.xw_fill.specs.declared.search.Filling.TheVariants.{Filled, NoFill, Limit}
 use Rattle.xw_fill.specs.declared.search.Next.{Next}
 use Rattle.xw_fill.specs.declared.search.Next.TheVariants.{Done, Spent, Words}
 use Rattle.xw_fill.proofs.FillLemmas.{fill_is_found, found_is_fill, reached-start}
-use Rattle.xw_fill.proofs.SearchLemmas.{chosen-Some, chosen-counted, count_below-most}
+use Rattle.xw_fill.proofs.SearchLemmas.{chosen-Some, chosen-counted}
 use Rattle.xw_fill.specs.Words.{spellings_at, words_before, IsNextWord, HasNoMore}
 use Rattle.xw_fill.proofs.WordsLemmas.{next_before, no_more_before}
-use Rattle.xw_fill.proofs.Trail.{IsSound, IsUnderWay, spent_on, found_after, due_after, IsTried, after_try, cost_of, Trail, trail-found, trail-due, trail-more, trail-last, trail-sound, trail-depth, trail-enough, trail-lights, tried-failed, taken_back-placed, way-spent}
+use Rattle.xw_fill.proofs.Trail.{IsSound, IsUnderWay, spent_on, found_after, due_after, IsTried, after_try, cost_of, Trail, trail-found, trail-due, trail-more, trail-last, trail-sound, trail-enough, trail-lights, trail-at, after_tries, made_through, tried-failed, way-spent}
 
 -- what is known at the current position, and the placements spent on it
 abbrev pub IsAt : ℕ → Position → ℕ → Next → Type 0
@@ -67,14 +68,12 @@ searching-start start = record {
 }
 
 -- undoing a try
-pub searching-back : (start current : Position) (tries : List Try) (tried : Try) (used : ℕ) → IsSound start → IsSearching start (tries ++ tried ∷ []) used current Spent → IsSearching start tries used (taken_back current tried) (Words tried.light (tried.index + 1))
-searching-back start current tries tried used sound s =
+pub searching-back : (start current : Position) (tries : List Try) (tried : Try) (used : ℕ) → IsSearching start (tries ++ tried ∷ []) used current Spent → IsSearching start tries used (after_tries start tries) (Words tried.light (tried.index + 1))
+searching-back start current tries tried used s =
     let last = trail-last tries (unentered_count start) start s.cost s.left current tried s.trail in
-    let before_sound = trail-sound tries (unentered_count start) start last.paid (suc s.left) last.before sound last.trail in
     let failed = tried-failed s.left last.before tried last.is (ap (found_in s.left) (sym last.current_is) ∙ s.at.0) in
-    let back : taken_back current tried ≡ last.before = ap (λ p. taken_back p tried) last.current_is ∙ taken_back-placed s.left last.before tried before_sound last.is in
     let spent : due_in s.left current ≡ due_in s.left (after_try last.before tried) = ap (due_in s.left) last.current_is in
-    rw back (record {
+    subst (λ position. IsSearching start tries used position (Words tried.light (tried.index + 1))) (trail-at tries (unentered_count start) start last.paid (suc s.left) last.before last.trail) (record {
       cost = last.paid;
       left = suc s.left;
       spent = spent_on s.left last.before tried.light (tried.index + 1);
@@ -82,6 +81,13 @@ searching-back start current tries tried used sound s =
       at = (failed.0, refl);
       used_is = omega (arith, s.used_is, last.cost_is, failed.1, s.at.1);
     })
+
+-- the levels of the engine lead to the same position
+pub searching-returned : (start current : Position) (tries : List Try) (tried : Try) (used : ℕ) (before now : State) (levels : List State) → IsSearching start (tries ++ tried ∷ []) used current Spent → LeadThrough IsMade tries levels now → first_or levels now ≡ before → position_of before ≡ start
+    → IsSearching start tries used (position_of now) (Words tried.light (tried.index + 1))
+searching-returned start current tries tried used before now levels s lead began start_is =
+    let here : position_of now ≡ after_tries start tries = made_through tries levels now lead ∙ ap (λ state. after_tries (position_of state) tries) began ∙ ap (λ position. after_tries position tries) start_is in
+    subst (λ position. IsSearching start tries used position (Words tried.light (tried.index + 1))) (sym here) (searching-back start current tries tried used s)
 
 -- no word is left to try
 pub searching-spent : (start current : Position) (tries : List Try) (used light from : ℕ) → IsSound start → IsSearching start tries used current (Words light from) → HasNoMore current light from → IsSearching start tries used current Spent
@@ -107,24 +113,23 @@ searching-alive start current tries used light from s = split s.left s.at where
   split (suc left) at = at.0.alive
 
 -- the next word makes a valid try
-next_try : (left : ℕ) (current : Position) (light from index : ℕ) (tried : Try) → IsUnderWay left current light from → IsNextWord current light from index → tried.light ≡ light → tried.index ≡ index → AreBlanks current.board (light_at current.board light) tried.blanks → IsTried left current tried × (spent_on left current tried.light tried.index ≡ spent_on left current light from)
-next_try left current light from index tried way next is at blanks = (
+next_try : (left : ℕ) (current : Position) (light from index : ℕ) (tried : Try) → IsUnderWay left current light from → IsNextWord current light from index → tried.light ≡ light → tried.index ≡ index → IsTried left current tried × (spent_on left current tried.light tried.index ≡ spent_on left current light from)
+next_try left current light from index tried way next is at = (
   record {
     way = record { alive = way.alive; chosen_is = way.chosen_is ∙ ap Some (sym is); failed = ap (λ l. list_any (found_after left current l) (words_before current l tried.index)) is ∙ ap (λ p. list_any (found_after left current light) (words_before current light p)) at ∙ ap (list_any (found_after left current light)) (next_before current light from index next) ∙ way.failed };
     within = rw (is, at) next.within;
     feasible = ap (λ l. is_feasible_word current l (get_or (spellings_at current l) tried.index [])) is ∙ ap (λ p. is_feasible_word current light (get_or (spellings_at current light) p [])) at ∙ next.feasible;
-    blanks = rw is blanks;
   },
   ap (λ l. spent_on left current l tried.index) is ∙ ap (λ p. spent_on left current light p) at ∙ ap (due_of (found_after left current light) (due_after left current light)) (next_before current light from index next),
 )
 
-pub searching-placed : (start current : Position) (tries : List Try) (used light from index : ℕ) (tried : Try) → IsSound start → IsSearching start tries used current (Words light from) → IsNextWord current light from index → tried.light ≡ light → tried.index ≡ index → AreBlanks current.board (light_at current.board light) tried.blanks
+pub searching-placed : (start current : Position) (tries : List Try) (used light from index : ℕ) (tried : Try) → IsSound start → IsSearching start tries used current (Words light from) → IsNextWord current light from index → tried.light ≡ light → tried.index ≡ index
     → IsSearching start (tries ++ tried ∷ []) (used + 1) (after_try current tried) (outlook (after_try current tried))
-searching-placed start current tries used light from index tried sound s next is at blanks = split s.left s.trail s.at where
+searching-placed start current tries used light from index tried sound s next is at = split s.left s.trail s.at where
   split : (left : ℕ) → Trail (unentered_count start) start tries s.cost left current → IsAt left current s.spent (Words light from) → IsSearching start (tries ++ tried ∷ []) (used + 1) (after_try current tried) (outlook (after_try current tried))
   split zero trail here = absurd here
   split (suc left) trail here =
-      let made = next_try left current light from index tried here.0 next is at blanks in
+      let made = next_try left current light from index tried here.0 next is at in
       let more = trail-more tries (unentered_count start) start s.cost left current tried trail made.0 in
       record {
         cost = s.cost + cost_of left current tried;
@@ -136,34 +141,24 @@ searching-placed start current tries used light from index tried sound s next is
       }
 
 -- a try that leads to a dead position
-pub searching-failed : (start current : Position) (tries : List Try) (used light from index : ℕ) (tried : Try) (there : Position) → IsSound start → IsSearching start tries used current (Words light from) → IsNextWord current light from index → tried.light ≡ light → tried.index ≡ index → AreBlanks current.board (light_at current.board light) tried.blanks
-    → there ≡ after_try current tried → taken_back there tried ≡ current → is_dead there ≡ true
+pub searching-failed : (start current : Position) (tries : List Try) (used light from index : ℕ) (tried : Try) (there : Position) → IsSound start → IsSearching start tries used current (Words light from) → IsNextWord current light from index → tried.light ≡ light → tried.index ≡ index
+    → there ≡ after_try current tried → is_dead there ≡ true
     → IsSearching start tries (used + 1) current (Words light (index + 1))
-searching-failed start current tries used light from index tried there sound s next is at blanks there_is back dead =
-    let placed = searching-placed start current tries used light from index tried sound s next is at blanks in
+searching-failed start current tries used light from index tried there sound s next is at there_is dead =
+    let placed = searching-placed start current tries used light from index tried sound s next is at in
     let spent : outlook (after_try current tried) ≡ Spent = ap outlook (sym there_is) ∙ ap (λ b. cond b Spent (next_of (chosen there))) dead in
-    let failed = searching-back start (after_try current tried) tries tried (used + 1) sound (subst (IsSearching start (tries ++ tried ∷ []) (used + 1) (after_try current tried)) spent placed) in
+    let failed = searching-back start (after_try current tried) tries tried (used + 1) (subst (IsSearching start (tries ++ tried ∷ []) (used + 1) (after_try current tried)) spent placed) in
     subst (λ n. IsSearching start tries (used + 1) current (Words light (n + 1))) at
     (subst (λ l. IsSearching start tries (used + 1) current (Words l (tried.index + 1))) is
-    (subst (λ position. IsSearching start tries (used + 1) position (Words tried.light (tried.index + 1))) (ap (λ position. taken_back position tried) (sym there_is) ∙ back) failed))
-
--- the stack of tries has room for one more
-pub searching-room : (start current : Position) (tries : List Try) (used light from : ℕ) → IsSearching start tries used current (Words light from) → length tries < light_count start
-searching-room start current tries used light from s = split s.left s.trail s.at where
-  split : (left : ℕ) → Trail (unentered_count start) start tries s.cost left current → IsAt left current s.spent (Words light from) → length tries < light_count start
-  split zero trail at = absurd at
-  split (suc left) trail at =
-      let deep = trail-depth tries (unentered_count start) start s.cost (suc left) current trail in
-      let few = count_below-most (λ light. not (is_entered start light)) (light_count start) in
-      omega arith
+    (subst (λ position. IsSearching start tries (used + 1) position (Words tried.light (tried.index + 1))) (sym (trail-at tries (unentered_count start) start s.cost s.left current s.trail)) failed))
 
 -- if the limit is reached and a word is left, more placements are due than the limit allows
-pub searching-limit : (start current : Position) (tries : List Try) (used light from index : ℕ) (tried : Try) → IsSound start → IsSearching start tries used current (Words light from) → IsNextWord current light from index → tried.light ≡ light → tried.index ≡ index → AreBlanks current.board (light_at current.board light) tried.blanks → used < due start
-searching-limit start current tries used light from index tried sound s next is at blanks = split s.left s.trail s.at where
+pub searching-limit : (start current : Position) (tries : List Try) (used light from index : ℕ) (tried : Try) → IsSound start → IsSearching start tries used current (Words light from) → IsNextWord current light from index → tried.light ≡ light → tried.index ≡ index → used < due start
+searching-limit start current tries used light from index tried sound s next is at = split s.left s.trail s.at where
   split : (left : ℕ) → Trail (unentered_count start) start tries s.cost left current → IsAt left current s.spent (Words light from) → used < due start
   split zero trail here = absurd here
   split (suc left) trail here =
-      let made = next_try left current light from index tried here.0 next is at blanks in
+      let made = next_try left current light from index tried here.0 next is at in
       let more = trail-more tries (unentered_count start) start s.cost left current tried trail made.0 in
       let all = trail-due (tries ++ tried ∷ []) (unentered_count start) start (s.cost + cost_of left current tried) left (after_try current tried) sound more in
       omega (arith, s.used_is, here.1, made.1)
@@ -213,7 +208,17 @@ filling-fill limit before now Filled formed h =
 filling-fill limit before now NoFill formed h = λ entries fill. false≢true (sym h.1 ∙ fill_is_found (unentered_count (position_of before)) (position_of before) entries (shaped (board_of before.grid) formed.board) (omega arith) fill)
 filling-fill limit before now Limit formed h = tt
 
+-- an answer that leaves the state as it was
+pub unless_filled : {A : Type 0} (limit : ℕ) (before after : State) (filling : Filling) → IsFilling limit before after filling → (after ≡ before → A) → UnlessFilled filling A
+unless_filled limit before after Filled is then = tt
+unless_filled limit before after NoFill is then = then is.2
+unless_filled limit before after Limit is then = then is.1
+
 -- ---- the terms of the code
+
+pub on_err : {T E P : Type 0} (result : Result T E) → P → OnErr result P
+on_err (Ok x) is = tt
+on_err (Err e) is = is
 
 -- a property of a value that was returned, with its error type changed
 pub made : {T E D : Type 0} (r : Result T E) (m : Result T D) (x : T) (P : E → D → Type 0) (Q : T → Type 0) → MatchResult r (λ y. m ≡ Ok y) (λ e. IsErrAnd m (P e)) → m ≡ Ok x → IfOk r Q → Q x
@@ -238,9 +243,9 @@ last-index start current tries tried used sound s =
     omega arith
 
 -- the try of this word in this light
-abbrev pub try_at : Position → ℕ → ℕ → Try
-try_at position light index = record { light = light; index = index; blanks = map (λ cell. is_none (entry position.board cell)) (light_at position.board light) }
+abbrev try_at : ℕ → ℕ → Try
+try_at light index = record { light = light; index = index }
 
 pub due-more : (start current : Position) (tries : List Try) (used light from index : ℕ) → IsSound start → IsSearching start tries used current (Words light from) → IsNextWord current light from index → used < due start
 due-more start current tries used light from index sound s next =
-    searching-limit start current tries used light from index (try_at current light index) sound s next refl refl (λ k below. get_or-map (λ cell. is_none (entry current.board cell)) (light_at current.board light) k 0 false below)
+    searching-limit start current tries used light from index (try_at light index) sound s next refl refl

@@ -2,7 +2,7 @@
 use Rattle.std.proofs.Common.{◌≡◌, ℕ, ◌<◌, ◌≤◌, true, [], length, get_or, sym, ◌∙◌, arith, inl, inr}
 use Rattle.std.proofs.lemmas.Bool.{cases_order}
 use Rattle.std.proofs.lemmas.List.{get_or-map, length-map}
-use Rattle.xw_words.specs.Dictionary.{Entry, Dictionary, IsDictionary, no_entry, row}
+use Rattle.xw_words.specs.Dictionary.{Entry, Dictionary, IsDictionary, no_entry, known_words}
 use Rattle.xw_feas.specs.WellFormed.{IsLaidOut}
 use Rattle.xw_feas.specs.Board.{Board, is_open, light_at}
 use Rattle.xw_feas.specs.Known.{spellings}
@@ -26,7 +26,7 @@ shaped board laid = record { entries = laid.entries; short = laid.short; cells_o
 pub distinct_words : (dictionary : Dictionary) → IsDictionary dictionary → HasDistinctWords dictionary
 distinct_words dictionary is = record {
   distinct = λ len j k below_j below_k e.
-      let known = row dictionary len in
+      let known = known_words dictionary len in
       let long = length-map known (λ (w : Entry). w.word) in
       let at : (i : ℕ) → i < length known → get_or (spellings dictionary len) i [] ≡ (get_or known i no_entry).word = λ i below. get_or-map (λ (w : Entry). w.word) known i no_entry [] below in
       let in_j : j < length known = omega (arith, long, below_j) in
@@ -39,5 +39,5 @@ distinct_words dictionary is = record {
           | inr later ↦ absurd ((is.words len).distinct k j no_entry later in_j (sym same))
         ]
       ];
-  few = λ len. let long = length-map (row dictionary len) (λ (w : Entry). w.word) in omega (arith, long, (is.words len).few);
+  few = λ len. let long = length-map (known_words dictionary len) (λ (w : Entry). w.word) in omega (arith, long, (is.words len).few);
 }

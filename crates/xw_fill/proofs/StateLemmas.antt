@@ -3,7 +3,7 @@ use Rattle.std.proofs.Common.{◌≡◌, ℕ, zero, suc, ◌<◌, Bool, true, fa
 use Rattle.std.specs.Prelude.{Ok, All, slice_get}
 use Rattle.std.proofs.lemmas.Bool.{false≢true}
 use Rattle.std.proofs.lemmas.List.{map-set, get_or-map, length-map}
-use Rattle.xw_words.specs.Dictionary.{Entry, row, entry_at, no_entry}
+use Rattle.xw_words.specs.Dictionary.{Entry, known_words, entry_at, no_entry}
 use Rattle.xw_feas.specs.WellFormed.{IsWellFormed}
 use Rattle.xw_fill.specs.Words.{spellings_at}
 use Rattle.xw_letters.specs.Letter.{IsLetter}
@@ -17,10 +17,12 @@ use Rattle.xw_grid.specs.Light.{lights_of, cells_of, step, no_light}
 use Rattle.xw_grid.specs.Edit.{with_entry}
 use Rattle.xw_grid.proofs.LightLemmas.{inside_from_open, cells_of_are_open, length-line, get_or-line}
 use Rattle.xw_feas.specs.Board.{board_of, square_is_open, square_entry, indices_of, light_at}
-use Rattle.xw_feas.specs.State.{State, word_placed, after, with_letters as grid_with_letters, with_grid, light_of, known_count, known_placed}
+use Rattle.xw_feas.specs.State.{State, word_placed, after, with_letters, with_grid, light_of, known_count, known_placed}
 use Rattle.xw_feas.proofs.BoardLemmas.{length-lights, light_at-board}
 use Rattle.xw_feas.proofs.PlacingLemmas.{word_accepted, known_letters, known_length}
-use Rattle.xw_grid.proofs.ChangeLemmas.{SameShape-entry}
+use Rattle.xw_grid.proofs.ChangeLemmas.{SameShape-entry, same_opens}
+use Rattle.xw_feas.specs.Snapshot.{IsTwin, CanSave}
+use Rattle.xw_feas.proofs.SnapshotLemmas.{CanSave-twin}
 use Rattle.xw_fill.specs.Position.{position_of, holding, placed, with_entries, entries_with, squares_with, square_with, filled_in, DiffersInEntries, name_at}
 
 -- ---- lights by index and by name
@@ -107,7 +109,7 @@ entry_board grid cell letter is open_cell =
 
 -- entering the letters of a word in open cells
 letters_board : (grid : Grid) (cells : List Cell) (word : List ℕ) (d : Cell) → All IsLetter word → IsGrid grid → ((k : ℕ) → k < length cells → is_open grid (get_or cells k d) ≡ true)
-    → board_of (grid_with_letters grid cells word) ≡ with_entries (board_of grid) (entries_with (board_of grid).entries (map (index_of grid) cells) word)
+    → board_of (with_letters grid cells word) ≡ with_entries (board_of grid) (entries_with (board_of grid).entries (map (index_of grid) cells) word)
 letters_board grid [] word d letters is open_cells = refl
 letters_board grid (cell ∷ cells) [] d letters is open_cells = refl
 letters_board grid (cell ∷ cells) (letter ∷ word) d letters is open_cells =
@@ -117,7 +119,7 @@ letters_board grid (cell ∷ cells) (letter ∷ word) d letters is open_cells =
     ∙ ap (λ board. with_entries board (entries_with board.entries (map (index_of grid) cells) word)) one
 
 -- entering letters changes only the squares
-letters_squares : (grid : Grid) (cells : List Cell) (word : List ℕ) → grid_with_letters grid cells word ≡ record grid { squares = (grid_with_letters grid cells word).squares }
+letters_squares : (grid : Grid) (cells : List Cell) (word : List ℕ) → with_letters grid cells word ≡ record grid { squares = (with_letters grid cells word).squares }
 letters_squares grid [] word = refl
 letters_squares grid (cell ∷ cells) [] = refl
 letters_squares grid (cell ∷ cells) (letter ∷ word) = letters_squares (with_entry grid cell (Some letter)) cells word
@@ -159,7 +161,7 @@ placing : (before now : State) (light : ℕ) (word : List ℕ) → IsGrid before
 placing before now light word is in_grid letters long made =
     let grid = before.grid in
     let found = get_or (lights_of grid) light no_light in
-    let new = grid_with_letters grid (cells_of found) word in
+    let new = with_letters grid (cells_of found) word in
     let there = sym made ∙ ap (with_grid before) (word_accepted grid light word in_grid letters long) in
     let done : now ≡ record before { grid = new } = cc in
     let board = letters_board grid (cells_of found) word found.start letters is (light_open grid light found.start in_grid) in
@@ -174,7 +176,7 @@ pub place_leads : (state : State) (light : ℕ) (word : List ℕ) → IsGrid sta
 place_leads state light word is in_grid letters long =
     let grid = state.grid in
     let found = get_or (lights_of grid) light no_light in
-    let new = grid_with_letters grid (cells_of found) word in
+    let new = with_letters grid (cells_of found) word in
     let board = letters_board grid (cells_of found) word found.start letters is (light_open grid light found.start in_grid) in
     let cells : map (index_of grid) (cells_of found) ≡ light_at (board_of grid) light = sym (light_at-board grid light no_light in_grid) in (
       record state { grid = new },
@@ -193,7 +195,7 @@ light_size grid light found in_grid is =
 pub known_within : (state : State) (light index : ℕ) → light < length (board_of state.grid).lights → index < length (spellings_at (position_of state) light) → index < known_count state light
 known_within state light index below within =
     let size = light_size state.grid light (light_of state light) (in_grid_light state.grid light below) refl in
-    let many = length-map _ (λ (w : Entry). w.word) ∙ ap (λ n. length (row state.words n)) size in
+    let many = length-map _ (λ (w : Entry). w.word) ∙ ap (λ n. length (known_words state.words n)) size in
     omega (arith, within, many)
 
 -- placing a known word in a light
@@ -204,10 +206,10 @@ placing_known before now light index formed below within made =
     let in_grid = in_grid_light before.grid light below in
     let found = light_of before light in
     let size = light_size before.grid light found in_grid refl in
-    let known = row before.words found.size in
+    let known = known_words before.words found.size in
     let there = known_within before light index below within in
     let word : (entry_at known index).word ≡ get_or (spellings_at (position_of before) light) index [] =
-    sym (get_or-map (λ (w : Entry). w.word) known index no_entry [] there) ∙ ap (λ n. get_or (map (λ (w : Entry). w.word) (row before.words n)) index []) (sym size) in
+    sym (get_or-map (λ (w : Entry). w.word) known index no_entry [] there) ∙ ap (λ n. get_or (map (λ (w : Entry). w.word) (known_words before.words n)) index []) (sym size) in
     subst (λ w. (position_of now ≡ placed (position_of before) light w) × DiffersInEntries before now) word
     (placing before now light (entry_at known index).word formed.grid in_grid (known_letters before light index formed.dictionary there) (known_length before light index formed.dictionary there) made)
 
@@ -250,3 +252,26 @@ differs_open before now cell differs = ap (λ s. is_open s.grid cell) differs �
 
 pub differs_index : (before now : State) (cell : Cell) → DiffersInEntries before now → index_of now.grid cell ≡ index_of before.grid cell
 differs_index before now cell differs = ap (λ s. index_of s.grid cell) differs
+
+-- ---- states that differ in entries
+
+length-squares_with : (squares : List Square) (entries : List (Option ℕ)) → length (squares_with squares entries) ≡ length squares
+length-squares_with [] entries = refl
+length-squares_with (square ∷ squares) entries = ap suc (length-squares_with squares (drop 1 entries))
+
+pub filled_twin : (state : State) (entries : List (Option ℕ)) → IsTwin state (filled_in state entries)
+filled_twin state entries = record {
+  shape = record {
+    lights = same_opens state.grid (is_open (filled_in state entries).grid) (filled_open state entries);
+    opens = filled_open state entries;
+    cells = length-squares_with state.grid.squares entries;
+  };
+  words = refl;
+}
+
+-- states that differ only in entries are twins
+pub IsTwin-entries : (before now : State) → DiffersInEntries before now → IsTwin before now
+IsTwin-entries before now differs = subst (IsTwin before) (sym differs) (filled_twin before (board_of now.grid).entries)
+
+pub CanSave-entries : (before now : State) → DiffersInEntries before now → CanSave before now
+CanSave-entries before now differs = CanSave-twin before now (IsTwin-entries before now differs)

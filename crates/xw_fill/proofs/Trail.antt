@@ -1,26 +1,25 @@
 -- The tries under way lead from the start of a search to the current position, and the placements so far are part of
 -- those due.
-use Rattle.std.proofs.Common.{◌≡◌, ◌≢◌, ℕ, zero, suc, ◌+◌, ◌<◌, ◌≤◌, Bool, true, false, cond, ◌||◌, List, [], ◌∷◌, ◌++◌, length, get_or, set, drop, Option, Some, None, refl, sym, ◌∙◌, ap, subst, arith, inl, inr}
-use Rattle.std.specs.Prelude.{filter, All, is_none}
+use Rattle.std.proofs.Common.{◌≡◌, ℕ, zero, suc, ◌+◌, ◌<◌, ◌≤◌, Bool, true, false, cond, ◌||◌, List, [], ◌∷◌, ◌++◌, length, get_or, Option, Some, refl, sym, ◌∙◌, ap, subst, arith}
+use Rattle.std.specs.Prelude.{filter, All}
 use Rattle.std.specs.List.{list_any}
 use Rattle.std.proofs.lemmas.Bool.{true≢false, or_from, or_left}
-use Rattle.std.proofs.lemmas.List.{length-set, get_or-set_same, get_or-set_other, ext_get_or}
 use Rattle.std.proofs.lemmas.List.Folds.{list_any-append}
-use Rattle.xw_feas.specs.Board.{entry, light_at, agrees}
+use Rattle.xw_feas.specs.Board.{light_at, agrees}
 use Rattle.xw_feas.specs.State.{State}
 use Rattle.xw_fill.proofs.Shaped.{IsShaped}
 use Rattle.xw_fill.specs.Words.{spellings_at, words_before, words_left}
 use Rattle.xw_fill.proofs.Shaped.{HasDistinctWords}
-use Rattle.xw_fill.specs.Position.{Position, position_of, placed, entries_with, holding}
+use Rattle.xw_fill.specs.Position.{Position, position_of, placed}
 use Rattle.xw_fill.specs.FeasibleWords.{is_feasible_word, feasible_words}
 use Rattle.xw_fill.specs.Inner.Noted.{noted, AreEntered, StayNoted}
 use Rattle.xw_fill.specs.Search.{light_count, is_entered, is_dead, chosen, found_in, due_of, due_in, end_of, end_in, unentered_count}
-use Rattle.xw_fill.specs.Inner.Tries.{without_letters, taken_back, AreBlanks, word_of, IsMade}
+use Rattle.xw_fill.specs.Inner.Stack.{first_or, LeadThrough}
+use Rattle.xw_fill.specs.Inner.Tries.{word_of, IsMade}
 use Rattle.xw_fill.specs.declared.tries.Try.{Try}
 use Rattle.xw_fill.proofs.BelowLemmas.{Among-contained}
 use Rattle.xw_fill.proofs.FeasibleWordsLemmas.{is_feasible_word-gives}
-use Rattle.xw_fill.proofs.PlacingLemmas.{AreDistinct, cell_in, agrees-length, agrees-at, allowed, entries_with-other, length-entries_with}
-use Rattle.xw_fill.proofs.SearchLemmas.{chosen-Some, open_base, cells_within, cells_distinct, placed-laid, placed-at, placed-fewer}
+use Rattle.xw_fill.proofs.SearchLemmas.{chosen-Some, open_base, placed-laid, placed-fewer}
 use Rattle.xw_fill.proofs.WordsLemmas.{feasible_known_words, words_before-more, words_parted}
 
 -- ---- going through the words of a light
@@ -90,19 +89,10 @@ way-spent fuel position light from sound way all =
 
 -- ---- one try
 
--- what the try of a word leads to
-pub made_placed : (tried : Try) (before after : State) (light index : ℕ) → IsMade tried before after → tried.light ≡ light → tried.index ≡ index → position_of after ≡ placed (position_of before) light (get_or (spellings_at (position_of before) light) index [])
-made_placed tried before after light index made is_light is_index =
-    let start = position_of before in
-    made.placed
-    ∙ ap (λ l. placed start l (get_or (spellings_at start l) tried.index [])) is_light
-    ∙ ap (λ i. placed start light (get_or (spellings_at start light) i [])) is_index
-
 pub record IsTried (fuel : ℕ) (position : Position) (tried : Try) : Type 0 where
   pub way : IsUnderWay fuel position tried.light tried.index
   pub within : tried.index < length (spellings_at position tried.light)
   pub feasible : is_feasible_word position tried.light (word_of position tried) ≡ true
-  pub blanks : AreBlanks position.board (light_at position.board tried.light) tried.blanks
 
 abbrev pub after_try : Position → Try → Position
 after_try position tried = placed position tried.light (word_of position tried)
@@ -170,82 +160,11 @@ tried-failed fuel position tried t h =
       omega (arith, all, split, here),
     )
 
--- ---- undoing a try
-
-length-without_letters : (entries : List (Option ℕ)) (cells : List ℕ) (blanks : List Bool) → length (without_letters entries cells blanks) ≡ length entries
-length-without_letters entries [] blanks = refl
-length-without_letters entries (cell ∷ cells) blanks = length-without_letters _ cells (drop 1 blanks) ∙ same (get_or blanks 0 false) where
-  same : (b : Bool) → length (cond b (set entries cell None) entries) ≡ length entries
-  same true = length-set entries cell None
-  same false = refl
-
-without_letters-other : (entries : List (Option ℕ)) (cells : List ℕ) (blanks : List Bool) (cell : ℕ) → ((k : ℕ) → k < length cells → get_or cells k 0 ≢ cell) → get_or (without_letters entries cells blanks) cell None ≡ get_or entries cell None
-without_letters-other entries [] blanks cell none = refl
-without_letters-other entries (c ∷ cells) blanks cell none = without_letters-other _ cells (drop 1 blanks) cell (λ k below. none (suc k) (omega arith)) ∙ same (get_or blanks 0 false) where
-  same : (b : Bool) → get_or (cond b (set entries c None) entries) cell None ≡ get_or entries cell None
-  same true = get_or-set_other entries c cell None None (λ e. none 0 (omega arith) (sym e))
-  same false = refl
-
-get_or-next : (blanks : List Bool) (k : ℕ) → get_or (drop 1 blanks) k false ≡ get_or blanks (suc k) false
-get_or-next [] k = refl
-get_or-next (blank ∷ blanks) k = refl
-
-without_letters-at : (entries : List (Option ℕ)) (cells : List ℕ) (blanks : List Bool) → AreDistinct cells → (k : ℕ) → k < length cells → get_or cells k 0 < length entries → get_or (without_letters entries cells blanks) (get_or cells k 0) None ≡ cond (get_or blanks k false) None (get_or entries (get_or cells k 0) None)
-without_letters-at entries [] blanks distinct k below within = absurd (omega arith)
-without_letters-at entries (cell ∷ cells) blanks distinct zero below within =
-    without_letters-other _ cells (drop 1 blanks) cell (λ k under at. let same : suc k ≡ 0 = distinct (suc k) 0 (omega arith) (omega arith) at in absurd (omega arith))
-    ∙ here (get_or blanks 0 false) where
-      here : (b : Bool) → get_or (cond b (set entries cell None) entries) cell None ≡ cond b None (get_or entries cell None)
-      here true = get_or-set_same entries cell None None within
-      here false = refl
-without_letters-at entries (cell ∷ cells) blanks distinct (suc k) below within =
-    without_letters-at (cond (get_or blanks 0 false) (set entries cell None) entries) cells (drop 1 blanks) (λ i j under under_j at. let same : suc i ≡ suc j = distinct (suc i) (suc j) (omega arith) (omega arith) at in omega arith) k (omega arith) (let long = size (get_or blanks 0 false) in omega arith)
-    ∙ ap (λ b. cond b None (get_or (cond (get_or blanks 0 false) (set entries cell None) entries) (get_or cells k 0) None)) (get_or-next blanks k)
-    ∙ ap (λ o. cond (get_or blanks (suc k) false) None o) (there (get_or blanks 0 false)) where
-      size : (b : Bool) → length (cond b (set entries cell None) entries) ≡ length entries
-      size true = length-set entries cell None
-      size false = refl
-
-      there : (b : Bool) → get_or (cond b (set entries cell None) entries) (get_or cells k 0) None ≡ get_or entries (get_or cells k 0) None
-      there true = get_or-set_other entries cell (get_or cells k 0) None None (λ e. let same : suc k ≡ 0 = distinct (suc k) 0 (omega arith) (omega arith) e in absurd (omega arith))
-      there false = refl
-
-was_entered : (o : Option ℕ) (letter : ℕ) (b : Bool) → b ≡ is_none o → ((entered : ℕ) → o ≡ Some entered → entered ≡ letter) → cond b None (Some letter) ≡ o
-was_entered None letter b e h = rw e refl
-was_entered (Some entered) letter b e h = rw e (ap Some (sym (h entered refl)))
-
-pub taken_back-agreed : (position : Position) (tried : Try) (word : List ℕ) → IsShaped position.board → agrees position.board (light_at position.board tried.light) word ≡ true → AreBlanks position.board (light_at position.board tried.light) tried.blanks → taken_back (placed position tried.light word) tried ≡ position
-taken_back-agreed position tried word laid agree blanks = ap (holding position) (ext_get_or None _ position.board.entries long each) where
-  cells : List ℕ
-  cells = light_at position.board tried.light
-
-  now : List (Option ℕ)
-  now = entries_with position.board.entries cells word
-
-  long : length (without_letters now cells tried.blanks) ≡ length position.board.entries
-  long = length-without_letters now cells tried.blanks ∙ length-entries_with position.board.entries cells word
-
-  each : (cell : ℕ) → cell < length (without_letters now cells tried.blanks) → get_or (without_letters now cells tried.blanks) cell None ≡ get_or position.board.entries cell None
-  each cell below = elim (cell_in cells cell) [
-    | inl found ↦
-        let within = cells_within position.board laid tried.light found.0 found.1 in
-        let within_now : get_or cells found.0 0 < length now = omega (arith, length-entries_with position.board.entries cells word) in
-        ap (λ c. get_or (without_letters now cells tried.blanks) c None) (sym found.2)
-        ∙ without_letters-at now cells tried.blanks (cells_distinct position.board laid tried.light) found.0 found.1 within_now
-        ∙ ap (λ o. cond (get_or tried.blanks found.0 false) None o) (placed-at position tried.light word laid (agrees-length position.board cells word agree) found.0 found.1)
-        ∙ was_entered (entry position.board (get_or cells found.0 0)) (get_or word found.0 0) (get_or tried.blanks found.0 false) (blanks found.0 found.1) (λ entered e. allowed (entry position.board (get_or cells found.0 0)) entered (get_or word found.0 0) e (agrees-at position.board cells word agree found.0 found.1))
-        ∙ ap (entry position.board) found.2
-    | inr none ↦ without_letters-other now cells tried.blanks cell none ∙ entries_with-other position.board.entries cells word cell none
-  ]
-
 -- a feasible word agrees with the entries of its light
 pub feasible_agrees : (position : Position) (light : ℕ) (word : List ℕ) → light < light_count position → is_entered position light ≡ false → is_feasible_word position light word ≡ true → agrees position.board (light_at position.board light) word ≡ true
 feasible_agrees position light word in_grid not_entered h =
     let feasible = is_feasible_word-gives position light word h in
     (open_base position.board position.words light word in_grid not_entered (Among-contained word _ (feasible.1.words_are_base light word feasible.2))).1
-
-pub taken_back-placed : (fuel : ℕ) (position : Position) (tried : Try) → IsSound position → IsTried fuel position tried → taken_back (after_try position tried) tried ≡ position
-taken_back-placed fuel position tried sound t = taken_back-agreed position tried (word_of position tried) sound.board (tried_agrees fuel position tried t) t.blanks
 
 -- ---- the tries under way, in order
 
@@ -253,6 +172,23 @@ abbrev pub Trail : ℕ → Position → List Try → ℕ → ℕ → Position �
 Trail fuel start [] cost left current = (cost ≡ 0) × (left ≡ fuel) × (current ≡ start)
 Trail zero start (tried ∷ tries) cost left current = ⊥
 Trail (suc fuel) start (tried ∷ tries) cost left current = (rest : ℕ) × IsTried fuel start tried × (cost ≡ cost_of fuel start tried + rest) × Trail fuel (after_try start tried) tries rest left current
+
+-- the position after tries
+abbrev pub after_tries : Position → List Try → Position
+after_tries start [] = start
+after_tries start (tried ∷ tries) = after_tries (after_try start tried) tries
+
+pub trail-at : (tries : List Try) (fuel : ℕ) (start : Position) (cost left : ℕ) (current : Position) → Trail fuel start tries cost left current → current ≡ after_tries start tries
+trail-at [] fuel start cost left current t = t.2
+trail-at (tried ∷ tries) zero start cost left current t = absurd t
+trail-at (tried ∷ tries) (suc fuel) start cost left current t = trail-at tries fuel (after_try start tried) t.0 left current t.3
+
+-- the levels of an engine lead there too
+pub made_through : (tries : List Try) (levels : List State) (now : State) → LeadThrough IsMade tries levels now → position_of now ≡ after_tries (position_of (first_or levels now)) tries
+made_through [] [] now lead = refl
+made_through [] (state ∷ levels) now lead = absurd lead
+made_through (tried ∷ tries) [] now lead = absurd lead
+made_through (tried ∷ tries) (state ∷ levels) now lead = made_through tries levels now lead.1 ∙ ap (λ position. after_tries position tries) lead.0.placed
 
 pub trail-found : (tries : List Try) (fuel : ℕ) (start : Position) (cost left : ℕ) (current : Position) → IsSound start → Trail fuel start tries cost left current → found_in left current ≡ true
     → (found_in fuel start ≡ true) × (due_in fuel start ≡ cost + due_in left current) × (end_in fuel start ≡ end_in left current)
@@ -311,12 +247,6 @@ pub trail-sound : (tries : List Try) (fuel : ℕ) (start : Position) (cost left 
 trail-sound [] fuel start cost left current sound t = rw t.2 sound
 trail-sound (tried ∷ tries) zero start cost left current sound t = absurd t
 trail-sound (tried ∷ tries) (suc fuel) start cost left current sound t = trail-sound tries fuel (after_try start tried) t.0 left current (IsSound-placed start tried.light (word_of start tried) sound) t.3
-
--- each try uses up one placement of the bound
-pub trail-depth : (tries : List Try) (fuel : ℕ) (start : Position) (cost left : ℕ) (current : Position) → Trail fuel start tries cost left current → length tries + left ≡ fuel
-trail-depth [] fuel start cost left current t = omega (arith, t.1)
-trail-depth (tried ∷ tries) zero start cost left current t = absurd t
-trail-depth (tried ∷ tries) (suc fuel) start cost left current t = let further = trail-depth tries fuel (after_try start tried) t.0 left current t.3 in omega arith
 
 pub trail-lights : (tries : List Try) (fuel : ℕ) (start : Position) (cost left : ℕ) (current : Position) → Trail fuel start tries cost left current → (light_count current ≡ light_count start) × All (λ tried. tried.light < light_count start) tries
 trail-lights [] fuel start cost left current t = (ap light_count t.2, λ k d below. absurd (omega arith))

@@ -1,32 +1,35 @@
--- What an edit that was tried led to.
-use Rattle.std.proofs.Common.{◌≡◌, ℕ, ◌<◌, Bool, true, false, List, [], ◌∷◌, ◌++◌, filter, length, ap, sym, ◌∙◌, subst, refl, inl, inr, ◌==◌, arith}
-use Rattle.std.specs.Prelude.{Option, Some, None, Ok, IfSome, IfNone, is_ok, is_some}
-use Rattle.std.proofs.lemmas.Bool.{false_from_ne_true, false≢true, or_left}
-use Rattle.xw_feas.specs.State.{State, Action, after, with_grid, known_placed, IsRefused}
+-- What a letter or a word that was tried led to.
+use Rattle.std.proofs.Common.{◌≡◌, ℕ, ◌<◌, Bool, true, false, List, [], ◌∷◌, ◌++◌, filter, length, get_or, map, ap, sym, ◌∙◌, subst, refl, inl, inr, ◌==◌, arith}
+use Rattle.std.specs.Prelude.{Option, Some, None, Result, Ok, Err, IfOk}
+use Rattle.std.proofs.lemmas.Bool.{cases_Bool, false_from_ne_true, true≢false, or_left}
+use Rattle.std.proofs.lemmas.List.{get_or-map}
+use Rattle.std.proofs.Math.Logic.{∥∥₁_elim}
+use mathlib.Core.Bool.{Bool-set}
+use Rattle.xw_words.specs.Dictionary.{Entry, known_words, entry_at, no_entry}
+use Rattle.xw_feas.specs.State.{State, Action, after, known_placed, light_of}
 use Rattle.xw_feas.specs.WellFormed.{IsWellFormed}
-use Rattle.xw_feas.specs.declared.edit.Refusal.{Refusal}
 use Rattle.xw_feas.specs.Board.{board_of}
-use Rattle.xw_feas.specs.Feasible.{base_words_at}
-use Rattle.xw_feas.specs.Trying.{IsDeadLight, IsTried}
+use Rattle.xw_feas.specs.Feasible.{base_words_at, IsFeasibleWord}
+use Rattle.xw_feas.specs.Trying.{IsDeadLight, IsSurvived, IsTried, MayTryWord}
 use Rattle.xw_feas.proofs.BoardLemmas.{length-lights}
-use Rattle.xw_feas.proofs.PlacingLemmas.{known_accepted}
 use Rattle.xw_fill.specs.Below.{any_below}
 use Rattle.xw_fill.specs.Position.{position_of}
 use Rattle.xw_fill.specs.Search.{lacks_words, is_repeat, is_dead, light_count}
 use Rattle.xw_fill.specs.Words.{spellings_at}
 use Rattle.xw_fill.specs.FeasibleWords.{is_feasible_word, feasible_words}
 use Rattle.xw_fill.specs.NamedFill.{flags}
-use Rattle.xw_fill.specs.Inner.Progress.{IsDead, IsLetterEntered, IsTried as IsTriedFrame}
-use Rattle.xw_fill.specs.Inner.Stack.{HasTried}
+use Rattle.xw_fill.specs.Inner.Progress.{IsDead, IsLetterEntered, IsTried as ProgressIsTried}
+use Rattle.xw_fill.specs.Inner.Stack.{StayAlive, HasLed, HasTried}
 use Rattle.xw_fill.specs.Inner.Stepping.{HasDied}
-use Rattle.xw_fill.specs.Inner.Tries.{taken_back, word_of, CanBeMade, IsMade, IsWordPlaced}
+use Rattle.xw_fill.specs.Inner.Tries.{CanBeMade, IsMade}
 use Rattle.xw_fill.specs.declared.tries.Try.{Try}
 use Rattle.xw_fill.specs.declared.named_lights.frame.Frame.{Frame}
 use Rattle.xw_fill.proofs.BelowLemmas.{any_below-from}
-use Rattle.xw_fill.proofs.FeasibleWordsLemmas.{is_feasible_word-gives}
-use Rattle.xw_fill.proofs.Shaped.{shaped}
-use Rattle.xw_fill.proofs.StateLemmas.{in_grid_light, known_within, placing_known}
-use Rattle.xw_fill.proofs.Trail.{taken_back-agreed, feasible_agrees}
+use Rattle.xw_fill.proofs.FeasibleWordsLemmas.{is_feasible_word-gives, feasible-from}
+use Rattle.xw_fill.proofs.FillLemmas.{has_words}
+use Rattle.xw_fill.proofs.StateLemmas.{in_grid_light, light_size, known_within, placing_known}
+
+-- ---- dead lights
 
 filter_none : (p : List ℕ → Bool) → ((word : List ℕ) → p word ≡ false) → (words : List (List ℕ)) → filter p words ≡ []
 filter_none p none [] = refl
@@ -41,69 +44,79 @@ dead_lacks state light dead =
     (λ word. false_from_ne_true (is_feasible_word position light word) (λ h. dead.dead word ∣ is_feasible_word-gives position light word h ∣₁))
     (base_words_at position.board position.words light))
 
-pub tried_stands : (before now : State) (action : Action) (watched : List Bool) (dead : Option ℕ) {A : Type 0} → IsTried before action watched (Ok dead) now → (after before action ≡ Ok now → A) → IfNone dead A
-tried_stands before now action watched None made then = then made
-tried_stands before now action watched (Some light) tried then = tt
+-- a light that lacks words is dead
+lacks_dead : (state : State) (light : ℕ) → light < light_count (position_of state) → lacks_words (position_of state) light ≡ true → IsDeadLight state light
+lacks_dead state light within lacks = record {
+  within = in_grid_light state.grid light within;
+  dead = λ word feasible.
+      let has : lacks_words (position_of state) light ≡ false = ∥∥₁_elim feasible (Bool-set _ _) (λ found. has_words (position_of state) light word (feasible-from (position_of state) light word found.0 found.1 found.2)) in
+      true≢false (sym lacks ∙ has);
+}
 
-pub tried_same : (before now : State) (action : Action) (watched : List Bool) (dead : Option ℕ) → IsTried before action watched (Ok dead) now → IfSome dead (λ light. now ≡ before)
-tried_same before now action watched None made = tt
-tried_same before now action watched (Some light) tried = tried.0
+-- no watched light died
+survived_alive : (before now : State) (action : Action) (watched : List Bool) → IsSurvived before action watched now → light_count (position_of now) ≡ light_count (position_of before) → StayAlive (flags watched) before now
+survived_alive before now action watched survived count alive light within watch = elim (cases_Bool (lacks_words (position_of now) light)) [
+  | inl lacks ↦
+      let dead = survived.alive light watch (lacks_dead now light within lacks) in
+      absurd (true≢false (sym (dead_lacks before light dead) ∙ alive light (subst (λ n. light < n) count within) watch))
+  | inr has ↦ has
+]
 
-pub tried_dead : (before now : State) (action : Action) (watched : List Bool) (dead : Option ℕ) (leads : State → Type 0) → IsTried before action watched (Ok dead) now → ((there : State) → after before action ≡ Ok there → leads there)
-    → IfSome dead (λ light. (there : State) × leads there × IsDead (flags watched) (position_of there) light)
-tried_dead before now action watched None leads made then = tt
-tried_dead before now action watched (Some light) leads tried then =
+-- ---- what the engine answers
+
+-- what a try led to, from what the edit leads to
+tried_led : (before now : State) (action : Action) (watched : List Bool) (leads : State → Type 0) → ((there : State) → after before action ≡ Ok there → leads there) → ((there : State) → leads there → light_count (position_of there) ≡ light_count (position_of before))
+    → (dead : Option ℕ) → IsTried before action watched dead now → HasLed leads (flags watched) before now dead
+tried_led before now action watched leads then counts None survived =
+    let there = then now survived.made in
+    (there, survived_alive before now action watched survived (counts now there))
+tried_led before now action watched leads then counts (Some light) tried =
     let killed = tried.1 in
-    (killed.there, then killed.there killed.made, (omega (arith, killed.dead.within, length-lights killed.there.grid), killed.is_watched, dead_lacks killed.there light killed.dead))
+    (tried.0, (killed.there, then killed.there killed.made, (omega (arith, killed.dead.within, length-lights killed.there.grid), killed.is_watched, dead_lacks killed.there light killed.dead)))
 
--- what holds if no light died
-pub none_then : {A B : Type 0} (dead : Option ℕ) → IfNone dead A → (A → B) → IfNone dead B
-none_then None is then = then is
-none_then (Some light) is then = is
+pub tried_ok : {Fault : Type 0} (before now : State) (action : Action) (watched : List Bool) (leads : State → Type 0) → ((there : State) → after before action ≡ Ok there → leads there) → ((there : State) → leads there → light_count (position_of there) ≡ light_count (position_of before))
+    → (result : Result (Option ℕ) Fault) → IfOk result (λ dead. IsTried before action watched dead now) → IfOk result (HasLed leads (flags watched) before now)
+tried_ok before now action watched leads then counts (Ok dead) tried = tried_led before now action watched leads then counts dead tried
+tried_ok before now action watched leads then counts (Err failed) tried = tt
+
+-- ---- letters
 
 -- the letter of a frame was placed
 pub frame_placed : (watched : ℕ → Bool) (frame : Frame) (before after : State) (frames frames_after : List Frame) (dead : Option ℕ) → dead ≡ None → HasTried IsLetterEntered watched frame before frames after frames_after dead
-    → (frames_after ≡ frames ++ frame ∷ []) × IsLetterEntered frame before after
+    → (frames_after ≡ frames ++ frame ∷ []) × IsLetterEntered frame before after × StayAlive watched before after
 frame_placed watched frame before after frames frames_after dead none tried = subst (λ d. HasTried IsLetterEntered watched frame before frames after frames_after d) none tried
 
 -- a watched light died where it leads
 pub frame_refuted : (watched : ℕ → Bool) (frame : Frame) (before after : State) (frames frames_after : List Frame) (dead : Option ℕ) (light : ℕ) → dead ≡ Some light → HasTried IsLetterEntered watched frame before frames after frames_after dead
-    → IsTriedFrame watched frame false before frames after frames_after
+    → ProgressIsTried watched frame false before frames after frames_after
 frame_refuted watched frame before after frames frames_after dead light some tried =
     let killed : HasTried IsLetterEntered watched frame before frames after frames_after (Some light) = subst (λ d. HasTried IsLetterEntered watched frame before frames after frames_after d) some tried in
     (killed.0, killed.1, (killed.2.0, killed.2.1, inl (light, killed.2.2)))
 
 -- ---- words
 
--- a known word that was placed
-pub word_placed : (before now : State) (light index : ℕ) → IsWellFormed before → light < length (board_of before.grid).lights → index < length (spellings_at (position_of before) light)
-    → after before (known_placed before light index) ≡ Ok now → IsWordPlaced light index before now
-word_placed before now light index formed below within made =
-    let both = placing_known before now light index formed below within made in
-    record { placed = both.0; entries = both.1 }
-
--- it is never refused
-pub known_word_accepted : (before : State) (light index : ℕ) (refusal : Refusal) → IsWellFormed before → light < length (board_of before.grid).lights → index < length (spellings_at (position_of before) light)
-    → IsRefused before (known_placed before light index) refusal → ⊥
-known_word_accepted before light index refusal formed below within refused =
-    let accepted = ap (with_grid before) (known_accepted before light index formed.dictionary (in_grid_light before.grid light below) (known_within before light index below within)) in
-    elim refused [
-      | inl by_rule ↦ false≢true (ap is_ok (sym by_rule ∙ accepted))
-      | inr (good, want) ↦ false≢true (ap is_some want)
-    ]
-
--- placing the word of a try makes the try
-pub word_makes : (tried : Try) (before after : State) → IsWellFormed before → CanBeMade tried before → IsWordPlaced tried.light tried.index before after → IsMade tried before after
-word_makes tried before after formed can is =
-    let start = position_of before in
-    let word = word_of start tried in
-    let agree = feasible_agrees start tried.light word can.word.light_in can.word.not_entered can.word.feasible in
+-- a word that can be made may be tried
+pub word_may : (state : State) (tried : Try) → CanBeMade tried state → MayTryWord state tried.light tried.index
+word_may state tried can =
+    let in_grid = in_grid_light state.grid tried.light can.light_in in
+    let found = light_of state tried.light in
+    let size = light_size state.grid tried.light found in_grid refl in
+    let known = known_words state.words found.size in
+    let there = known_within state tried.light tried.index can.light_in can.index_in in
+    let word : (entry_at known tried.index).word ≡ get_or (spellings_at (position_of state) tried.light) tried.index [] =
+    sym (get_or-map (λ (w : Entry). w.word) known tried.index no_entry [] there) ∙ ap (λ n. get_or (map (λ (w : Entry). w.word) (known_words state.words n)) tried.index []) (sym size) in
     record {
-      light = can.word.light_in;
-      placed = is.placed;
-      back = ap (λ position. taken_back position tried) is.placed ∙ taken_back-agreed start tried word (shaped start.board formed.board) agree can.blanks;
-      entries = is.entries;
+      within = in_grid;
+      known = there;
+      not_entered = can.not_entered;
+      feasible = subst (IsFeasibleWord (board_of state.grid) state.words tried.light) (sym word) ∣ is_feasible_word-gives (position_of state) tried.light _ can.feasible ∣₁;
     }
+
+-- a known word that was placed makes the try
+pub word_makes : (tried : Try) (before now : State) → IsWellFormed before → CanBeMade tried before → after before (known_placed before tried.light tried.index) ≡ Ok now → IsMade tried before now
+word_makes tried before now formed can made =
+    let both = placing_known before now tried.light tried.index formed can.light_in can.index_in made in
+    record { light = can.light_in; placed = both.0; entries = both.1 }
 
 -- a position with a dead light is dead
 light_kills : (watched : ℕ → Bool) (state : State) (light : ℕ) → IsDead watched (position_of state) light → is_dead (position_of state) ≡ true
@@ -114,7 +127,7 @@ light_kills watched state light dead =
 
 -- the word of a try was placed
 pub try_placed : (watched : ℕ → Bool) (tried : Try) (before after : State) (tries tries_after : List Try) (dead : Option ℕ) → dead ≡ None → HasTried IsMade watched tried before tries after tries_after dead
-    → (tries_after ≡ tries ++ tried ∷ []) × IsMade tried before after
+    → (tries_after ≡ tries ++ tried ∷ []) × IsMade tried before after × StayAlive watched before after
 try_placed watched tried before after tries tries_after dead none has = subst (λ d. HasTried IsMade watched tried before tries after tries_after d) none has
 
 -- a light died where it leads

@@ -4,7 +4,7 @@ use Rattle.std.specs.Prelude.{filter, Contains, ◌==◌, nat_lt, option_map, is
 use Rattle.std.specs.List.{list_any}
 use Rattle.std.proofs.lemmas.Bool.{and_parts, and_from, false≢true, cases_eq, eq-eqb, ne_eqb, eqb-true, false_from_ne_true}
 use Rattle.std.proofs.lemmas.List.{get_or-map, get_or_default, length-map}
-use Rattle.xw_words.specs.Dictionary.{Entry, Dictionary, row as known_words, no_entry}
+use Rattle.xw_words.specs.Dictionary.{Entry, Dictionary, known_words, no_entry}
 use Rattle.xw_feas.specs.Board.{Board, board_of, entry, is_open, light_at, allows, agrees, is_wholly_entered, spelled}
 use Rattle.xw_letters.specs.Letter.{is_capital}
 use Rattle.xw_feas.specs.Feasible.{Family, IsSupported, base_words, base_words_at}

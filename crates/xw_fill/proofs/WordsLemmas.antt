@@ -8,7 +8,7 @@ use Rattle.std.proofs.lemmas.List.Elements.{filter-append}
 use Rattle.std.proofs.lemmas.List.Quantifiers.{position-Some}
 use Rattle.std.proofs.lemmas.List.Sums.{fails_before_first}
 use Rattle.xw_feas.specs.Board.{light_at, agrees, spelled}
-use Rattle.xw_words.specs.Dictionary.{Entry, no_entry, row as known_words}
+use Rattle.xw_words.specs.Dictionary.{Entry, no_entry, known_words}
 use Rattle.xw_feas.specs.Known.{spellings}
 use Rattle.xw_feas.specs.Feasible.{Answers, AreAnswers, base_words, base_words_at}
 use Rattle.xw_feas.specs.Queries.{next_found, is_active_answer}

@@ -7,7 +7,7 @@ use Rattle.std.proofs.lemmas.List.Elements.{All-head, All-tail, All-weaker}
 use Rattle.xw_grid.specs.declared.cell.Cell.{Cell}
 use Rattle.xw_grid.specs.declared.cell.Square.{Square}
 use Rattle.xw_grid.specs.declared.cell.Square.TheVariants.{Block, Open}
-use Rattle.xw_grid.specs.Grid.{Grid, IsGrid, is_open, index_of, letter_in, entry as entry_of}
+use Rattle.xw_grid.specs.Grid.{Grid, IsGrid, is_open, index_of, letter_in, entry as grid_entry}
 use Rattle.xw_grid.specs.Light.{lights_of}
 use Rattle.xw_grid.specs.Edit.{with_entry}
 use Rattle.xw_grid.proofs.LightLemmas.{inside_from_open}
@@ -20,8 +20,7 @@ use Rattle.xw_feas.specs.declared.changed.Changed.{Changed}
 use Rattle.xw_feas.proofs.ShapeLemmas.{open_takes}
 use Rattle.xw_feas.proofs.EditsLemmas.{edit_done}
 use Rattle.xw_fill.specs.Position.{position_of, holding, squares_with, filled_in, DiffersInEntries}
-use Rattle.xw_fill.proofs.StateLemmas.{IsGrid-entry, entry_board, differs_in_squares, differs_open, DiffersInEntries-itself, DiffersInEntries-then}
-use Rattle.xw_fill.proofs.MarksLemmas.{IsTwin-entries}
+use Rattle.xw_fill.proofs.StateLemmas.{IsGrid-entry, entry_board, differs_in_squares, differs_open, DiffersInEntries-itself, DiffersInEntries-then, IsTwin-entries}
 use Rattle.xw_fill.specs.Reason.{entry_in, entries_of}
 use Rattle.xw_fill.specs.Sparing.{CanBeWritten, by_index, written_in}
 
@@ -54,7 +53,7 @@ entry_square [] k = refl
 entry_square (square ∷ squares) zero = refl
 entry_square (square ∷ squares) (suc k) = entry_square squares k
 
-pub entry_of_open : (grid : Grid) (cell : Cell) → is_open grid cell ≡ true → entry_of grid cell ≡ entry_in (board_of grid).entries (index_of grid cell)
+pub entry_of_open : (grid : Grid) (cell : Cell) → is_open grid cell ≡ true → grid_entry grid cell ≡ entry_in (board_of grid).entries (index_of grid cell)
 unfolding board_of
 entry_of_open grid cell opens =
     ap (λ b. letter_in (cond b (slice_get grid.squares (index_of grid cell)) None)) (inside_from_open grid cell opens)

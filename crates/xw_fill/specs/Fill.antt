@@ -1,7 +1,7 @@
 -- The definition of a fill.
 use Rattle.std.specs.Prelude.{◌≡◌, ℕ, ◌<◌, ◌≢◌, true, false, List, length, Contains, Option, Some}
 use Rattle.xw_feas.specs.Board.{entry, light_at, is_wholly_entered, spelled}
-use Rattle.xw_words.specs.Dictionary.{Dictionary, Entry, row as known_words}
+use Rattle.xw_words.specs.Dictionary.{Dictionary, Entry, known_words}
 use Rattle.xw_feas.specs.WellFormed.{HasLetterEntries}
 use Rattle.xw_fill.specs.Position.{Position, with_entries}
 use Rattle.xw_fill.specs.Search.{is_entered}

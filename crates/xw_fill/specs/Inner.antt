@@ -2,6 +2,7 @@
 pub mod Noted
 pub mod Linked
 pub mod Tries
+pub mod Trial
 pub mod Stack
 pub mod Stepping
 pub mod Progress

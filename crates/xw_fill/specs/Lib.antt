@@ -5,7 +5,6 @@ pub mod FeasibleWords
 pub mod FeasibleLetters
 pub mod Search
 pub mod Fill
-pub mod Marks
 pub mod Filling
 pub mod Words
 pub mod Suggesting

@@ -1,7 +1,7 @@
 -- Repeated words, words that are not active in the dictionary, and the grades of words.
 use Rattle.std.specs.Prelude.{ℕ, zero, suc, Bool, ◌&&◌, not, List, [], ◌∷◌, ◌++◌, map, length, Option, Some, None, option_map, bytes_eq, if◌then◌else◌}
 use Rattle.std.specs.List.{list_any}
-use Rattle.xw_words.specs.Dictionary.{Dictionary, Entry, row as known_words, entry_at, index_of_word}
+use Rattle.xw_words.specs.Dictionary.{Dictionary, Entry, known_words, entry_at, index_of_word}
 use Rattle.xw_grid.specs.declared.cell.LightName.{LightName}
 use Rattle.xw_feas.specs.State.{State}
 use Rattle.xw_fill.specs.Position.{Position, position_of, name_at}

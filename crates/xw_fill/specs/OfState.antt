@@ -51,9 +51,6 @@ first_same state = Search.first_same (position_of state)
 abbrev pub lacks_words : State → ℕ → Bool
 lacks_words state = Search.lacks_words (position_of state)
 
-abbrev pub unentered_count : State → ℕ
-unentered_count state = Search.unentered_count (position_of state)
-
 -- ---- the search for a fill
 
 abbrev pub is_dead : State → Bool

@@ -1,6 +1,8 @@
 //! How many placements a search may make, and how many it has made.
 ghost use Rattle.std.specs.Prelude.{◌≡◌, suc, true, false, ◌+◌, ◌<◌, ◌≤◌};
 
+use xw_feas::progress::News;
+
 /// The placements of a search.
 /// - `made`: how many it has made.
 /// - `until`: how many it may make before it has to answer `Limit`. A share of all is enough for one of several
@@ -43,6 +45,16 @@ impl Allowance {
         ensures { result + self.now.made ≡ self.now.until }
     {
         self.until - self.made
+    }
+
+    /// What a search tells of its placements: how many all searches together have made and may make.
+    pub(crate) fn news(&self) -> News
+        ensures { result ≡ News.Placed self.now.made self.now.limit }
+    {
+        News::Placed {
+            made: self.made,
+            limit: self.limit,
+        }
     }
 
     /// Whether the search may make no more placements.

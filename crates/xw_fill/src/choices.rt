@@ -1,17 +1,16 @@
 //! The least number of words that a light has left once a word is placed.
 ghost use Rattle.std.specs.Prelude.{◌≡◌, ℕ, ◌<◌, slice_index_or, [], false, IfSome};
 ghost use Rattle.xw_feas.specs.Board.{board_of};
-ghost use Rattle.xw_fill.specs.OfState.{fewest_words as fewest_words_of, is_entered, light_count, IsTriedAt, spellings_at};
-ghost use Rattle.xw_fill.specs.Choices.{fewest_after as fewest_words_after, CrossesNone};
+ghost use Rattle.xw_fill.specs.OfState.{fewest_words as spec_fewest_words, is_entered, light_count, IsTriedAt, spellings_at};
+ghost use Rattle.xw_fill.specs.Choices.{fewest_after as spec_fewest_after, CrossesNone};
 
-use crate::placement::Placement;
 use crate::scan::{board, chosen, next_word_index, word_count};
-use crate::tries::make_try;
+use crate::trial::Trial;
 use xw_feas::feasible::Feasible;
 
 /// Returns the least number of feasible words of a light that is not wholly entered, or `None` if all lights are.
 pub fn fewest_words<E: Feasible>(engine: &E) -> Option<usize>
-    ensures { result ≡ fewest_words_of (E.state engine.now) }
+    ensures { result ≡ spec_fewest_words (E.state engine.now) }
 {
     match chosen(engine) {
         Some(light) => Some(word_count(engine, light)),
@@ -23,13 +22,12 @@ pub fn fewest_words<E: Feasible>(engine: &E) -> Option<usize>
 /// state as it was.
 pub fn fewest_after<E: Feasible>(engine: &mut E, light: usize, index: usize) -> Option<usize>
     requires tried { IsTriedAt (E.state engine.old) light index }
-    ensures fewest { result ≡ fewest_words_after (E.state engine.old) light (slice_index_or (spellings_at (E.state engine.old) light) index []) }
+    ensures fewest { result ≡ spec_fewest_after (E.state engine.old) light (slice_index_or (spellings_at (E.state engine.old) light) index []) }
     ensures unchanged { E.state engine.new ≡ E.state engine.old }
 {
-    let tried = make_try(engine, light, index);
-    tried.place(engine);
+    let trial = Trial::place(engine, light, index);
     let fewest = fewest_words(engine);
-    tried.take_back(engine);
+    trial.take_back(engine);
     fewest
 }
 
@@ -54,7 +52,7 @@ pub fn fewest_after_any<E: Feasible>(engine: &mut E, light: usize) -> Option<Opt
     requires light { light < light_count (E.state engine.old) }
     requires not_entered { is_entered (E.state engine.old) light ≡ false }
     ensures fewest { IfSome result (λ fewest. (index : ℕ) → IsTriedAt (E.state engine.old) light index
-        → fewest ≡ fewest_words_after (E.state engine.old) light (slice_index_or (spellings_at (E.state engine.old) light) index [])) }
+        → fewest ≡ spec_fewest_after (E.state engine.old) light (slice_index_or (spellings_at (E.state engine.old) light) index [])) }
     ensures unchanged { E.state engine.new ≡ E.state engine.old }
 {
     if is_crossed(engine, light) {

@@ -6,12 +6,10 @@ pub(crate) mod plan;
 pub(crate) mod run;
 
 ghost use Rattle.std.specs.Prelude.{◌≡◌, ◌≤◌, ◌-◌, ℕ, length, replicate, true, false, IfOk, IfErr, OnOk, OnErr, ◌<◌};
-ghost use Rattle.std.specs.Vec.{vec_capacity};
 ghost use Rattle.xw_fill.specs.Allowance.{IsCounted, HasPlaced, HasPlacedWithin};
 ghost use Rattle.xw_fill.specs.Filling.{IsFilling};
 ghost use Rattle.xw_fill.specs.OfState.{light_count};
 ghost use Rattle.xw_fill.specs.Inner.OfState.{IsPlan, IsOpen};
-ghost use Rattle.xw_fill.specs.Inner.Stack.{IsReady};
 ghost use Rattle.xw_fill.specs.NamedFill.{flags, is_named, AreFlags, IsAutofilled, IsNoLight, IsRefusal, AreFlagged};
 ghost use Rattle.xw_fill.specs.Inner.Progress.{entries_of, HasEntered};
 
@@ -30,9 +28,6 @@ use xw_feas::feasible::Feasible;
 use xw_feas::searchable::Searchable;
 use xw_grid::cell::LightName;
 use xw_grid::fault::GridFault;
-
-/// The greatest number of marks that a search has room for. To go back further, it empties cells.
-const MARKS: usize = 24;
 
 /// How many placements the search of `fill` gets first with seed 0, so that the good words of a sorted list come
 /// first.
@@ -68,15 +63,13 @@ impl Hint {
 /// Repeats the search, each time with a later cut, until it ends.
 fn run_again<E: Searchable>(
     engine: &mut E,
-    stack: &mut Stack<E, Frame>,
+    stack: &mut Stack<Frame>,
     plan: &Plan,
     effort: &mut Effort,
     allowance: &mut Allowance,
 ) -> Result<Filling, AllocError>
     requires plan { IsPlan (E.state engine.old) plan.now }
     requires open { IsOpen (flags plan.now.named.items) (E.state engine.old) (entries_of (E.state engine.old)) }
-    requires ready { IsReady E.saved stack.old (E.state engine.old) }
-    ensures ready { IsReady E.saved stack.new (E.state engine.old) }
     ensures counted { IsCounted allowance.old allowance.new (E.state engine.old) (E.state engine.new) }
     ensures placed { OnOk result (HasPlaced allowance.old allowance.new (E.placed engine.old) (E.placed engine.new)) }
     ensures within { HasPlacedWithin allowance.old allowance.new (E.placed engine.old) (E.placed engine.new) }
@@ -102,30 +95,20 @@ fn run_again<E: Searchable>(
 }
 
 /// A stack for searches that fill the lights of a plan.
-pub(crate) fn stack_for<E: Searchable>(
-    alloc: Global,
-    engine: &E,
-    plan: &Plan,
-) -> Result<Stack<E, Frame>, AllocError>
-    ensures ready { IfOk result (λ stack. IsReady E.saved stack (E.state engine.now)) }
-    ensures room { IfOk result (λ stack. length plan.now.targets.items ≤ vec_capacity stack.placements) }
-{
-    let cells = plan.targets.len();
-    Stack::new(alloc, engine, cells, MARKS.min(cells))
+pub(crate) fn stack_for(alloc: Global, plan: &Plan) -> Result<Stack<Frame>, AllocError> {
+    Stack::new(alloc, plan.targets.len())
 }
 
 /// Fills the lights of a plan by letters. The state changes only for `Filled`. The stack may have served other searches.
 pub(crate) fn fill_planned<E: Searchable>(
     alloc: Global,
     engine: &mut E,
-    stack: &mut Stack<E, Frame>,
+    stack: &mut Stack<Frame>,
     plan: &Plan,
     effort: &mut Effort,
     allowance: &mut Allowance,
 ) -> Result<Filling, AllocError>
     requires plan { IsPlan (E.state engine.old) plan.now }
-    requires ready { IsReady E.saved stack.old (E.state engine.old) }
-    ensures ready { IsReady E.saved stack.new (E.state engine.old) }
     ensures counted { IsCounted allowance.old allowance.new (E.state engine.old) (E.state engine.new) }
     ensures placed { OnOk result (HasPlaced allowance.old allowance.new (E.placed engine.old) (E.placed engine.new)) }
     ensures within { HasPlacedWithin allowance.old allowance.new (E.placed engine.old) (E.placed engine.new) }
@@ -161,7 +144,7 @@ fn fill_flagged<E: Searchable>(
     ensures unchanged { OnErr result (E.state engine.new ≡ E.state engine.old) }
 {
     let plan = Plan::of(alloc, engine, named)?;
-    let mut stack = stack_for(alloc, engine, &plan)?;
+    let mut stack = stack_for(alloc, &plan)?;
     fill_planned(alloc, engine, &mut stack, &plan, effort, allowance)
 }
 
@@ -239,7 +222,7 @@ fn all_by_letters<E: Searchable>(
     fill_flagged(alloc, engine, named, effort, allowance)
 }
 
-/// Fills all lights by the search of `fill`. All placements that it may make count as made.
+/// Fills all lights by the search of `fill`. All placements that it may make count as made, also if an allocation fails.
 fn fill_by_words<E: Searchable>(
     alloc: Global,
     engine: &mut E,
@@ -255,9 +238,9 @@ fn fill_by_words<E: Searchable>(
     ensures memory { IfErr result (λ refusal. refusal ≡ Refusal.Grid GridFault.Memory) }
     ensures unchanged { OnErr result (E.state engine.new ≡ E.state engine.old) }
 {
-    let filling = fill(alloc, engine, allowance.share())?;
+    let filling = fill(alloc, engine, allowance.share());
     allowance.count_all();
-    Ok(filling)
+    filling
 }
 
 /// Fills all lights: first by the search of `fill`, then by letters.

@@ -1,14 +1,15 @@
 //! What a search places in one step.
-ghost use Rattle.std.specs.Prelude.{◌≡◌, suc, Bool, IfSome, IfNone};
+ghost use Rattle.std.specs.Prelude.{◌≡◌, suc, Bool, IfOk, OnOk, OnErr};
 ghost use Rattle.xw_feas.specs.State.{State};
+ghost use Rattle.xw_feas.specs.Trying.{levels_after};
 ghost use Rattle.xw_fill.specs.NamedFill.{flags};
 ghost use Rattle.xw_fill.specs.Position.{DiffersInEntries};
-ghost use Rattle.xw_fill.specs.Inner.OfState.{IsDead};
+ghost use Rattle.xw_fill.specs.Inner.Stack.{HasLed};
 
-use xw_feas::feasible::Feasible;
+use std::alloc::AllocError;
 use xw_feas::searchable::Searchable;
 
-/// A word in a light, or a letter in a cell: a search places it, and takes it back, by one edit each.
+/// A word in a light, or a letter in a cell, that a search places as a level of the engine.
 pub trait Placement: Copy {
     /// It can be placed in a state.
     ghost may_place: { Self → State → Type 0 };
@@ -23,38 +24,19 @@ pub trait Placement: Copy {
     fn is_forced(&self) -> bool
         ensures { result ≡ forced self.now };
 
-    /// Places it, in one placement of the engine.
-    fn place<E: Feasible>(&self, engine: &mut E)
-        requires { may_place self.now (E.state engine.old) }
-        ensures placed { is_placed self.now (E.state engine.old) (E.state engine.new) }
-        ensures count { E.placed engine.new ≡ suc (E.placed engine.old) };
-
-    /// Places it, in one placement of the engine. If this leaves a watched light without a feasible word, the engine may return that light instead,
-    /// and then nothing changes. `mark` holds the current state.
+    /// Places it, in one placement of the engine. If this leaves a watched light without a feasible word, returns such a light
+    /// instead, and then nothing changes. Returns an error if an allocation fails, and then changes nothing.
     fn try_place<E: Searchable>(
         &self,
         engine: &mut E,
         watched: &[bool],
-        mark: &E::Snapshot,
-    ) -> Option<usize>
-        requires may { may_place self.now (E.state engine.old) }
-        requires marked { E.saved mark.now ≡ E.state engine.old }
-        ensures placed { IfNone result (is_placed self.now (E.state engine.old) (E.state engine.new)) }
-        ensures same { IfSome result (λ light. E.state engine.new ≡ E.state engine.old) }
-        ensures dead { IfSome result (λ light. (there : State) × is_placed self.now (E.state engine.old) there × IsDead (flags watched.now) there light) }
-        ensures count { E.placed engine.new ≡ suc (E.placed engine.old) }
-    {
-        let _ = watched;
-        let _ = mark;
-        self.place(engine);
-        None
-    }
-
-    /// Takes it back: returns to the state that it was placed in.
-    fn take_back<E: Feasible>(&self, engine: &mut E)
-        requires { (before : State) × is_placed self.now before (E.state engine.old) }
-        ensures back { (before : State) → is_placed self.now before (E.state engine.old) → E.state engine.new ≡ before }
-        ensures count { E.placed engine.new ≡ E.placed engine.old };
+    ) -> Result<Option<usize>, AllocError>
+        requires { may_place self.now (E.state engine.old) }
+        ensures led { IfOk result (HasLed (is_placed self.now (E.state engine.old)) (flags watched.now) (E.state engine.old) (E.state engine.new)) }
+        ensures same { OnErr result (E.state engine.new ≡ E.state engine.old) }
+        ensures levels { E.levels engine.new ≡ levels_after (E.levels engine.old) (E.state engine.old) result }
+        ensures count { OnOk result (E.placed engine.new ≡ suc (E.placed engine.old)) }
+        ensures none { OnErr result (E.placed engine.new ≡ E.placed engine.old) };
 
     /// It changes only entries.
     ghost entries: { (placement : Self) (before after : State) → is_placed placement before after → DiffersInEntries before after };

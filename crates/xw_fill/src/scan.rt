@@ -3,7 +3,7 @@ ghost use Rattle.std.specs.Prelude.{◌≡◌, ◌<◌, length, bytes_eq, unwrap
 ghost use Rattle.xw_grid.specs.Light.{lights_of, no_light};
 ghost use Rattle.xw_feas.specs.Board.{board_of, is_wholly_entered, spelled, entry};
 ghost use Rattle.xw_fill.specs.Position.{name_at};
-ghost use Rattle.xw_fill.specs.OfState.{feasible_words, IsNextWord, HasNoMore, is_entered, spelling, spell_same, first_same, lacks_words, light_count, chosen, unentered_count, scanned};
+ghost use Rattle.xw_fill.specs.OfState.{feasible_words, IsNextWord, HasNoMore, is_entered, spelling, spell_same, first_same, lacks_words, light_count, chosen, scanned};
 ghost use Rattle.xw_fill.specs.Inner.OfState.{AreEntered};
 ghost use Rattle.xw_fill.specs.Below.{first_below};
 ghost use Rattle.xw_fill.specs.Inner.Noted.{has_note};
@@ -75,19 +75,6 @@ pub fn is_entered<E: Feasible>(engine: &E, light: usize) -> bool
 {
     let board = board(engine);
     has_all_entries(&board, &board.light(light))
-}
-
-/// Returns the number of lights that are not wholly entered.
-pub(crate) fn unentered_count<E: Feasible>(engine: &E) -> usize
-    ensures { result ≡ unentered_count (E.state engine.now) }
-{
-    let mut count = 0;
-    for light in 0..light_count(engine) {
-        if !is_entered(engine, light) {
-            count += 1;
-        }
-    }
-    count
 }
 
 /// Returns whether two lights have the same letters, whether or not they are wholly entered.

@@ -3,9 +3,8 @@ ghost use Rattle.std.specs.Prelude.{◌≡◌, ◌<◌, false, slice_index_or, [
 ghost use Rattle.xw_fill.specs.OfState.{light_count, is_entered, leaves_words, index_to_try, IsTriedAt, spellings_at};
 ghost use Rattle.xw_fill.specs.Suggesting.{suggestion};
 
-use crate::placement::Placement;
 use crate::scan::{chosen, first_without_words, name_at, next_word_index};
-use crate::tries::make_try;
+use crate::trial::Trial;
 use xw_feas::feasible::Feasible;
 use xw_grid::cell::LightName;
 
@@ -29,10 +28,9 @@ fn can_be_placed<E: Feasible>(engine: &mut E, light: usize, index: usize) -> boo
     ensures found { result ≡ leaves_words (E.state engine.old) light (slice_index_or (spellings_at (E.state engine.old) light) index []) }
     ensures unchanged { E.state engine.new ≡ E.state engine.old }
 {
-    let tried = make_try(engine, light, index);
-    tried.place(engine);
+    let trial = Trial::place(engine, light, index);
     let blocked = first_without_words(engine).is_some();
-    tried.take_back(engine);
+    trial.take_back(engine);
     !blocked
 }
 

@@ -17,9 +17,9 @@ pub struct Circles {
 
 impl Model for Circles {
     ghost use Rattle.std.specs.Prelude.{List};
-    ghost use Rattle.xw_grid.specs.declared.cell.Cell.{Cell as CircledCell};
+    ghost use Rattle.xw_grid.specs.declared.cell.Cell.{Cell as SpecCell};
 
-    ghost Value = { List CircledCell };
+    ghost Value = { List SpecCell };
 
     ghost view = { λ circles. circles.cells.keys };
 }

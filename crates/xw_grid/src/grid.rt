@@ -6,7 +6,7 @@ mod entries;
 mod symmetry;
 
 ghost use Rattle.std.specs.Prelude.{◌≡◌, ◌≢◌, ◌<◌, ◌≤◌, ◌*◌, true, length, All, Some, None, Ok, Err, IfOk, IfErr, IfSome, IsOk, IsOkUnless, if◌then◌else◌};
-ghost use Rattle.xw_grid.specs.Grid.{IsGrid, IsSquare, cell_at as cell_at_index, is_inside, index_of};
+ghost use Rattle.xw_grid.specs.Grid.{IsGrid, IsSquare, cell_at as spec_cell_at, is_inside, index_of};
 ghost use Rattle.xw_grid.specs.Edit.{new_grid, grid_of};
 
 use crate::cell::{Cell, Square, Symmetry};
@@ -30,10 +30,10 @@ pub struct Grid {
 }
 
 impl Model for Grid {
-    ghost use Rattle.xw_grid.specs.Grid.{Grid as GridOfCells, IsGrid};
+    ghost use Rattle.xw_grid.specs.Grid.{Grid as SpecGrid, IsGrid};
     ghost use Rattle.xw_grid.specs.GridView.{grid_in};
 
-    ghost Value = { GridOfCells };
+    ghost Value = { SpecGrid };
 
     ghost view = { grid_in };
 
@@ -196,7 +196,7 @@ impl Grid {
     #[tactic(auto, using(crate::proofs::GridLemmas::size_steps))]
     pub fn cell_at(&self, index: usize) -> Cell
         requires { index < self.now.width * self.now.height }
-        ensures cell { result ≡ cell_at_index self.now index }
+        ensures cell { result ≡ spec_cell_at self.now index }
         ensures inside { is_inside self.now result ≡ true }
     {
         let width = self.width as usize;

@@ -1,7 +1,7 @@
 //! Tables from each cell to the index of the light through it.
 ghost use Rattle.std.specs.Prelude.{◌≡◌, ℕ, ◌*◌, ◌<◌, ◌≤◌, true, length, slice_set, IfOk};
 ghost use Rattle.xw_grid.specs.Grid.{index_of, is_inside};
-ghost use Rattle.xw_grid.specs.Light.{lights_of, is_on_line, passes, same_direction, step as cell_after};
+ghost use Rattle.xw_grid.specs.Light.{lights_of, is_on_line, passes, same_direction, step};
 ghost use Rattle.xw_grid.specs.LightTable.{IsLightTable, entry_for, marked, IsEntered};
 
 use crate::cell::{Cell, Direction};
@@ -47,7 +47,7 @@ fn enter_towards(
     direction: Direction,
 )
     requires long { length table.old ≡ grid.now.width * grid.now.height }
-    requires inside { (k : ℕ) → k < light.now.size → is_inside grid.now (cell_after light.now.name.direction light.now.start k) ≡ true }
+    requires inside { (k : ℕ) → k < light.now.size → is_inside grid.now (step light.now.name.direction light.now.start k) ≡ true }
     ensures long { length table.new ≡ length table.old }
     ensures each { IsEntered grid.now (λ cell. passes direction cell light.now) index table.old table.new }
 {
@@ -68,7 +68,7 @@ fn is_towards(light: &Light, direction: Direction) -> bool
 /// Enters a light's index at each of its cells that has no entry yet.
 fn enter(table: &mut [Option<usize>], grid: &Grid, light: &Light, index: usize)
     requires long { length table.old ≡ grid.now.width * grid.now.height }
-    requires inside { (k : ℕ) → k < light.now.size → is_inside grid.now (cell_after light.now.name.direction light.now.start k) ≡ true }
+    requires inside { (k : ℕ) → k < light.now.size → is_inside grid.now (step light.now.name.direction light.now.start k) ≡ true }
     ensures long { length table.new ≡ length table.old }
     ensures each { IsEntered grid.now (is_on_line light.now.name.direction light.now.start light.now.size) index table.old table.new }
 {

@@ -1,7 +1,7 @@
 //! The lights of a grid and their numbers.
 ghost use Rattle.std.specs.Prelude.{◌≡◌, ℕ, ◌+◌, ◌++◌, ◌<◌, ◌≤◌, ◌^◌, true, List, Some, None, slice_get, slice_index_or, IfOk, OnOk, IsOkUnless, length, if◌then◌else◌, ◌&&◌, ◌||◌, ◌==◌};
 ghost use Rattle.xw_grid.specs.Grid.{is_inside, same_cell};
-ghost use Rattle.xw_grid.specs.Light.{is_joined as is_joined_to_next, begins as begins_light, previous as cell_before, begins_some as begins_some_light, step as cell_after, run_from, light_from, lights_at, lights_of, number_at, same_name, index_named, index_through, index_with_cells, number_in, same_name, name_before, no_light};
+ghost use Rattle.xw_grid.specs.Light.{is_joined as spec_is_joined, begins as spec_begins, previous as spec_previous, begins_some, step as spec_step, run_from, light_from, lights_at, lights_of, number_at, same_name, index_named, index_through, index_with_cells, number_in, same_name, name_before, no_light};
 ghost use Rattle.xw_grid.specs.LightLaws.{LightsAreLights, LightsAreAll, LightsBegin, LightsAreOrdered, LightsAreApart, LightsAreFew, LightsMeetOnce};
 ghost use Rattle.xw_grid.specs.LightTable.{IsLightTable, number_of_start, is_such};
 ghost use Rattle.std.specs.Option.{option_and_then};
@@ -28,7 +28,7 @@ impl Light {
     /// the light.
     pub fn cell(&self, k: u32) -> Cell
         requires { (self.now.start.row ≤ 255) × (self.now.start.col ≤ 255) × (k ≤ 255) }
-        ensures { result ≡ cell_after self.now.name.direction self.now.start k }
+        ensures { result ≡ spec_step self.now.name.direction self.now.start k }
     {
         step(self.name.direction, self.start, k)
     }
@@ -47,10 +47,10 @@ pub struct Lights {
 
 impl Model for Lights {
     ghost use Rattle.std.specs.Prelude.{List};
-    ghost use Rattle.xw_grid.specs.declared.lights.Light.{Light as LightOfGrid};
+    ghost use Rattle.xw_grid.specs.declared.lights.Light.{Light as SpecLight};
     ghost use Rattle.xw_grid.specs.LightTable.{AreKept};
 
-    ghost Value = { List LightOfGrid };
+    ghost Value = { List SpecLight };
 
     ghost view = { λ lights. lights.lights.items };
 
@@ -262,7 +262,7 @@ fn starts_at(light: &Light, cell: Cell) -> bool
 
 /// Whether a cell and the next one in a direction are open, with no bar between them.
 fn is_joined(grid: &Grid, direction: Direction, cell: Cell) -> bool
-    ensures { result ≡ is_joined_to_next grid.now direction cell }
+    ensures { result ≡ spec_is_joined grid.now direction cell }
 {
     let side = match direction {
         Direction::Across => Side::Right,
@@ -272,7 +272,7 @@ fn is_joined(grid: &Grid, direction: Direction, cell: Cell) -> bool
 }
 
 fn previous(direction: Direction, cell: Cell) -> Cell
-    ensures { result ≡ cell_before direction cell }
+    ensures { result ≡ spec_previous direction cell }
 {
     match direction {
         Direction::Across => Cell {
@@ -288,7 +288,7 @@ fn previous(direction: Direction, cell: Cell) -> Cell
 
 /// Whether a light in a direction begins at a cell.
 pub fn begins(grid: &Grid, direction: Direction, cell: Cell) -> bool
-    ensures { result ≡ begins_light grid.now direction cell }
+    ensures { result ≡ spec_begins grid.now direction cell }
 {
     is_joined(grid, direction, cell) && !is_joined(grid, direction, previous(direction, cell))
 }
@@ -296,7 +296,7 @@ pub fn begins(grid: &Grid, direction: Direction, cell: Cell) -> bool
 /// The cell `count` steps further on.
 fn step(direction: Direction, first: Cell, count: u32) -> Cell
     requires { (first.row ≤ 255) × (first.col ≤ 255) × (count ≤ 255) }
-    ensures { result ≡ cell_after direction first count }
+    ensures { result ≡ spec_step direction first count }
 {
     match direction {
         Direction::Across => Cell {
@@ -339,7 +339,7 @@ fn add_lights(
     requires number { begun + 1 ≡ number_at grid.now cell }
     requires few { begun < 65025 }
     ensures lights { OnOk result (lights.new.items ≡ lights.old.items ++ lights_at grid.now cell) }
-    ensures begun { IfOk result (λ now. now ≡ begun + (if begins_some_light grid.now cell then 1 else 0)) }
+    ensures begun { IfOk result (λ now. now ≡ begun + (if begins_some grid.now cell then 1 else 0)) }
 {
     let number = begun + 1;
     let across = add_light(lights, grid, number, Direction::Across, cell)?;
@@ -366,7 +366,7 @@ fn add_light(
     requires inside { is_inside grid.now start ≡ true }
     requires number { number ≡ number_at grid.now start }
     ensures lights { OnOk result (lights.new.items ≡ lights.old.items ++ light_from grid.now start direction) }
-    ensures begins { IfOk result (λ here. here ≡ begins_light grid.now direction start) }
+    ensures begins { IfOk result (λ here. here ≡ spec_begins grid.now direction start) }
 {
     let here = begins(grid, direction, start);
     if here {

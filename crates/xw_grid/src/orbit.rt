@@ -3,7 +3,7 @@ ghost use Rattle.std.specs.Prelude.{◌≡◌, ℕ, ◌<◌, ◌≤◌, ◌||◌
 ghost use Rattle.std.specs.Iterator.{YieldsFirst, item_count};
 ghost use Rattle.std.specs.List.{list_any};
 ghost use Rattle.xw_grid.specs.Grid.{cell_in};
-ghost use Rattle.xw_grid.specs.Orbit.{cells_among, IsLeastFrom, nearer as nearer_index, AreNeighbours, IsEdgeBetween, OrbitIsLeast, EdgeOrbitIsLeast, OrbitsAreSmall, EdgeOrbitsAreSmall};
+ghost use Rattle.xw_grid.specs.Orbit.{cells_among, IsLeastFrom, nearer as spec_nearer, AreNeighbours, IsEdgeBetween, OrbitIsLeast, EdgeOrbitIsLeast, OrbitsAreSmall, EdgeOrbitsAreSmall};
 
 use crate::cell::{Cell, Edge, Side};
 use std::marker::Model;
@@ -19,10 +19,10 @@ pub struct Orbit {
 
 impl Model for Orbit {
     ghost use Rattle.std.specs.Prelude.{List, All, ◌<◌, ◌≤◌};
-    ghost use Rattle.xw_grid.specs.declared.cell.Cell.{Cell as CellOfOrbit};
+    ghost use Rattle.xw_grid.specs.declared.cell.Cell.{Cell as SpecCell};
     ghost use Rattle.xw_grid.specs.Orbit.{cells_among};
 
-    ghost Value = { List CellOfOrbit };
+    ghost Value = { List SpecCell };
 
     ghost view = { λ orbit. cells_among orbit.width orbit.squares orbit.from orbit.end };
 
@@ -91,7 +91,7 @@ fn least_from(squares: &[usize; 4], from: usize) -> Option<usize>
 
 /// The lesser of `index` and `found`. An `index` below `from` does not count.
 fn nearer(from: usize, index: usize, found: Option<usize>) -> Option<usize>
-    ensures { result ≡ nearer_index from index found }
+    ensures { result ≡ spec_nearer from index found }
 {
     match found {
         Some(other) if index < from || other < index => Some(other),

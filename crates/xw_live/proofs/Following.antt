@@ -1,13 +1,13 @@
 -- A net follows an edit that a position tells of.
 use Rattle.std.proofs.Common.{◌≡◌, ℕ, ◌+◌, ◌≤◌, false, List, length, refl, sym, ◌∙◌, ap, subst}
 use Rattle.std.specs.Prelude.{Option, Ok, is_some}
-use Rattle.xw_words.specs.Dictionary.{Dictionary, row}
+use Rattle.xw_words.specs.Dictionary.{Dictionary, known_words}
 use Rattle.xw_grid.specs.declared.cell.Cell.{Cell}
 use Rattle.xw_grid.specs.declared.lights.Light.{Light}
 use Rattle.xw_grid.specs.EditLaws.{SameShape}
 use Rattle.xw_feas.specs.declared.position.Position.{Position}
 use Rattle.xw_feas.specs.declared.told.Told.{Told}
-use Rattle.xw_feas.specs.declared.told.Told.TheVariants.{Nothing, Cells, List as Listed, Shape, Word, Least}
+use Rattle.xw_feas.specs.declared.told.Told.TheVariants.{Nothing, Cells, List as ToldList, Shape, Word, Least}
 use Rattle.xw_feas.specs.Layout.{Layout, layout_of}
 use Rattle.xw_feas.specs.Position.{state_of}
 use Rattle.xw_feas.specs.Shape.{SameCounts}
@@ -28,7 +28,7 @@ use Rattle.xw_live.proofs.Keeping.{kept_from, kept_cells, settled_alike, stood_n
 pub something_told : (before : State) (now : Position) (action : Action) (told : Told) → (told ≡ Nothing → ⊥) → IsTold before now action told → Tells before action (told_by now told)
 something_told before now action Nothing some is = absurd (some refl)
 something_told before now action Cells some is = is
-something_told before now action (Listed count) some is = is.1
+something_told before now action (ToldList count) some is = is.1
 something_told before now action (Shape lights) some is = is
 something_told before now action (Word len index) some is = is
 something_told before now action (Least least) some is = is
@@ -84,7 +84,7 @@ module _ (was now : Position) (action : Action) (net : Net) (kept : IsKept (stat
   pub entries_follow : IsTold (state_of was) now action Cells → SameShape was.grid now.grid → now.bank.words ≡ was.bank.words → (written : List (Cell × Option ℕ)) → written ≡ now.notes.written → CanFollow now (of_cells written now.lights) net
   entries_follow told shape words written is =
       subst (λ (fields : Fields). CanFollow now fields net) (sym (ap (λ cells. of_cells cells now.lights) is))
-      (can_follow_same (told_by now Cells) told (now.light_list ∙ shape.lights ∙ sym was.light_list) shape.cells (λ len. ap (λ (words : Dictionary). length (row words len)) words))
+      (can_follow_same (told_by now Cells) told (now.light_list ∙ shape.lights ∙ sym was.light_list) shape.cells (λ len. ap (λ (words : Dictionary). length (known_words words len)) words))
 
   pub entries_cells : SameShape was.grid now.grid → (last : Net) (before : List ℕ) → before ≡ sets_of net → IsKept (state_of now) last → length before ≡ length (sets_of last)
   entries_cells shape last before is now_kept = same_cells_kept net last before (alike_itself net) is shape.cells now_kept

@@ -2,5 +2,8 @@ pub mod Following
 pub mod Keeping
 pub mod Lending
 pub mod Next
-mod Saving
+pub mod Outcomes
+pub mod Placements
+pub mod Saving
+pub mod TriedPlacements
 pub mod Trying

@@ -10,7 +10,7 @@ use Rattle.xw_feas.specs.Written.{Fields}
 use Rattle.xw_feas.specs.declared.noted.Notes.{Notes}
 use Rattle.xw_feas.specs.declared.position.Position.{Position}
 use Rattle.xw_feas.specs.declared.told.Told.{Told}
-use Rattle.xw_feas.specs.declared.told.Told.TheVariants.{List as Listed}
+use Rattle.xw_feas.specs.declared.told.Told.TheVariants.{List}
 use Rattle.xw_net.specs.declared.net.Net.{Net}
 use Rattle.xw_net.specs.Fit.{HasRoomBetween}
 use Rattle.xw_net.specs.Net.{flags_of, sets_of, known_counts, IsSettledFor, StoodFor}
@@ -46,4 +46,4 @@ pub record CanFollow (now : Position) (fields : Fields) (net : Net) : Type 0 whe
 
 -- the notes have as many cells of a list as are told
 abbrev pub IsNoted : Notes → Told → Type 0
-IsNoted notes told = (count : ℕ) → told ≡ Listed count → count ≤ length notes.noted.items
+IsNoted notes told = (count : ℕ) → told ≡ List count → count ≤ length notes.noted.items

@@ -1,3 +1,4 @@
 pub mod Engine
+pub mod Levels
 pub mod Live
 pub mod Saved

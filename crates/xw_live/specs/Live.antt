@@ -1,5 +1,5 @@
 -- What an edit of the engine does, and what it costs.
-use Rattle.std.specs.Prelude.{◌≡◌, ◌≤◌, true, Result, Ok, Err}
+use Rattle.std.specs.Prelude.{◌≡◌, ◌≤◌, true, List, Result, Ok, Err}
 use Rattle.xw_grid.specs.Light.{lights_of}
 use Rattle.xw_feas.specs.Count.{number}
 use Rattle.xw_feas.specs.Engine.{IsEdited}
@@ -11,12 +11,17 @@ use Rattle.xw_feas.specs.declared.edit.Refusal.{Refusal}
 use Rattle.xw_feas.specs.declared.changed.Changed.{Changed}
 use Rattle.xw_live.specs.declared.live.Live.{Live}
 use Rattle.xw_live.specs.Engine.{net_answers}
+use Rattle.xw_live.specs.Levels.{states_before}
 use Rattle.xw_net.specs.Net.{flags_of, sets_of}
 use Rattle.xw_net.specs.Cost.{RoseWithinCost}
 
 -- the grid and the dictionary of an engine
 abbrev pub state_of : Live → State
 state_of live = record { grid = live.position.grid; words = live.position.bank.words }
+
+-- the states before the placements of a search, the last one last
+abbrev pub levels_of : Live → List State
+levels_of live = states_before live.position.bank.words live.levels.made.items
 
 -- the feasible words and letters that an engine holds
 abbrev pub answers_now : Live → Answers

@@ -1,6 +1,7 @@
 //! The engine that updates the feasible words and letters of a grid after each edit.
 #![tactic(auto)]
 
+pub mod levels;
 pub mod live;
 pub mod searching;
 mod settling;

@@ -7,7 +7,6 @@ ghost use Rattle.xw_feas.specs.State.{State, Action, after, IsRefused};
 ghost use Rattle.xw_feas.specs.Told.{told_by, IsTold};
 ghost use Rattle.xw_net.specs.Change.{fields_of, IsChange};
 ghost use Rattle.xw_net.specs.Cost.{RoseWithinCost};
-ghost use Rattle.xw_net.specs.Filled.{IsStoppedAt};
 ghost use Rattle.xw_live.specs.Engine.{CanFollow, IsKept, IsNoted};
 ghost use Rattle.xw_net.specs.Net.{IsSettledFor, IsAlike, sets_of};
 
@@ -19,7 +18,6 @@ use xw_feas::told::Told;
 use xw_letters::letter_set::LetterSet;
 use xw_net::change::Change;
 use xw_net::net::Net;
-use xw_net::trial::Trial;
 use xw_words::counted::Counted;
 use xw_words::rows::Rows;
 
@@ -41,41 +39,6 @@ pub fn settle(net: &mut Net, spent: u64, change: &Change<'_>, position: &Positio
     let mut rows = Counted::new(&position.bank, spent);
     net.settle(&mut rows, change, &position.grid, &position.lights);
     rows.spent()
-}
-
-/// Updates a net as `settle` does, but stops at the first watched light that has no feasible word after the change,
-/// and returns it. Also returns the ticks so far. See `Trial` for `in_turn`.
-pub fn try_settle(
-    net: &mut Net,
-    spent: u64,
-    change: &Change<'_>,
-    position: &Position,
-    watched: &[bool],
-    in_turn: bool,
-) -> (Option<usize>, u64)
-    requires { CanFollow position.now (fields_of position.now.lights change.now) net.old }
-    ensures risen { spent ≤ result.1 }
-    ensures none_waits { is_some net.new.spare ≡ false }
-    ensures kept { IfNone result.0 ((before : State) (action : Action) →
-        IsChange before (record { grid = position.now.grid; words = position.now.bank.words }) action (fields_of position.now.lights change.now) →
-        ∥ IsSettledFor before net.old ∥₁ →
-        IsKept (record { grid = position.now.grid; words = position.now.bank.words }) net.new) }
-    ensures stopped { IfSome result.0 (λ light. (before : State) (action : Action) →
-        IsChange before (record { grid = position.now.grid; words = position.now.bank.words }) action (fields_of position.now.lights change.now) →
-        ∥ IsSettledFor before net.old ∥₁ →
-        ∥ IsStoppedAt (board_of position.now.grid) position.now.bank.words net.new light ∥₁) }
-    ensures within { IfSome result.0 (λ light. light < length position.now.lights) }
-    ensures watched { IfSome result.0 (λ light. slice_index_or watched.now light false ≡ true) }
-{
-    position.bank.well_formed();
-    let mut reads = Counted::new(&position.bank, spent);
-    let trial = Trial {
-        watched,
-        in_turn,
-        words: Some(&position.bank),
-    };
-    let dead = net.try_settle(&mut reads, change, &position.grid, &position.lights, trial);
-    (dead, reads.spent())
 }
 
 /// Copies the net's letters to `before`.

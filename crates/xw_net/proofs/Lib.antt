@@ -5,3 +5,4 @@ pub mod BaseRows
 pub mod Revivals
 pub mod Stripping
 pub mod Nets
+pub mod Levels

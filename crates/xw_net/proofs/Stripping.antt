@@ -15,4 +15,5 @@ pub mod EmptiedCells
 pub mod EmptiedAtOnce
 pub mod NotedLight
 pub mod DeadLights
-pub mod StoppedNets
+pub mod ReadyNets
+pub mod StrippedNets

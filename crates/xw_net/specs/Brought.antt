@@ -2,7 +2,7 @@
 use Rattle.std.specs.Prelude.{◌≡◌, ◌⊎◌, ℕ, ◌+◌, ◌*◌, ◌<◌, ◌≤◌, Bool, true, false, List, length, slice_index, Option, Some, IsTrue, ◌↔◌, if◌then◌else◌}
 use Rattle.xw_bits.specs.Bits.{RowOfBits}
 use Rattle.xw_letters.specs.Letter.{is_capital}
-use Rattle.xw_words.specs.Dictionary.{Dictionary, Entry, row}
+use Rattle.xw_words.specs.Dictionary.{Dictionary, Entry, known_words}
 use Rattle.xw_feas.specs.Board.{Board, light_at}
 use Rattle.xw_feas.specs.Feasible.{may_stand}
 use Rattle.xw_feas.specs.Choices.{choice_at, is_base_at}
@@ -20,7 +20,7 @@ pub record HasBase (board : Board) (entries : ℕ → List Entry) (base : List R
 
 -- the bits of the base rows are right
 abbrev pub IsBase : Board → Dictionary → List RowOfBits → Type 0
-IsBase board dictionary base = (light : ℕ) → light < length board.lights → bits_in base light ≡ base_bits board (light_at board light) (row dictionary (length (light_at board light)))
+IsBase board dictionary base = (light : ℕ) → light < length board.lights → bits_in base light ≡ base_bits board (light_at board light) (known_words dictionary (length (light_at board light)))
 
 -- an upper bound for the ticks spent on updating the base rows of a set of lights
 unfoldable pub base_cost : Board → (ℕ → List Entry) → (ℕ → Bool) → ℕ

@@ -1,6 +1,6 @@
 -- What a net is told of an edit.
 use Rattle.std.specs.Prelude.{◌≡◌, ℕ, ◌<◌, Bool, true, false, List, [], map, length, Option, Some, None, Ok, slice_get, slice_index_or, Contains}
-use Rattle.xw_words.specs.Dictionary.{Entry, Dictionary, row, entry_at}
+use Rattle.xw_words.specs.Dictionary.{Entry, Dictionary, known_words, entry_at}
 use Rattle.xw_grid.specs.declared.cell.Cell.{Cell}
 use Rattle.xw_grid.specs.Grid.{Grid, index_of}
 use Rattle.xw_grid.specs.declared.lights.Light.{Light}
@@ -79,12 +79,12 @@ pub record IsChange (before now : State) (action : Action) (change : Fields) : T
   pub height : now.grid.height ≡ before.grid.height
   pub squares : (index : ℕ) → ¬ Contains (indices_listed before.grid change.cells) index → slice_get now.grid.squares index ≡ slice_get before.grid.squares index
   -- in any other length the known words are the same, except perhaps whether the changed word is known and active
-  pub entries : (len index : ℕ) → change.turned len ≡ false → ¬ IsIndexOf change.word len index → slice_get (row now.words len) index ≡ slice_get (row before.words len) index
+  pub entries : (len index : ℕ) → change.turned len ≡ false → ¬ IsIndexOf change.word len index → slice_get (known_words now.words len) index ≡ slice_get (known_words before.words len) index
   -- in such a length the same words are known, and if no word may have come back, none did
-  pub counts : (len : ℕ) → change.turned len ≡ true → length (row now.words len) ≡ length (row before.words len)
-  pub gone : (len index : ℕ) → change.back ≡ false → change.turned len ≡ true → (entry_at (row now.words len) index).active ≡ true → (entry_at (row before.words len) index).active ≡ true
-  pub spelling : (len index : ℕ) → index < length (row before.words len) → (entry_at (row now.words len) index).word ≡ (entry_at (row before.words len) index).word
+  pub counts : (len : ℕ) → change.turned len ≡ true → length (known_words now.words len) ≡ length (known_words before.words len)
+  pub gone : (len index : ℕ) → change.back ≡ false → change.turned len ≡ true → (entry_at (known_words now.words len) index).active ≡ true → (entry_at (known_words before.words len) index).active ≡ true
+  pub spelling : (len index : ℕ) → index < length (known_words before.words len) → (entry_at (known_words now.words len) index).word ≡ (entry_at (known_words before.words len) index).word
 
 -- the reads return the words of a dictionary
 abbrev pub AreReadsOf : (ℕ → List Entry) → Dictionary → Type 0
-AreReadsOf entries words = (len : ℕ) → entries len ≡ row words len
+AreReadsOf entries words = (len : ℕ) → entries len ≡ known_words words len

@@ -2,10 +2,9 @@
 use Rattle.std.specs.Prelude.{◌≡◌, ℕ, ◌<◌, ◌≤◌, true, false, List, [], length, All}
 use Rattle.xw_bits.specs.Bits.{RowOfBits}
 use Rattle.xw_letters.specs.Letter.{is_capital}
-use Rattle.xw_words.specs.Dictionary.{Dictionary, Entry, row, most_words}
+use Rattle.xw_words.specs.Dictionary.{Dictionary, Entry, known_words, most_words}
 use Rattle.xw_feas.specs.Board.{Board, light_at}
 use Rattle.xw_feas.specs.Choices.{IsExact}
-use Rattle.xw_feas.specs.Feasible.{IsFeasibleWord}
 use Rattle.xw_net.specs.Marks.{IsPositionIn, slot_at, IsHolding, IsReady, IsSettledNet}
 use Rattle.xw_net.specs.Room.{row_at}
 use Rattle.xw_net.specs.Nets.{marks_of, word_stands, letter_stands, held_in, pending_in, queued_in, IsShaped, IsChained, HasBits}
@@ -48,7 +47,7 @@ pub record IsFresh (board : Board) (entries : ℕ → List Entry) (net : Net) : 
 
 -- the net has all that is feasible, and perhaps more: it is ready for stripping
 pub record IsUnstripped (board : Board) (dictionary : Dictionary) (net : Net) : Type 0 where
-  pub whole : IsWholeNet board (row dictionary) net
+  pub whole : IsWholeNet board (known_words dictionary) net
   pub is_base : IsBase board dictionary net.base.items
   pub ready : IsReady board dictionary (marks_of net)
   pub holding : IsHolding board dictionary (marks_of net)
@@ -58,24 +57,10 @@ pub record IsUnstripped (board : Board) (dictionary : Dictionary) (net : Net) : 
 
 -- the net has exactly what is feasible, and is ready for the next edit
 pub record IsFilled (board : Board) (dictionary : Dictionary) (net : Net) : Type 0 where
-  pub whole : IsWholeNet board (row dictionary) net
+  pub whole : IsWholeNet board (known_words dictionary) net
   pub is_base : IsBase board dictionary net.base.items
   pub settled : IsSettledNet board dictionary (marks_of net)
   pub holding : IsHolding board dictionary (marks_of net)
   pub exact : IsExact board dictionary (word_stands net) (letter_stands net)
   pub pending : (slot letter : ℕ) → pending_in net slot letter ≡ false
   pub quiet : IsQuiet net
-
--- stripping stopped before the net was settled: the base rows are right and no work is left, so that another net can be
--- copied over it
-pub record IsStopped (board : Board) (dictionary : Dictionary) (net : Net) : Type 0 where
-  pub whole : IsWholeNet board (row dictionary) net
-  pub is_base : IsBase board dictionary net.base.items
-  pub lights : (light choice : ℕ) → word_stands net light choice ≡ true → light < length board.lights
-  pub pending : (slot letter : ℕ) → pending_in net slot letter ≡ false
-  pub quiet : IsQuiet net
-
--- it stopped at a light that has no feasible word
-pub record IsStoppedAt (board : Board) (dictionary : Dictionary) (net : Net) (light : ℕ) : Type 0 where
-  pub dead : (word : List ℕ) → ¬ IsFeasibleWord board dictionary light word
-  pub stopped : IsStopped board dictionary net

@@ -28,3 +28,7 @@ pub mod Cost
 pub mod RegionLaws
 pub mod Settling
 pub mod Inner
+pub mod Level
+pub mod Seen
+pub mod Entered
+pub mod Single

@@ -1,7 +1,7 @@
 -- The state of a net as sets and relations, and the invariants of stripping.
 use Rattle.std.specs.Prelude.{◌≡◌, ◌⊎◌, ℕ, ◌+◌, ◌*◌, ◌^◌, ◌<◌, ◌≤◌, Bool, true, false, ◌&&◌, ◌||◌, ◌==◌, not, List, length, slice_index, if◌then◌else◌}
 use Rattle.xw_letters.specs.Letter.{is_capital}
-use Rattle.xw_words.specs.Dictionary.{Dictionary, Entry, row, IsDictionary}
+use Rattle.xw_words.specs.Dictionary.{Dictionary, Entry, known_words, IsDictionary}
 use Rattle.xw_feas.specs.Board.{Board, light_at, IsCrossing}
 use Rattle.xw_feas.specs.Choices.{choice_at, CoversSupported, IsWithinBase}
 use Rattle.xw_feas.specs.WellFormed.{IsLaidOut}
@@ -60,7 +60,7 @@ pub record IsSetting (board : Board) (entries : ℕ → List Entry) (dictionary 
   pub laid_out : IsLaidOut board
   pub apart : AreSlotsApart board
   pub words : IsDictionary dictionary
-  pub read : (len : ℕ) → entries len ≡ row dictionary len
+  pub read : (len : ℕ) → entries len ≡ known_words dictionary len
 
 -- the state of a net
 pub record Marks : Type 0 where
@@ -81,7 +81,7 @@ module _ (board : Board) (dictionary : Dictionary) where
   -- the number of known words of the light's length; it is also the number of the word that its
   -- letters spell
   abbrev pub known : ℕ → ℕ
-  known light = length (row dictionary (length (light_at board light)))
+  known light = length (known_words dictionary (length (light_at board light)))
 
   -- the letter of a word at a position
   abbrev pub letter_of : ℕ → ℕ → ℕ → ℕ

@@ -4,10 +4,11 @@
 -- `Fit.antt`, `Copy.antt`, `Tally.antt` and `Sizes.antt`. The other files are for inner functions and proofs.
 use Rattle.std.specs.Prelude.{◌≡◌, ℕ, ◌+◌, ◌≤◌, Bool, true, false, List, [], ◌∷◌, ◌++◌, map, drop, length, slice_index_or, position, Option, Some, None, option_map, IsTrue}
 use Rattle.std.specs.List.{range_with_len}
-use Rattle.xw_words.specs.Dictionary.{Dictionary, row}
+use Rattle.xw_words.specs.Dictionary.{Dictionary, known_words}
 use Rattle.xw_grid.specs.declared.lights.Light.{Light}
+use Rattle.xw_grid.specs.Grid.{Grid}
 use Rattle.xw_grid.specs.Light.{lights_of}
-use Rattle.xw_feas.specs.Board.{board_of, light_at}
+use Rattle.xw_feas.specs.Board.{Board, board_of, light_at}
 use Rattle.xw_feas.specs.Choices.{IsExact}
 use Rattle.xw_feas.specs.Flags.{flag_at, set_has}
 use Rattle.xw_feas.specs.Standing.{HasRows}
@@ -67,13 +68,19 @@ HasRoomFor lights counts net = HasRoomIn lights counts net net.spare
 
 -- the number of known words of a length
 abbrev pub known_counts : Dictionary → ℕ → ℕ
-known_counts dictionary len = length (row dictionary len)
+known_counts dictionary len = length (known_words dictionary len)
 
 -- the net is settled for some grid with these lights
 pub record StandsFor (lights : List Light) (net : Net) : Type 0 where
   pub state : State
   pub are_lights : lights_of state.grid ≡ lights
   pub settled : ∥ IsSettledFor state net ∥₁
+
+-- the net is settled for some grid with this board, and for a dictionary
+pub record IsSettledOver (board : Board) (dictionary : Dictionary) (net : Net) : Type 0 where
+  pub grid : Grid
+  pub is_board : board_of grid ≡ board
+  pub settled : ∥ IsSettledFor (record { grid = grid; words = dictionary }) net ∥₁
 
 -- the net is settled for some grid with these lights and some dictionary, and since then no word has
 -- become known, except perhaps the changed one

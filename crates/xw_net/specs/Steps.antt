@@ -1,14 +1,14 @@
 -- What a step of stripping keeps.
-use Rattle.std.specs.Prelude.{◌≡◌, ◌⊎◌, ℕ, ◌<◌, ◌≤◌, ◌+◌, ◌||◌, ◌==◌, Bool, true, false, List, length}
+use Rattle.std.specs.Prelude.{◌≡◌, ◌⊎◌, ℕ, ◌≤◌, ◌+◌, ◌||◌, ◌==◌, Bool, true, false, List, length, slice_index_or}
 use Rattle.xw_letters.specs.LetterSet.{has}
 use Rattle.xw_words.specs.Dictionary.{Dictionary, Entry}
 use Rattle.xw_feas.specs.Board.{Board}
-use Rattle.xw_feas.specs.Choices.{IsExact}
 use Rattle.xw_feas.specs.Feasible.{IsFeasibleWord}
-use Rattle.xw_net.specs.Marks.{IsPositionIn, IsSlot, IsSetting, IsHeld, IsHolding, IsReady, IsSettledNet, Stays, AreSlotsApart, puts, cell_at, slot_at}
+use Rattle.xw_net.specs.Marks.{IsPositionIn, IsSlot, IsSetting, IsHeld, IsHolding, IsReady, Stays, AreSlotsApart, puts, cell_at, slot_at}
 use Rattle.xw_net.specs.Due.{Measure, IsUnderway, IsClosed, HasQueued, and_light, set_cost}
 use Rattle.xw_net.specs.Nets.{marks_of, word_stands, letter_stands, pending_in, queued_in, Waits, left_of, IsShaped, IsLeft, HasBits}
 use Rattle.xw_net.specs.Filled.{IsUnstripped, IsFilled}
+use Rattle.xw_net.specs.Spread.{OtherRowsStay}
 use Rattle.xw_net.specs.declared.net.Net.{Net}
 use Rattle.xw_net.specs.declared.position.Position.{Position}
 
@@ -29,6 +29,13 @@ pub record IsStruck (old new : Net) : Type 0 where
   pub letters : new.letters ≡ old.letters
   pub held : new.held ≡ old.held
   pub queue : new.queue ≡ old.queue
+
+-- only words of this light, its flag and pending letters changed
+pub record IsStruckAt (light : ℕ) (old new : Net) : Type 0 where
+  pub rest : new ≡ record old { rows = new.rows; entered = new.entered; pending = new.pending }
+  pub rows : OtherRowsStay light old.rows.items new.rows.items
+  pub flags : (other : ℕ) → (other ≡ light → ⊥) → slice_index_or new.entered.items other false ≡ slice_index_or old.entered.items other false
+  pub many : length new.entered.items ≡ length old.entered.items
 
 -- only pending letters and the queue changed
 abbrev pub IsLeftPending : Net → Net → Type 0
@@ -63,12 +70,12 @@ module _ (board : Board) where
   abbrev pub PendAtSlots : Net → Net → Type 0
   PendAtSlots old new = (slot letter : ℕ) → pending_in new slot letter ≡ true → (pending_in old slot letter ≡ true) ⊎ IsSlot board slot
 
-  -- removing the letters at a position that are not in a set, which has each letter that a word of the light has there, keeps the
+  -- removing the letters at a position that are not in a set, which has each of them that a word of the light has there, keeps the
   -- invariant and costs nothing
   abbrev pub ListsOn : ℕ → ℕ → ℕ → Net → Net → Type 0
   ListsOn light position listed old new =
       (dictionary : Dictionary) (measure : Measure) (ticks : ℕ) → AreSlotsApart board → measure.member light ≡ true
-      → ((letter choice : ℕ) → word_stands old light choice ≡ true → puts board dictionary light position letter choice ≡ true → has listed letter ≡ true)
+      → ((letter choice : ℕ) → letter_stands old (cell_at board light position) letter ≡ true → word_stands old light choice ≡ true → puts board dictionary light position letter choice ≡ true → has listed letter ≡ true)
       → IsUnderway board dictionary measure (marks_of old) (and_light (queued_in old) light) ticks → IsUnderway board dictionary measure (marks_of new) (and_light (queued_in new) light) ticks
 
   module _ (entries : ℕ → List Entry) where
@@ -122,6 +129,10 @@ module _ (board : Board) where
         (dictionary : Dictionary) (measure : Measure) → IsSetting board entries dictionary
         → IsUnderway board dictionary measure (marks_of old) (queued_in old) ticks → IsUnderway board dictionary measure (marks_of new) (queued_in new) ticks'
 
+    -- a step keeps the invariant
+    abbrev pub StaysReady : Net → Net → Type 0
+    StaysReady old new = (dictionary : Dictionary) → IsSetting board entries dictionary → IsReady board dictionary (marks_of old) → IsReady board dictionary (marks_of new)
+
     -- a step that removes words from a queued light keeps the invariant and the budget
     abbrev pub StrikesOn : ℕ → Net → ℕ → Net → ℕ → Type 0
     StrikesOn light old ticks new ticks' =
@@ -134,20 +145,6 @@ module _ (board : Board) where
         (dictionary : Dictionary) (measure : Measure) → IsSetting board entries dictionary → measure.member light ≡ true
         → IsUnderway board dictionary measure (marks_of old) (and_light (queued_in old) light) ticks → IsUnderway board dictionary measure (marks_of new) (and_light (queued_in new) light) ticks'
 
-    -- stripping leaves nothing pending
-    abbrev pub LeavesNonePending : Net → Net → Type 0
-    LeavesNonePending old new =
-        (dictionary : Dictionary) → IsSetting board entries dictionary → IsReady board dictionary (marks_of old) → ((slot letter : ℕ) → pending_in old slot letter ≡ true → IsSlot board slot)
-        → (slot letter : ℕ) → pending_in new slot letter ≡ false
-
-    -- stripping settles the marks
-    abbrev pub SettlesMarks : Net → Net → Type 0
-    SettlesMarks old new = (dictionary : Dictionary) → IsSetting board entries dictionary → IsReady board dictionary (marks_of old) → IsSettledNet board dictionary (marks_of new)
-
-    -- stripping leaves exactly the feasible words and letters
-    abbrev pub LeavesFeasible : Net → Net → Type 0
-    LeavesFeasible old new = (dictionary : Dictionary) → IsSetting board entries dictionary → IsReady board dictionary (marks_of old) → IsExact board dictionary (word_stands new) (letter_stands new)
-
     -- stripping prepares the net for the next edit
     abbrev pub FillsNet : Net → Net → Type 0
     FillsNet old new = (dictionary : Dictionary) → IsSetting board entries dictionary → IsUnstripped board dictionary old → IsFilled board dictionary new
@@ -155,11 +152,6 @@ module _ (board : Board) where
     -- a light is dead if all that was feasible was in the net: it has no feasible word
     abbrev pub Dies : Net → ℕ → Type 0
     Dies old light = (dictionary : Dictionary) → IsSetting board entries dictionary → IsReady board dictionary (marks_of old) → (word : List ℕ) → ¬ IsFeasibleWord board dictionary light word
-
-    -- only lights of the board have words
-    abbrev pub StandsOnBoard : Net → Net → Type 0
-    StandsOnBoard old new =
-        (dictionary : Dictionary) → IsSetting board entries dictionary → IsReady board dictionary (marks_of old) → (light choice : ℕ) → word_stands new light choice ≡ true → light < length board.lights
 
     -- stripping spends at most the cost of a set of lights that has the queued ones and is closed
     abbrev pub StripsWithin : Net → ℕ → ℕ → Type 0

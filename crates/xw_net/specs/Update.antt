@@ -15,7 +15,7 @@ use Rattle.xw_net.specs.Region.{IsRegion, cost}
 use Rattle.xw_net.specs.Cost.{revival_cost, stripping_cost}
 use Rattle.xw_net.specs.Nets.{IsShaped, IsChained, HasBits, IsQueue}
 use Rattle.xw_net.specs.Brought.{HasBase}
-use Rattle.xw_net.specs.Filled.{AreLong, HasRowRoom, IsUnstripped, IsFilled, IsStoppedAt}
+use Rattle.xw_net.specs.Filled.{AreLong, HasRowRoom, IsUnstripped, IsFilled}
 use Rattle.xw_net.specs.Change.{Fields, IsChange, AreReadsOf}
 use Rattle.xw_net.specs.Net.{IsSettledFor, IsRevivedFor}
 use Rattle.xw_net.specs.Steps.{PendLess}
@@ -74,11 +74,6 @@ module _ (grid : Grid) (entries : ℕ → List Entry) where
   StripsTo old new =
       (words : Dictionary) → AreReadsOf entries words → IsWellFormed (state_of grid words) → IsUnstripped (board_of grid) words old → IsSettledFor (state_of grid words) new
 
-  -- a net that was stripped as far as a dead light is stopped there
-  abbrev pub StripsUntil : Net → Net → ℕ → Type 0
-  StripsUntil old new light =
-      (words : Dictionary) → AreReadsOf entries words → IsWellFormed (state_of grid words) → IsUnstripped (board_of grid) words old → IsStoppedAt (board_of grid) words new light
-
   -- stripping spends at most its cost in the edit's region
   abbrev pub StripsInRegion : Net → ℕ → ℕ → Type 0
   StripsInRegion old ticks ticks' =
@@ -124,12 +119,6 @@ module _ (grid : Grid) (entries : ℕ → List Entry) where
     Settles old new =
         (before : State) (words : Dictionary) (action : Action) → AreReadsOf entries words → IsChange before (state_of grid words) action change
         → IsSettledFor before old → IsSettledFor (state_of grid words) new
-
-    -- or stopped at a light that is dead after it
-    abbrev pub SettlesUntil : Net → Net → ℕ → Type 0
-    SettlesUntil old new light =
-        (before : State) (words : Dictionary) (action : Action) → AreReadsOf entries words → IsChange before (state_of grid words) action change
-        → IsSettledFor before old → IsStoppedAt (board_of grid) words new light
 
     -- an update spends at most its cost in the edit's region
     abbrev pub SettlesInRegion : Net → ℕ → ℕ → Type 0

@@ -12,7 +12,7 @@ ghost use Rattle.xw_net.specs.Filled.{AreLong};
 ghost use Rattle.xw_net.specs.Worklist.{is_marked, HasLights};
 ghost use Rattle.xw_net.specs.Room.{KeepRoom};
 ghost use Rattle.xw_net.specs.Brought.{HasBase, AreRead, CostsAtMost};
-ghost use Rattle.xw_net.specs.Begin.{is_long as is_long_of, is_read as is_read_of};
+ghost use Rattle.xw_net.specs.Begin.{is_long as spec_is_long, is_read as spec_is_read};
 
 use crate::worklist::Worklist;
 use xw_bits::bit_row::BitRow;
@@ -201,7 +201,7 @@ fn keep_entry<R: Rows>(
 
 /// Updates the base row of a light after an empty cell got a letter: it keeps the words that have
 /// this letter there.
-fn read_filled<R: Rows>(
+pub(crate) fn read_filled<R: Rows>(
     rows: &mut R,
     board: &Board<'_>,
     cell: usize,
@@ -265,7 +265,7 @@ fn read_changed<R: Rows>(
 }
 
 /// Updates a base row. If the edit only filled an empty cell, it reads one column.
-fn read_row<R: Rows>(
+pub(crate) fn read_row<R: Rows>(
     rows: &mut R,
     board: &Board<'_>,
     word: Option<(usize, usize)>,
@@ -293,7 +293,7 @@ fn read_row<R: Rows>(
 /// length.
 fn is_long(board: &Board<'_>, word: Option<(usize, usize)>, light: usize) -> bool
     requires { light < length board.now.lights }
-    ensures { result ≡ is_long_of word (length (light_at board.now light)) }
+    ensures { result ≡ spec_is_long word (length (light_at board.now light)) }
 {
     match word {
         Some((long, _)) => long == board.light(light).len(),
@@ -305,7 +305,7 @@ fn is_long(board: &Board<'_>, word: Option<(usize, usize)>, light: usize) -> boo
 fn is_read(board: &Board<'_>, word: Option<(usize, usize)>, list: &Worklist, light: usize) -> bool
     requires light { light < length board.now.lights }
     requires list { light < length list.now.marks }
-    ensures { result ≡ is_read_of board.now word (is_marked list.now.marks) light }
+    ensures { result ≡ spec_is_read board.now word (is_marked list.now.marks) light }
 {
     list.contains(light) || is_long(board, word, light)
 }
@@ -325,10 +325,10 @@ pub fn read_marked<R: Rows>(
     ensures entries { R.entries rows.new ≡ R.entries rows.old }
     ensures risen { R.ticks rows.old ≤ R.ticks rows.new }
     ensures base { HasBase board.now (R.entries rows.old) base.new }
-    ensures on { AreRead board.now (R.entries rows.old) word filled (is_read_of board.now word (is_marked list.now.marks)) base.old base.new }
-    ensures off { (light : ℕ) → is_read_of board.now word (is_marked list.now.marks) light ≡ false → bits_in base.new light ≡ bits_in base.old light }
+    ensures on { AreRead board.now (R.entries rows.old) word filled (spec_is_read board.now word (is_marked list.now.marks)) base.old base.new }
+    ensures off { (light : ℕ) → spec_is_read board.now word (is_marked list.now.marks) light ≡ false → bits_in base.new light ≡ bits_in base.old light }
     ensures row_room { KeepRoom base.old base.new }
-    ensures cost { CostsAtMost board.now (R.entries rows.old) (is_read_of board.now word (is_marked list.now.marks)) (R.ticks rows.old) (R.ticks rows.new) }
+    ensures cost { CostsAtMost board.now (R.entries rows.old) (spec_is_read board.now word (is_marked list.now.marks)) (R.ticks rows.old) (R.ticks rows.new) }
 {
     for light in 0..board.light_count() {
         if !is_read(board, word, list, light) {

@@ -1,13 +1,13 @@
 //! The start of an update: finds the lights that an edit touches directly. It queues the lights
 //! that may lose words or letters, and marks as seeds the lights that may gain some.
 ghost use Rattle.std.specs.Prelude.{◌≡◌, ℕ, ◌+◌, ◌*◌, ◌^◌, ◌<◌, ◌≤◌, true, false, ◌&&◌, Contains, Option, length};
-ghost use Rattle.xw_grid.specs.declared.cell.Cell.{Cell as CellOfGrid};
+ghost use Rattle.xw_grid.specs.declared.cell.Cell.{Cell as SpecCell};
 ghost use Rattle.xw_grid.specs.Grid.{index_of, is_inside};
 ghost use Rattle.xw_feas.specs.Board.{light_at};
 ghost use Rattle.xw_feas.specs.Feasible.{may_stand};
 ghost use Rattle.xw_feas.specs.Flags.{set_has};
 ghost use Rattle.xw_net.specs.Spread.{AreAsLong, IsThrough, KeepsSpread, bits_in, OtherCellsStay};
-ghost use Rattle.xw_net.specs.Begin.{IsEdited, StaysEdited, EditsCells, HasLength, IsQueuedSeed, IsConcerned, may_have, is_seed as is_seed_of, has_changed, is_read, AreNarrowed, Prepares};
+ghost use Rattle.xw_net.specs.Begin.{IsEdited, StaysEdited, EditsCells, HasLength, IsQueuedSeed, IsConcerned, may_have, is_seed as spec_is_seed, has_changed, is_read, AreNarrowed, Prepares};
 ghost use Rattle.xw_net.specs.Brought.{HasBase, CostsAtMost};
 ghost use Rattle.xw_net.specs.Filled.{AreLong};
 ghost use Rattle.xw_net.specs.Room.{KeepRoom};
@@ -28,7 +28,7 @@ use xw_letters::letter_set::LetterSet;
 use xw_words::rows::Rows;
 
 /// Removes from a cell the letters that it no longer allows.
-fn narrow_cell(board: &Board<'_>, cell: usize, letters: &mut [LetterSet])
+pub(crate) fn narrow_cell(board: &Board<'_>, cell: usize, letters: &mut [LetterSet])
     requires cell { cell < length letters.old }
     ensures len { length letters.new ≡ length letters.old }
     ensures here { (letter : ℕ) → set_has letters.new cell letter ≡ (set_has letters.old cell letter && may_stand board.now cell letter) }
@@ -91,7 +91,7 @@ pub(crate) fn edit_cells(
     chain: &mut Worklist,
 )
     requires cells { length grid.now.squares ≡ length board.now.open_cells }
-    requires inside { (listed : CellOfGrid × Option ℕ) → Contains cells.now listed → is_inside grid.now listed.0 ≡ true }
+    requires inside { (listed : SpecCell × Option ℕ) → Contains cells.now listed → is_inside grid.now listed.0 ≡ true }
     requires letters { AreByCell board.now letters.old }
     requires queue { HasLights board.now queue.old }
     requires chain { HasLights board.now chain.old }
@@ -122,7 +122,7 @@ fn may_have_word(word: Option<(usize, usize)>, len: usize, row: &BitRow) -> bool
 fn is_seed(board: &Board<'_>, word: Option<(usize, usize)>, base: &[BitRow], light: usize) -> bool
     requires light { light < length board.now.lights }
     requires base { light < length base.now }
-    ensures { result ≡ is_seed_of board.now word (light_at board.now light) (bits_in base.now light) }
+    ensures { result ≡ spec_is_seed board.now word (light_at board.now light) (bits_in base.now light) }
 {
     let cells = board.light(light);
     has_all_entries(board, &cells) || may_have_word(word, cells.len(), &base[light])

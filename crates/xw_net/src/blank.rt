@@ -9,7 +9,7 @@ use xw_words::bank::Bank;
 
 impl Net {
     ghost use Rattle.std.specs.Prelude.{◌≡◌, length, IfOk};
-    ghost use Rattle.xw_words.specs.Dictionary.{row as words_of};
+    ghost use Rattle.xw_words.specs.Dictionary.{known_words};
     ghost use Rattle.xw_net.specs.Inner.Blank.{IsBlank};
     ghost use Rattle.xw_net.specs.Room.{counts_of, HasRoom};
 
@@ -20,8 +20,8 @@ impl Net {
         lights: &Lights,
         bank: &Bank,
     ) -> Result<Net, AllocError>
-        ensures blank { IfOk result (λ net. IsBlank lights.now (counts_of (words_of bank.now.words)) (length grid.now.squares) net) }
-        ensures room { IfOk result (λ net. HasRoom lights.now (counts_of (words_of bank.now.words)) net) }
+        ensures blank { IfOk result (λ net. IsBlank lights.now (counts_of (known_words bank.now.words)) (length grid.now.squares) net) }
+        ensures room { IfOk result (λ net. HasRoom lights.now (counts_of (known_words bank.now.words)) net) }
     {
         let (cells, count) = (grid.size(), lights.len());
         Ok(Net {

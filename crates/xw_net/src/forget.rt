@@ -1,12 +1,12 @@
 //! Forgets supports that an edit may have made invalid.
 ghost use Rattle.std.specs.Prelude.{◌≡◌, ◌⊎◌, ℕ, ◌+◌, ◌-◌, ◌*◌, ◌^◌, ◌<◌, ◌≤◌, false, true, nat_le, List, Option, is_some, length, slice_index};
 ghost use Rattle.xw_grid.specs.declared.lights.Light.{Light};
-ghost use Rattle.xw_feas.specs.Board.{Board as BoardOfGrid, light_at};
+ghost use Rattle.xw_feas.specs.Board.{Board as SpecBoard, light_at};
 ghost use Rattle.xw_feas.specs.Flags.{set_has};
 ghost use Rattle.xw_net.specs.Marks.{slot_at, AreSlotsApart, AreBySlot, AreHeld, HasFewCells};
 ghost use Rattle.xw_net.specs.Change.{before_of, fields_of};
 ghost use Rattle.xw_net.specs.Renumber.{same_before};
-ghost use Rattle.xw_net.specs.Inner.Forget.{cut, lose, lost_from as lost_from_of, lost_at, nowhere, ChangesHeld, KeepsHeld, KeepsFewer, ForgetNone, Forgets};
+ghost use Rattle.xw_net.specs.Inner.Forget.{cut, lose, lost_from as spec_lost_from, lost_at, nowhere, ChangesHeld, KeepsHeld, KeepsFewer, ForgetNone, Forgets};
 
 use crate::change::Change;
 use crate::position::position_of;
@@ -65,7 +65,7 @@ fn forget_light(
 /// The least index of a support that a light has to forget: 0 for a new light, the index of the
 /// changed word if that is the last known word of the light's length, and else `NO_WORD`.
 fn lost_from(word: Option<(usize, usize)>, has_stayed: bool, size: usize, known: usize) -> usize
-    ensures { (same : Option ℕ) → has_stayed ≡ is_some same → result ≡ lost_from_of word same size known }
+    ensures { (same : Option ℕ) → has_stayed ≡ is_some same → result ≡ spec_lost_from word same size known }
 {
     if !has_stayed {
         return 0;
@@ -87,7 +87,7 @@ fn is_last<R: Rows>(rows: &R, len: usize, index: usize) -> bool
 /// Whether no light has to forget a support: no light is new, and no index of a word may have got
 /// another meaning.
 fn forgets_none<R: Rows>(rows: &R, change: &Change<'_>) -> bool
-    ensures { (board : BoardOfGrid) (lights : List Light) → result ≡ true → ForgetNone (fields_of lights change.now) board lights (R.entries rows.now) }
+    ensures { (board : SpecBoard) (lights : List Light) → result ≡ true → ForgetNone (fields_of lights change.now) board lights (R.entries rows.now) }
 {
     match *change {
         Change::Letters(_) => true,

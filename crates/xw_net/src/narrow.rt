@@ -24,7 +24,7 @@ fn narrow_at(base: &BitRow, index: usize, row: &mut BitRow)
 
 /// Removes the words that are not base words, and counts those that are left. If the changed word has the light's length, it only
 /// processes that word's chunk.
-fn narrow(word: Option<(usize, usize)>, len: usize, base: &BitRow, row: &mut BitRow)
+pub(crate) fn narrow(word: Option<(usize, usize)>, len: usize, base: &BitRow, row: &mut BitRow)
     requires { length row.old.bits ≡ length base.now.bits }
     ensures room { row.new.room ≡ row.old.room }
     ensures narrowed { IsNarrowedRow word len row.old.bits base.now.bits row.new.bits }

@@ -2,7 +2,6 @@
 use crate::position::{Position, position_of, side};
 use crate::room::{NOWHERE, Spare};
 use crate::support::{find_support, next_lost, strike_row};
-use crate::trial::Trial;
 use crate::worklist::Worklist;
 use std::alloc::Global;
 use xw_bits::bit_row::BitRow;
@@ -52,15 +51,14 @@ pub struct Net {
 }
 
 impl Net {
-    ghost use Rattle.std.specs.Prelude.{◌≡◌, ℕ, ◌+◌, ◌-◌, ◌*◌, ◌<◌, ◌≤◌, true, false, not, ◌||◌, ◌&&◌, ◌==◌, length, slice_index, slice_index_or, IfSome, IfNone};
+    ghost use Rattle.std.specs.Prelude.{◌≡◌, ℕ, ◌+◌, ◌-◌, ◌*◌, ◌<◌, ◌≤◌, true, false, not, ◌||◌, ◌&&◌, ◌==◌, length, slice_index, slice_index_or};
     ghost use Rattle.xw_letters.specs.Letter.{IsLetter};
     ghost use Rattle.xw_letters.specs.LetterSet.{has};
-    ghost use Rattle.xw_words.specs.Dictionary.{row as words_of};
     ghost use Rattle.xw_feas.specs.Board.{light_at};
     ghost use Rattle.xw_net.specs.Marks.{side_of, IsPositionIn, Drops, LeavesPending, cell_at, slot_at};
     ghost use Rattle.xw_net.specs.Inner.Lost.{IsLost};
     ghost use Rattle.xw_net.specs.Nets.{bits_for, marks_of, letter_stands, pending_in, queued_in, IsShaped, IsLeft, IsThere, IsQueue, Waits, left_of};
-    ghost use Rattle.xw_net.specs.Steps.{IsQueuedToo, IsCheck, IsStruck, StandFewer, OthersStand, IsLetterHeld, IsStruckFrom, IsLeftPending, IsStrippable, IsStep, WaitMore, PendLess, IsCleared, PendAtSlots, ArePositionHeld, AreLightHeld, KeepSupports, KeepsHolding, StepsOn, StrikesOn, ChecksOn, FillsNet, StripsWithin, IsEmptied, Dies, StandsOnBoard};
+    ghost use Rattle.xw_net.specs.Steps.{IsQueuedToo, IsCheck, IsStruck, IsStruckAt, StandFewer, OthersStand, IsLetterHeld, IsStruckFrom, IsLeftPending, IsStrippable, IsStep, WaitMore, PendLess, IsCleared, PendAtSlots, ArePositionHeld, AreLightHeld, KeepSupports, KeepsHolding, StepsOn, StrikesOn, ChecksOn, FillsNet, StripsWithin};
     ghost use Rattle.xw_net.specs.Worklist.{is_waiting};
 
     /// Removes from a light the words with a pending letter at a position.
@@ -79,6 +77,7 @@ impl Net {
         ensures struck { IsStruck self.old self.new }
         ensures cleared { IsCleared board.now self.new light position }
         ensures less { PendLess self.old self.new }
+        ensures only { IsStruckAt light self.old self.new }
         ensures kept { StrikesOn board.now (R.entries rows.old) light self.old (R.ticks rows.old) self.new (R.ticks rows.new) }
     {
         let here = position_of(board, light, position);
@@ -107,7 +106,7 @@ impl Net {
     }
 
     /// Removes from a light the words with a pending letter at any position.
-    fn strike_light<R: Rows>(&mut self, rows: &mut R, board: &Board<'_>, light: usize)
+    pub(crate) fn strike_light<R: Rows>(&mut self, rows: &mut R, board: &Board<'_>, light: usize)
         requires net { IsStrippable board.now (R.entries rows.old) self.old }
         requires light { light < length board.now.lights }
         ensures entries { R.entries rows.new ≡ R.entries rows.old }
@@ -116,6 +115,7 @@ impl Net {
         ensures struck { IsStruck self.old self.new }
         ensures cleared { (position letter : ℕ) → IsPositionIn board.now light position → pending_in self.new (slot_at board.now light position) letter ≡ false }
         ensures less { PendLess self.old self.new }
+        ensures only { IsStruckAt light self.old self.new }
         ensures kept { StrikesOn board.now (R.entries rows.old) light self.old (R.ticks rows.old) self.new (R.ticks rows.new) }
     {
         for position in 0..board.light(light).len() {
@@ -291,56 +291,28 @@ impl Net {
         }
     }
 
-    /// Whether a light is watched and has no word left.
-    fn is_dead(&self, light: usize, watched: &[bool]) -> bool
-        requires rows { light < length self.now.rows.items }
-        requires entered { light < length self.now.entered.items }
-        ensures watched { result ≡ true → slice_index_or watched.now light false ≡ true }
-        ensures emptied { result ≡ true → IsEmptied self.now light }
-    {
-        if light >= watched.len() || !watched[light] || self.entered[light] {
-            return false;
-        }
-        let words = self.rows[light].count();
-        words == 0
-    }
-
-    /// Processes a light that was taken from the queue. Stops if the light is watched and has no word left, and returns
-    /// whether it did.
-    fn see_to<R: Rows>(
-        &mut self,
-        rows: &mut R,
-        board: &Board<'_>,
-        light: usize,
-        trial: Trial<'_>,
-    ) -> bool
+    /// Processes a light that was taken from the queue.
+    fn see_to<R: Rows>(&mut self, rows: &mut R, board: &Board<'_>, light: usize)
         requires net { IsStrippable board.now (R.entries rows.old) self.old }
         requires light { light < length board.now.lights }
-        requires words { IfSome trial.words (λ bank. R.entries rows.old ≡ words_of bank.now.words) }
         requires queued { queued_in self.old light ≡ true }
         requires taken { is_waiting self.old.queue.lights light ≡ false }
         ensures entries { R.entries rows.new ≡ R.entries rows.old }
         ensures risen { R.ticks rows.old ≤ R.ticks rows.new }
         ensures step { IsStep board.now (R.entries rows.old) self.old self.new }
-        ensures fewer { result ≡ false → left_of self.new ≤ left_of self.old }
-        ensures waits { result ≡ false → (other : ℕ) → ((other ≡ light → ⊥) → Waits self.old other) → Waits self.new other }
-        ensures holding { result ≡ false → KeepsHolding board.now (R.entries rows.old) self.old self.new }
-        ensures pending { result ≡ false → PendAtSlots board.now self.old self.new }
+        ensures fewer { left_of self.new ≤ left_of self.old }
+        ensures waits { (other : ℕ) → ((other ≡ light → ⊥) → Waits self.old other) → Waits self.new other }
+        ensures holding { KeepsHolding board.now (R.entries rows.old) self.old self.new }
+        ensures pending { PendAtSlots board.now self.old self.new }
         ensures kept { StepsOn board.now (R.entries rows.old) self.old (R.ticks rows.old) self.new (R.ticks rows.new) }
-        ensures watched { result ≡ true → slice_index_or trial.entry.watched.now light false ≡ true }
-        ensures emptied { result ≡ true → IsEmptied self.new light }
     {
         self.strike_light(rows, board, light);
-        if self.is_dead(light, trial.watched) {
-            return true;
-        }
         self.queue.release(light);
-        self.check_light(rows, board, light, trial.words);
-        false
+        self.keep_light(rows, board, light);
     }
 
     /// Notes a light that has no letter left at its first cell, unless one was noted before.
-    fn note_emptied(&mut self, board: &Board<'_>, light: usize)
+    pub(crate) fn note_emptied(&mut self, board: &Board<'_>, light: usize)
         requires shaped { IsShaped board.now self.old }
         requires light { light < length board.now.lights }
         ensures { self.new ≡ record self.old { emptied = self.new.emptied } }
@@ -350,15 +322,6 @@ impl Net {
             && cells.len() > 0
             && self.letters[cells.at(0)].is_same(LetterSet::new())
         {
-            self.emptied = light;
-        }
-    }
-
-    /// Notes a light that has no word left, unless another was noted before.
-    fn note_dead(&mut self, light: usize)
-        ensures { self.new ≡ record self.old { emptied = self.new.emptied } }
-    {
-        if self.emptied == NOWHERE {
             self.emptied = light;
         }
     }
@@ -384,55 +347,16 @@ impl Net {
     }
 
     /// Where in the queue the light to process next is; `last` is where the last one was. A light with few
-    /// words removes most letters, so it comes first, unless the lights are processed in turn. This decides
-    /// the order of stripping only, so the contract promises nothing.
-    fn index_of_next(&self, last: usize, in_turn: bool) -> usize {
+    /// words removes most letters, so it comes first. This decides the order of stripping only, so the
+    /// contract promises nothing.
+    pub(crate) fn index_of_next(&self, last: usize) -> usize {
         if self.queue.has_urgent() {
             return last;
         }
-        if in_turn {
-            let next = last.saturating_add(1);
-            if next < self.queue.len() { next } else { 0 }
-        } else {
-            self.index_of_fewest()
-        }
+        self.index_of_fewest()
     }
 
-    /// Strips the net: processes queued lights until the words and letters left support one
-    /// another. Stops at the first watched light without a word, and returns it.
-    pub(crate) fn strip_watching<R: Rows>(
-        &mut self,
-        rows: &mut R,
-        board: &Board<'_>,
-        trial: Trial<'_>,
-    ) -> Option<usize>
-        requires net { IsStrippable board.now (R.entries rows.old) self.old }
-        requires queue { IsQueue self.old }
-        requires words { IfSome trial.words (λ bank. R.entries rows.old ≡ words_of bank.now.words) }
-        ensures entries { R.entries rows.new ≡ R.entries rows.old }
-        ensures risen { R.ticks rows.old ≤ R.ticks rows.new }
-        ensures step { IsStep board.now (R.entries rows.old) self.old self.new }
-        ensures filled { IfNone result (FillsNet board.now (R.entries rows.old) self.old self.new) }
-        ensures cost { StripsWithin board.now (R.entries rows.old) self.old (R.ticks rows.old) (R.ticks rows.new) }
-        ensures watched { IfSome result (λ light. slice_index_or trial.entry.watched.now light false ≡ true) }
-        ensures within { IfSome result (λ light. light < length board.now.lights) }
-        ensures dies { IfSome result (Dies board.now (R.entries rows.old) self.old) }
-        ensures stands { IfSome result (λ light. StandsOnBoard board.now (R.entries rows.old) self.old self.new) }
-    {
-        self.emptied = NOWHERE;
-        let mut at = self.index_of_next(NOWHERE, trial.in_turn);
-        while let Some(light) = self.queue.take_at(at) {
-            if self.see_to(rows, board, light, trial) {
-                self.note_dead(light);
-                return Some(light);
-            }
-            self.note_emptied(board, light);
-            at = self.index_of_next(at, trial.in_turn);
-        }
-        None
-    }
-
-    /// Strips the net to the end.
+    /// Strips the net: processes queued lights until the words and letters left support one another.
     pub(crate) fn strip_queued<R: Rows>(&mut self, rows: &mut R, board: &Board<'_>)
         requires net { IsStrippable board.now (R.entries rows.old) self.old }
         requires queue { IsQueue self.old }
@@ -442,11 +366,12 @@ impl Net {
         ensures filled { FillsNet board.now (R.entries rows.old) self.old self.new }
         ensures cost { StripsWithin board.now (R.entries rows.old) self.old (R.ticks rows.old) (R.ticks rows.new) }
     {
-        let edit = Trial {
-            watched: &[],
-            in_turn: false,
-            words: None,
-        };
-        let _ = self.strip_watching(rows, board, edit);
+        self.emptied = NOWHERE;
+        let mut at = self.index_of_next(NOWHERE);
+        while let Some(light) = self.queue.take_at(at) {
+            self.see_to(rows, board, light);
+            self.note_emptied(board, light);
+            at = self.index_of_next(at);
+        }
     }
 }

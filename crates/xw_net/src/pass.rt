@@ -1,9 +1,9 @@
 //! The letters of the words of a row, read word by word. Where a row has few words, this takes less time than a search
-//! for a word with each letter. No tick counts these reads, so they are for trials only.
+//! for a word with each letter. No tick counts these reads, so they are for searches only.
 ghost use Rattle.std.specs.Prelude.{◌≡◌, ℕ, ◌+◌, ◌<◌, ◌≤◌, ◌||◌, true, false, length, slice_get, IfSome, IfNone};
 ghost use Rattle.xw_letters.specs.LetterSet.{has};
 ghost use Rattle.xw_words.specs.Columns.{letter_is};
-ghost use Rattle.xw_words.specs.Dictionary.{row as words_of};
+ghost use Rattle.xw_words.specs.Dictionary.{known_words};
 ghost use Rattle.xw_feas.specs.Flags.{set_has};
 ghost use Rattle.xw_net.specs.Inner.Passed.{AreLettersOf, AreListed};
 
@@ -14,7 +14,6 @@ use xw_feas::board::Board;
 use xw_letters::letter::Letter;
 use xw_letters::letter_set::LetterSet;
 use xw_words::bank::Bank;
-use xw_words::rows::Rows;
 
 /// The most words of a light that are read one by one.
 const FEW_WORDS: usize = 64;
@@ -35,10 +34,10 @@ fn add_letters(sets: &mut [LetterSet], word: &[Letter])
 
 /// The letters that the words of a row have at each position. `len` is the length of the words.
 fn letters_of(bank: &Bank, row: &BitRow, len: usize) -> [LetterSet; FEW_CELLS]
-    requires row { length row.now.bits ≡ length (words_of bank.now.words len) }
+    requires row { length row.now.bits ≡ length (known_words bank.now.words len) }
     requires len { len ≤ 32 }
     ensures long { length result ≡ 32 }
-    ensures letters { AreLettersOf row.now.bits (words_of bank.now.words len) result }
+    ensures letters { AreLettersOf row.now.bits (known_words bank.now.words len) result }
 {
     let mut sets = [LetterSet::new(); FEW_CELLS];
     let mut from = 0;
@@ -70,15 +69,21 @@ fn next_unlisted(letters: LetterSet, listed: LetterSet, from: u32) -> Option<u32
 }
 
 impl Net {
-    ghost use Rattle.std.specs.Prelude.{◌≡◌, ℕ, ◌<◌, ◌≤◌, true, false, length, slice_index_or, IfSome};
-    ghost use Rattle.xw_words.specs.Dictionary.{row as words_of};
+    ghost use Rattle.std.specs.Prelude.{◌≡◌, ℕ, ◌<◌, ◌≤◌, true, false, length, slice_index_or};
+    ghost use Rattle.xw_words.specs.Dictionary.{known_words};
     ghost use Rattle.xw_feas.specs.Board.{light_at};
     ghost use Rattle.xw_net.specs.Marks.{IsPositionIn, cell_at};
     ghost use Rattle.xw_net.specs.Nets.{IsShaped, IsLeft, left_of};
     ghost use Rattle.xw_net.specs.Steps.{IsStrippable, IsStep, IsCheck, IsStruckFrom, WaitMore, PendAtSlots, StandFewer, StandListed, ListsOn, AreLightHeld, ChecksOn};
 
     /// Removes from the cell at a position the letters that are not among `listed`.
-    fn keep_listed(&mut self, board: &Board<'_>, light: usize, position: usize, listed: LetterSet)
+    pub(crate) fn keep_listed(
+        &mut self,
+        board: &Board<'_>,
+        light: usize,
+        position: usize,
+        listed: LetterSet,
+    )
         requires shaped { IsShaped board.now self.old }
         requires position { IsPositionIn board.now light position }
         ensures shaped { IsShaped board.now self.new }
@@ -101,7 +106,7 @@ impl Net {
     }
 
     /// Whether a light has few words, none of them entered, and few cells.
-    fn is_narrow(&self, board: &Board<'_>, light: usize) -> bool
+    pub(crate) fn is_narrow(&self, board: &Board<'_>, light: usize) -> bool
         requires light { light < length board.now.lights }
         requires rows { light < length self.now.rows.items }
         requires entered { light < length self.now.entered.items }
@@ -119,47 +124,21 @@ impl Net {
 
     /// Checks each letter at each position of a light without an entered word: reads all words of the light, and removes
     /// the letters that none of them has. It costs no tick, whatever it reads.
-    fn pass_light(&mut self, bank: &Bank, board: &Board<'_>, light: usize)
-        requires net { IsStrippable board.now (words_of bank.now.words) self.old }
+    pub(crate) fn pass_light(&mut self, bank: &Bank, board: &Board<'_>, light: usize)
+        requires net { IsStrippable board.now (known_words bank.now.words) self.old }
         requires light { light < length board.now.lights }
         requires open { slice_index_or self.old.entered.items light false ≡ false }
         requires short { length (light_at board.now light) ≤ 32 }
-        ensures step { IsStep board.now (words_of bank.now.words) self.old self.new }
-        ensures check { IsCheck board.now (words_of bank.now.words) self.old self.new }
-        ensures held { AreLightHeld board.now (words_of bank.now.words) self.new light }
-        ensures kept { (ticks : ℕ) → ChecksOn board.now (words_of bank.now.words) light self.old ticks self.new ticks }
+        ensures step { IsStep board.now (known_words bank.now.words) self.old self.new }
+        ensures check { IsCheck board.now (known_words bank.now.words) self.old self.new }
+        ensures same { IsStruckFrom self.old self.new }
+        ensures held { AreLightHeld board.now (known_words bank.now.words) self.new light }
+        ensures kept { (ticks : ℕ) → ChecksOn board.now (known_words bank.now.words) light self.old ticks self.new ticks }
     {
         let len = board.light(light).len();
         let listed = letters_of(bank, &self.rows[light], len);
         for position in 0..len {
             self.keep_listed(board, light, position, listed[position]);
         }
-    }
-
-    /// Checks each letter at each position of a light. If it has few words, and they may be read, it reads them all.
-    pub(crate) fn check_light<R: Rows>(
-        &mut self,
-        rows: &mut R,
-        board: &Board<'_>,
-        light: usize,
-        words: Option<&Bank>,
-    )
-        requires net { IsStrippable board.now (R.entries rows.old) self.old }
-        requires light { light < length board.now.lights }
-        requires words { IfSome words (λ bank. R.entries rows.old ≡ words_of bank.now.words) }
-        ensures entries { R.entries rows.new ≡ R.entries rows.old }
-        ensures risen { R.ticks rows.old ≤ R.ticks rows.new }
-        ensures step { IsStep board.now (R.entries rows.old) self.old self.new }
-        ensures check { IsCheck board.now (R.entries rows.old) self.old self.new }
-        ensures held { AreLightHeld board.now (R.entries rows.old) self.new light }
-        ensures kept { ChecksOn board.now (R.entries rows.old) light self.old (R.ticks rows.old) self.new (R.ticks rows.new) }
-    {
-        if let Some(bank) = words {
-            if self.is_narrow(board, light) {
-                self.pass_light(bank, board, light);
-                return;
-            }
-        }
-        self.keep_light(rows, board, light);
     }
 }

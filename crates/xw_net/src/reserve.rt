@@ -10,7 +10,7 @@ use xw_words::bank::Bank;
 
 impl Net {
     ghost use Rattle.std.specs.Prelude.{◌≡◌, ◌+◌, ◌≤◌, ℕ, length, vec_len, true, false, None, Some, is_some, IfSome, IfOk, IfErr, OnOk, OnErr, if◌then◌else◌};
-    ghost use Rattle.xw_words.specs.Dictionary.{row as words_of};
+    ghost use Rattle.xw_words.specs.Dictionary.{known_words};
     ghost use Rattle.xw_feas.specs.Rows.{grows};
     ghost use Rattle.xw_net.specs.Net.{known_counts, HasRoomFor, StandsFor, IsAlike};
     ghost use Rattle.xw_net.specs.Room.{counts_of, with_word, IsRoomier, HasRoom, HasSpare};
@@ -23,7 +23,7 @@ impl Net {
         lights: &Lights,
         bank: &Bank,
     ) -> Result<Spare, AllocError>
-        ensures spare { IfOk result (λ spare. HasSpare lights.now (counts_of (words_of bank.now.words)) self.new spare) }
+        ensures spare { IfOk result (λ spare. HasSpare lights.now (counts_of (known_words bank.now.words)) self.new spare) }
         ensures same { IsRoomier self.old self.new }
     {
         self.queue.reserve(lights.len())?;
@@ -40,7 +40,7 @@ impl Net {
     ) -> Result<(), AllocError>
         requires rows { length lights.now ≤ vec_len self.old.rows }
         requires base { length lights.now ≤ vec_len self.old.base }
-        ensures room { OnOk result (HasRoom lights.now (with_word len (counts_of (words_of bank.now.words))) self.new) }
+        ensures room { OnOk result (HasRoom lights.now (with_word len (counts_of (known_words bank.now.words))) self.new) }
         ensures same { IsRoomier self.old self.new }
     {
         reserve_rows(&mut self.rows, lights, bank, len)?;

@@ -1,7 +1,7 @@
 //! Allocates the arrays of a net.
 ghost use Rattle.std.specs.Prelude.{◌≡◌, ◌+◌, ◌-◌, ◌*◌, ◌^◌, ◌<◌, ◌≤◌, false, [], length, replicate, IfOk, OnOk};
-ghost use Rattle.xw_words.specs.Dictionary.{row as words_of};
-ghost use Rattle.xw_net.specs.Room.{counts_of, with_word, size_at as size_of_light, AreFalse, AreEmpty, AreRoomier, HaveRoom};
+ghost use Rattle.xw_words.specs.Dictionary.{known_words};
+ghost use Rattle.xw_net.specs.Room.{counts_of, with_word, size_at as spec_size_at, AreFalse, AreEmpty, AreRoomier, HaveRoom};
 
 use std::alloc::{AllocError, Global};
 use xw_bits::bit_row::BitRow;
@@ -22,7 +22,7 @@ const MOST_CHUNKS: usize = 1 << 40;
 /// The number of cells of a light.
 #[tactic(auto, using(crate::proofs::Nets::RowRoom::size_nowhere))]
 pub(crate) fn size_at(lights: &Lights, light: usize) -> usize
-    ensures { result ≡ size_of_light lights.now light }
+    ensures { result ≡ spec_size_at lights.now light }
 {
     match lights.get(light) {
         Some(light) => light.size as usize,
@@ -33,7 +33,7 @@ pub(crate) fn size_at(lights: &Lights, light: usize) -> usize
 /// The number of known words of a length.
 #[tactic(auto, using(crate::proofs::Nets::RowRoom::known_few))]
 fn known(bank: &Bank, len: usize) -> usize
-    ensures words { result ≡ counts_of (words_of bank.now.words) len }
+    ensures words { result ≡ counts_of (known_words bank.now.words) len }
     ensures few { result ≤ 1048576 }
 {
     bank.well_formed();
@@ -42,7 +42,7 @@ fn known(bank: &Bank, len: usize) -> usize
 
 /// The number of known words of a length, after one more word of length `grown`.
 fn known_with(bank: &Bank, grown: usize, len: usize) -> usize
-    ensures words { result ≡ with_word grown (counts_of (words_of bank.now.words)) len }
+    ensures words { result ≡ with_word grown (counts_of (known_words bank.now.words)) len }
     ensures few { result ≤ 1048577 }
 {
     let known = known(bank, len);
@@ -103,7 +103,7 @@ pub(crate) fn make_rows(
     lights: &Lights,
     bank: &Bank,
 ) -> Result<Vec<BitRow>, AllocError>
-    ensures { IfOk result (λ rows. AreFalse lights.now (counts_of (words_of bank.now.words)) rows.items) }
+    ensures { IfOk result (λ rows. AreFalse lights.now (counts_of (known_words bank.now.words)) rows.items) }
 {
     let mut rows = Vec::new(alloc);
     for light in 0..lights.len() {
@@ -115,7 +115,7 @@ pub(crate) fn make_rows(
 
 /// For each light an empty row, with room for a bit for each known word of its length.
 fn make_empty_rows(alloc: Global, lights: &Lights, bank: &Bank) -> Result<Vec<BitRow>, AllocError>
-    ensures { IfOk result (λ rows. AreEmpty lights.now (counts_of (words_of bank.now.words)) rows.items) }
+    ensures { IfOk result (λ rows. AreEmpty lights.now (counts_of (known_words bank.now.words)) rows.items) }
 {
     let mut rows = Vec::new(alloc);
     for light in 0..lights.len() {
@@ -155,7 +155,7 @@ pub(crate) fn reserve_rows(
 ) -> Result<(), AllocError>
     requires { length lights.now ≤ length rows.old }
     ensures roomier { AreRoomier rows.old rows.new }
-    ensures room { OnOk result (HaveRoom lights.now (with_word grown (counts_of (words_of bank.now.words))) rows.new) }
+    ensures room { OnOk result (HaveRoom lights.now (with_word grown (counts_of (known_words bank.now.words))) rows.new) }
 {
     for light in 0..lights.len() {
         let room = known_with(bank, grown, size_at(lights, light));
@@ -177,12 +177,12 @@ pub(crate) struct Spare {
 
 impl Spare {
     ghost use Rattle.std.specs.Prelude.{IfOk};
-    ghost use Rattle.xw_words.specs.Dictionary.{row as words_of};
+    ghost use Rattle.xw_words.specs.Dictionary.{known_words};
     ghost use Rattle.xw_net.specs.Room.{counts_of, IsSpare};
 
     /// Creates arrays for these lights.
     pub(crate) fn of(alloc: Global, lights: &Lights, bank: &Bank) -> Result<Spare, AllocError>
-        ensures { IfOk result (λ spare. IsSpare lights.now (counts_of (words_of bank.now.words)) spare) }
+        ensures { IfOk result (λ spare. IsSpare lights.now (counts_of (known_words bank.now.words)) spare) }
     {
         let count = lights.len();
         Ok(Spare {

@@ -4,16 +4,13 @@ use crate::change::Change;
 use crate::forget::forget_lights;
 use crate::net::Net;
 use crate::touch::{filled_in, touch};
-use crate::trial::Trial;
 use xw_feas::board::Board;
 use xw_grid::grid::Grid;
 use xw_grid::lights::Lights;
-use xw_letters::letter_set::LetterSet;
 use xw_words::rows::Rows;
 
 impl Net {
-    ghost use Rattle.std.specs.Prelude.{◌≡◌, ℕ, ◌<◌, ◌≤◌, true, false, None, IfSome, IfNone, [], length, replicate, slice_index_or, vec_len};
-    ghost use Rattle.xw_words.specs.Dictionary.{row as words_of};
+    ghost use Rattle.std.specs.Prelude.{◌≡◌, ◌≤◌, None, length, vec_len};
     ghost use Rattle.xw_grid.specs.Light.{lights_of};
     ghost use Rattle.xw_feas.specs.Board.{board_of};
     ghost use Rattle.xw_net.specs.Brought.{CostsAtMost};
@@ -22,10 +19,10 @@ impl Net {
     ghost use Rattle.xw_net.specs.Filled.{AreLong};
     ghost use Rattle.xw_net.specs.Fit.{HasRoomBetween};
     ghost use Rattle.xw_net.specs.Net.{StoodFor};
-    ghost use Rattle.xw_net.specs.Nets.{IsShaped, HasBits, IsQueue, IsLeft, pending_in};
+    ghost use Rattle.xw_net.specs.Nets.{IsShaped, HasBits, IsQueue, IsLeft};
     ghost use Rattle.xw_net.specs.Opened.{arrays_of, IsOpening};
     ghost use Rattle.xw_net.specs.Room.{counts_of, HasRoom};
-    ghost use Rattle.xw_net.specs.Update.{AreInside, CanBegin, IsBegun, IsSized, KeepsRoom, Opens, RevivesMoved, RevivesMovedInRegion, Revives, RevivesInRegion, StripsTo, StripsUntil, StripsInRegion, Settles, SettlesUntil, SettlesInRegion};
+    ghost use Rattle.xw_net.specs.Update.{AreInside, CanBegin, IsBegun, IsSized, KeepsRoom, Opens, RevivesMoved, RevivesMovedInRegion, Revives, RevivesInRegion, StripsTo, StripsInRegion, Settles, SettlesInRegion};
     ghost use Rattle.xw_net.specs.Worklist.{is_marked, HasSeeds};
 
     /// Queues the lights that the edit touches. Marks as seeds the lights that may get words back,
@@ -200,78 +197,5 @@ impl Net {
         self.revive(rows, change, grid, lights);
         self.strip(rows, change, grid, lights);
         self.keep_counts();
-    }
-
-    /// Discards the work that a stripping left when it stopped.
-    fn halt(&mut self)
-        ensures rest { self.new ≡ record self.old { queue = self.new.queue; pending = self.new.pending } }
-        ensures long { vec_len self.new.pending ≡ vec_len self.old.pending }
-        ensures pending { (slot letter : ℕ) → pending_in self.new slot letter ≡ false }
-        ensures lights { self.new.queue.lights ≡ [] }
-        ensures marks { self.new.queue.marks ≡ replicate (length self.old.queue.marks) false }
-    {
-        self.queue.clear();
-        self.pending.as_mut_slice().fill(LetterSet::new());
-    }
-    /// Strips a revived net as `strip` does, but stops at the first watched light without a word, and returns it. The net
-    /// is not settled then.
-    fn try_strip<R: Rows>(
-        &mut self,
-        rows: &mut R,
-        grid: &Grid,
-        lights: &Lights,
-        trial: Trial<'_>,
-    ) -> Option<usize>
-        requires lights { lights.now ≡ lights_of grid.now }
-        requires shaped { IsShaped (board_of grid.now) self.old }
-        requires bits { HasBits (board_of grid.now) (R.entries rows.old) self.old }
-        requires queue { IsQueue self.old }
-        requires words { IfSome trial.words (λ bank. R.entries rows.old ≡ words_of bank.now.words) }
-        ensures entries { R.entries rows.new ≡ R.entries rows.old }
-        ensures risen { R.ticks rows.old ≤ R.ticks rows.new }
-        ensures rest { IsLeft self.old self.new }
-        ensures settled { IfNone result (StripsTo grid.now (R.entries rows.old) self.old self.new) }
-        ensures stopped { IfSome result (StripsUntil grid.now (R.entries rows.old) self.old self.new) }
-        ensures within { IfSome result (λ light. light < length lights.now) }
-        ensures watched { IfSome result (λ light. slice_index_or trial.entry.watched.now light false ≡ true) }
-    {
-        let board = Board::new(grid, lights);
-        let Some(dead) = self.strip_watching(rows, &board, trial) else {
-            return None;
-        };
-        self.halt();
-        Some(dead)
-    }
-    /// Updates the net as `settle` does, but stops at the first watched light that has no feasible word after the edit, and
-    /// returns it. The net is not settled then: copy another net over it. Words of `trial.words` are read without a tick.
-    pub fn try_settle<R: Rows>(
-        &mut self,
-        rows: &mut R,
-        change: &Change<'_>,
-        grid: &Grid,
-        lights: &Lights,
-        trial: Trial<'_>,
-    ) -> Option<usize>
-        requires lights { lights.now ≡ lights_of grid.now }
-        requires words { IfSome trial.words (λ bank. R.entries rows.old ≡ words_of bank.now.words) }
-        requires inside { AreInside grid.now (cells_of change.now) }
-        requires long { AreLong (board_of grid.now) (R.entries rows.old) }
-        requires cells { vec_len self.old.letters ≡ length grid.now.squares }
-        requires stood { StoodFor (before_of lights.now change.now) (word_of change.now) (counts_of (R.entries rows.old)) self.old }
-        requires room { HasRoomBetween (before_of lights.now change.now) lights.now (counts_of (R.entries rows.old)) self.old self.old.spare }
-        ensures entries { R.entries rows.new ≡ R.entries rows.old }
-        ensures risen { R.ticks rows.old ≤ R.ticks rows.new }
-        ensures spare { self.new.spare ≡ None }
-        ensures settled { IfNone result (Settles grid.now (R.entries rows.old) (fields_of lights.now change.now) self.old self.new) }
-        ensures stopped { IfSome result (SettlesUntil grid.now (R.entries rows.old) (fields_of lights.now change.now) self.old self.new) }
-        ensures within { IfSome result (λ light. light < length lights.now) }
-        ensures watched { IfSome result (λ light. slice_index_or trial.entry.watched.now light false ≡ true) }
-    {
-        self.revive(rows, change, grid, lights);
-        let stop = self.try_strip(rows, grid, lights, trial);
-        if stop.is_none() {
-            self.keep_counts();
-        }
-        stop
     }
 }

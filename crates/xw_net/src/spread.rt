@@ -6,7 +6,7 @@ ghost use Rattle.xw_feas.specs.Feasible.{may_stand};
 ghost use Rattle.xw_feas.specs.Flags.{set_has};
 ghost use Rattle.xw_net.specs.Marks.{IsPositionIn, cell_at, AreByCell, AreBySlot, HasFewCells};
 ghost use Rattle.xw_net.specs.Room.{KeepRoom};
-ghost use Rattle.xw_net.specs.Spread.{RestartsLight, OtherSlotsStay, positions_from, either_position, is_barren as is_barren_of, barren_positions, bits_in, AreAsLong, HasAll, IsThrough, IsSpread, SpreadsOn, ReachesFrom, Reaches, Brings, lit, IsLit, IsListed, none_waits, OtherRowsStay, IsAsLong};
+ghost use Rattle.xw_net.specs.Spread.{RestartsLight, OtherSlotsStay, positions_from, either_position, is_barren as spec_is_barren, barren_positions, bits_in, AreAsLong, HasAll, IsThrough, IsSpread, SpreadsOn, ReachesFrom, Reaches, Brings, lit, IsLit, IsListed, none_waits, OtherRowsStay, IsAsLong};
 ghost use Rattle.xw_net.specs.Worklist.{is_marked, HasSeeds, Grows, MarksAll, MarksOnly, HasLights};
 
 use crate::net::Net;
@@ -100,7 +100,7 @@ fn raise_light(board: &Board<'_>, light: usize, letters: &mut [LetterSet], chain
 fn is_barren(board: &Board<'_>, base: &[BitRow], light: usize) -> bool
     requires light { light < length board.now.lights }
     requires base { light < length base.now }
-    ensures { result ≡ is_barren_of board.now base.now light }
+    ensures { result ≡ spec_is_barren board.now base.now light }
 {
     base[light].count() == 0 && !has_all_entries(board, &board.light(light))
 }
@@ -230,7 +230,7 @@ pub(crate) fn spread(
 impl Net {
     ghost use Rattle.std.specs.Prelude.{◌≡◌, ℕ, true, false, [], List};
     ghost use Rattle.xw_words.specs.Dictionary.{Entry};
-    ghost use Rattle.xw_feas.specs.Board.{Board as BoardOfIndices};
+    ghost use Rattle.xw_feas.specs.Board.{Board as SpecBoard};
     ghost use Rattle.xw_net.specs.Brought.{HasBase};
     ghost use Rattle.xw_net.specs.Inner.Chain.{BringsBack, RevivesChain, CoversFeasible, ReadiesChain, StaysInRegion};
     ghost use Rattle.xw_net.specs.Nets.{letter_stands, IsShaped, IsChained, HasBits, IsQueue};
@@ -276,8 +276,8 @@ impl Net {
         ensures empty { self.new.chain.lights ≡ [] }
         ensures marked { (light : ℕ) → is_marked self.new.chain.marks light ≡ false }
         ensures rest { self.new ≡ record self.old { chain = self.new.chain } }
-        ensures shaped { (board : BoardOfIndices) → IsShaped board self.old → IsShaped board self.new }
-        ensures chained { (board : BoardOfIndices) → IsChained board self.old → IsChained board self.new }
+        ensures shaped { (board : SpecBoard) → IsShaped board self.old → IsShaped board self.new }
+        ensures chained { (board : SpecBoard) → IsChained board self.old → IsChained board self.new }
     {
         self.chain.clear();
     }

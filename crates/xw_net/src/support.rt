@@ -15,7 +15,7 @@ use xw_words::rows::Rows;
 
 /// The first word of the row, from a chunk on, that has the letter at the position. An empty row is not searched: when a
 /// light dies, each letter of its cells comes here.
-fn first_support<R: Rows>(
+pub(crate) fn first_support<R: Rows>(
     rows: &mut R,
     row: &BitRow,
     len: usize,

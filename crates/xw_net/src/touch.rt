@@ -1,6 +1,6 @@
 //! The first step of an update, by the kind of the change: letters, the queue and the chain.
 ghost use Rattle.std.specs.Prelude.{◌≡◌, ℕ, ◌<◌, ◌≤◌, true, false, length, slice_index_or};
-ghost use Rattle.xw_net.specs.Begin.{only_filled as only_filled_of, filled_of};
+ghost use Rattle.xw_net.specs.Begin.{only_filled as spec_only_filled, filled_of};
 ghost use Rattle.xw_net.specs.Change.{cells_of, fields_of};
 ghost use Rattle.xw_net.specs.Marks.{AreByCell};
 ghost use Rattle.xw_net.specs.Opened.{HasTurnedWords, Touches};
@@ -63,9 +63,13 @@ fn touch_turned(
 }
 
 /// The index of the cell that an edit filled, if it wrote no other cell.
-fn only_filled(grid: &Grid, board: &Board<'_>, cells: &[(Cell, Option<Letter>)]) -> Option<usize>
+pub(crate) fn only_filled(
+    grid: &Grid,
+    board: &Board<'_>,
+    cells: &[(Cell, Option<Letter>)],
+) -> Option<usize>
     requires { AreInside grid.now cells.now }
-    ensures { result ≡ only_filled_of grid.now board.now cells.now }
+    ensures { result ≡ spec_only_filled grid.now board.now cells.now }
 {
     if cells.len() != 1 {
         return None;

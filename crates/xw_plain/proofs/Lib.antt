@@ -1,3 +1,4 @@
 pub mod FlagsLemmas
 pub mod Strip
 mod Tallies
+pub mod Levels

@@ -1,5 +1,5 @@
 -- What an edit does to the engine.
-use Rattle.std.specs.Prelude.{◌≡◌, ◌+◌, Result, Ok, Err}
+use Rattle.std.specs.Prelude.{◌≡◌, ◌+◌, List, map, Result, Ok, Err}
 use Rattle.xw_feas.specs.Count.{number}
 use Rattle.xw_feas.specs.Placings.{placings}
 use Rattle.xw_feas.specs.State.{State, Action, after, IsRefused}
@@ -9,6 +9,10 @@ use Rattle.xw_plain.specs.declared.plain.Plain.{Plain}
 -- the grid and the dictionary of an engine
 abbrev pub state_of : Plain → State
 state_of plain = record { grid = plain.position.grid; words = plain.position.bank.words }
+
+-- the states before the placements of a search, the last one last
+abbrev pub levels_of : Plain → List State
+levels_of plain = map (λ grid. record { grid = grid; words = plain.position.bank.words }) plain.levels.items
 
 -- the edit was applied and its placements counted, and `before` has the letters from before it
 pub record IsDone (before now : Plain) (action : Action) : Type 0 where

@@ -1,5 +1,5 @@
 //! An engine that computes all answers from scratch after each edit.
-ghost use Rattle.std.specs.Prelude.{◌≡◌, length, IfOk, IfErr, OnErr, IsOkUnless, OnOk, Ok, Err};
+ghost use Rattle.std.specs.Prelude.{◌≡◌, length, All, IfOk, IfErr, OnErr, IsOkUnless, OnOk, Ok, Err};
 ghost use Rattle.xw_grid.specs.EditLaws.{SameShape};
 ghost use Rattle.xw_feas.specs.AnswersOf.{answers_of};
 ghost use Rattle.xw_feas.specs.Board.{board_of};
@@ -9,7 +9,7 @@ ghost use Rattle.xw_feas.specs.Choices.{IsExact};
 ghost use Rattle.xw_feas.specs.Feasible.{AreAnswers};
 ghost use Rattle.xw_feas.specs.Flags.{flag_at, set_has};
 ghost use Rattle.xw_feas.specs.Pending.{pending_action, IsPending};
-ghost use Rattle.xw_feas.specs.Position.{state_of as position_state};
+ghost use Rattle.xw_feas.specs.Position.{state_of as position_state_of};
 ghost use Rattle.xw_feas.specs.Single.{IsExact-prop};
 ghost use Rattle.xw_feas.specs.Standing.{HasRows};
 ghost use Rattle.xw_feas.specs.State.{action_of, after, IsRefused};
@@ -34,7 +34,11 @@ use xw_letters::letter_set::LetterSet;
 use xw_words::bank::Bank;
 
 /// Computes the feasible words and letters of a position, whatever the arrays held before.
-fn settle_position(position: &Position, words: &mut Vec<Flags>, letters: &mut Vec<LetterSet>)
+pub(crate) fn settle_position(
+    position: &Position,
+    words: &mut Vec<Flags>,
+    letters: &mut Vec<LetterSet>,
+)
     requires rows { HasRows (board_of position.now.grid) position.now.bank.words words.old.items letters.old.items }
     ensures rows { HasRows (board_of position.now.grid) position.now.bank.words words.new.items letters.new.items }
     ensures exact { IsExact (board_of position.now.grid) position.now.bank.words (flag_at words.new.items) (set_has letters.new.items) }
@@ -77,11 +81,11 @@ fn make(
     edit: &Pending<'_>,
 ) -> Result<(), Refusal>
     requires rows { HasRows (board_of position.old.grid) position.old.bank.words words.old.items letters.now.items }
-    requires pending { IsPending (position_state position.old) edit.now }
-    ensures made { OnOk result (after (position_state position.old) (pending_action edit.now) ≡ Ok (position_state position.new)) }
+    requires pending { IsPending (position_state_of position.old) edit.now }
+    ensures made { OnOk result (after (position_state_of position.old) (pending_action edit.now) ≡ Ok (position_state_of position.new)) }
     ensures rows { OnOk result (HasRows (board_of position.new.grid) position.new.bank.words words.new.items letters.now.items) }
-    ensures refused { IfErr result (λ refusal. IsRefused (position_state position.old) (pending_action edit.now) refusal) }
-    ensures same { OnErr result (position_state position.new ≡ position_state position.old) }
+    ensures refused { IfErr result (λ refusal. IsRefused (position_state_of position.old) (pending_action edit.now) refusal) }
+    ensures same { OnErr result (position_state_of position.new ≡ position_state_of position.old) }
     ensures kept { OnErr result (words.new ≡ words.old) }
 {
     let _ = letters;
@@ -106,20 +110,23 @@ fn make(
 
 /// An engine that computes all answers from scratch after each edit.
 ///
-/// It keeps a flag for each word of each light, a set of letters for each cell, and the sets from
-/// before the last edit. `placed` takes no memory: it tells the prover how many words and letters were placed.
+/// It keeps a flag for each word of each light, a set of letters for each cell, the sets from before the last edit, and the
+/// grids before the placements of a search. `placed` takes no memory: it tells the prover how many words and letters were
+/// placed.
 #[derive(Drop)]
 pub struct Plain {
     pub(crate) alloc: Global,
     pub(crate) position: Position,
     pub(crate) words: Vec<Flags>,
-    letters: Vec<LetterSet>,
+    pub(crate) letters: Vec<LetterSet>,
     before: Vec<LetterSet>,
-    placed: Count,
+    pub(crate) levels: Vec<Grid>,
+    pub(crate) placed: Count,
     ghost rows: { HasRows (board_of position.grid) position.bank.words words.items letters.items },
     ghost exact: { IsExact (board_of position.grid) position.bank.words (flag_at words.items) (set_has letters.items) } by { IsExact-prop (board_of position.grid) position.bank.words (flag_at words.items) (set_has letters.items) },
     ghost answered: { AreAnswered (board_of position.grid) position.bank.words words.items letters.items } by { AreAnswered-prop (board_of position.grid) position.bank.words words.items letters.items },
     ghost same_cells: { length before.items ≡ length letters.items },
+    ghost alike: { All (λ level. SameShape level position.grid) levels.items },
 }
 
 impl Plain {
@@ -157,14 +164,16 @@ impl Plain {
             words,
             letters,
             before,
+            levels: Vec::new(alloc),
             placed: Count::new(),
         }
     }
 
-    /// Applies an edit, and computes the answers.
+    /// Applies an edit, computes the answers, and forgets the levels.
     fn apply(&mut self, edit: &Edit<'_>) -> Result<(), Refusal>
         ensures { IsApplied self.old self.new (action_of edit.now) result }
     {
+        self.levels.clear();
         let pending = match self.position.judge(edit) {
             Ok(pending) => pending,
             Err(refusal) => return Err(refusal),
@@ -209,23 +218,13 @@ impl Plain {
         let words = make_grid_rows(self.alloc, &grid, &lights, &self.position.bank)?;
         let letters = make_grid_sets(self.alloc, &grid)?;
         let before = make_grid_sets(self.alloc, &grid)?;
+        self.levels.clear();
         self.position.replace(grid, lights, noted);
         self.words = words;
         self.letters = letters;
         self.before = before;
         settle_position(&self.position, &mut self.words, &mut self.letters);
         Ok(())
-    }
-
-    /// Exchanges the grid for one of the same shape, and computes the answers.
-    pub(crate) fn swap_grid(&mut self, grid: &mut Grid)
-        requires { SameShape (state_of self.old).grid grid.old }
-        ensures now { state_of self.new ≡ record { grid = grid.old; words = (state_of self.old).words } }
-        ensures before { grid.new ≡ (state_of self.old).grid }
-        ensures placed { self.new.placed ≡ self.old.placed }
-    {
-        self.position.exchange(grid);
-        settle_position(&self.position, &mut self.words, &mut self.letters);
     }
 }
 

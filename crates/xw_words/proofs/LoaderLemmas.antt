@@ -8,7 +8,7 @@ use Rattle.xw_letters.specs.Letter.{IsLetter}
 use Rattle.xw_words.specs.declared.fault.WordFault.{WordFault}
 use Rattle.xw_words.specs.declared.fault.WordFault.TheVariants.{Length, Memory}
 use Rattle.xw_words.specs.declared.bank.Added.{Added}
-use Rattle.xw_words.specs.Dictionary.{Entry, Dictionary, AreWords, AreLeft, IsDictionary, no_words, row, add_to, answer_on, with_added, after_add}
+use Rattle.xw_words.specs.Dictionary.{Entry, Dictionary, AreWords, AreLeft, IsDictionary, no_words, known_words, add_to, answer_on, with_added, after_add}
 use Rattle.xw_words.specs.Word.{judged, is_word_length}
 use Rattle.std.proofs.lemmas.Bool.{le-leb}
 use Rattle.xw_words.specs.Row.{Row}
@@ -91,7 +91,7 @@ module _ (tables : List Table) (len : ℕ) (old new : Table) (was : old ≡ get_
   pub answer_in : (word : List ℕ) (answer : Result Added WordFault) → AreKept tables → 2 ≤ len → len ≤ 255 → length word ≡ len → (answer ≢ Err Memory → answer ≡ add_to old.entries word) → answer ≢ Err Memory → answer ≡ answer_on add_to (words_in tables) (judged None (length word) word)
   answer_in word answer kept low high long says other =
       let at = row_kept rows 0 len (row_with old) kept high was_row in
-      let there : row (words_in tables) (length word) ≡ old.entries = ap (row (words_in tables)) long ∙ row-words_of rows 0 len (row_with old) at.within was_row in
+      let there : known_words (words_in tables) (length word) ≡ old.entries = ap (known_words (words_in tables)) long ∙ row-words_of rows 0 len (row_with old) at.within was_row in
       let fits : is_word_length (length word) ≡ true = ap (λ b. b && leb (length word) 255) (le-leb 2 (length word) (omega (arith, long, low))) ∙ le-leb (length word) 255 (omega (arith, long, high)) in
       let good : judged None (length word) word ≡ Ok word = ap (λ b. cond b (Ok word) (Err Length)) fits in
       says other ∙ ap (λ es. add_to es word) (sym there) ∙ ap (answer_on add_to (words_in tables)) (sym good)

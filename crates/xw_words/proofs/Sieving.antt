@@ -1,14 +1,11 @@
 -- Words that have one of several letters at a position.
-use Rattle.std.proofs.Common.{◌≡◌, ℕ, ◌+◌, ◌-◌, ◌*◌, ◌<◌, ◌≤◌, Bool, true, false, ◌&&◌, ◌||◌, eqb, ltb, max, refl, sym, ap, ◌∙◌, subst, inl, inr, arith, zero, suc, bit_or, ◌/◌, ◌%◌}
+use Rattle.std.proofs.Common.{◌≡◌, ℕ, ◌+◌, ◌-◌, ◌*◌, ◌<◌, ◌≤◌, Bool, true, false, ◌&&◌, ◌||◌, ltb, List, length, length-set, take, get_or, set, refl, sym, ap, ◌∙◌, subst, inl, inr, arith, ◌/◌, ◌%◌}
 use Rattle.std.specs.Prelude.{Option, Some, None}
-use Rattle.std.specs.Int.{bit_at}
-use Rattle.std.proofs.lemmas.Nat.Bits.{bit_at_or, bit_at-lt}
-use Rattle.std.proofs.lemmas.Bool.{cases_lt, cases_eq, cases_Bool, and_parts, and_right, eq-eqb, ne_eqb, lt-ltb, le-ltb}
-use Rattle.xw_bits.specs.Bits.{has_bit}
-use Rattle.xw_letters.specs.Letter.{is_capital}
+use Rattle.std.proofs.lemmas.Bool.{cases_lt, cases_eq, eq-eqb, ne_eqb, lt-ltb, le-ltb}
+use Rattle.std.proofs.lemmas.List.{get_or-set_same, take-set}
+use Rattle.std.proofs.lemmas.List.Folds.{list_any_more}
 use Rattle.xw_letters.specs.LetterSet.{has}
-use Rattle.xw_words.specs.Columns.{is_among, letter_is}
-use Rattle.xw_letters.proofs.LetterSetLemmas.{capital_is_letter}
+use Rattle.xw_words.specs.Columns.{is_among, is_listed, letter_is}
 
 -- whether there is a letter among the first ones of the alphabet, and the set has it
 abbrev pub is_among_first : ℕ → ℕ → Option ℕ → Bool
@@ -26,15 +23,6 @@ or_false false = refl
 or_true : (a : Bool) → (a || true) ≡ true
 or_true true = refl
 or_true false = refl
-
-pub among_none : (letters : ℕ) (o : Option ℕ) → false ≡ is_among_first letters 0 o
-among_none letters None = refl
-among_none letters (Some letter) = elim (cases_Bool (has letters letter)) [
-  | inl h ↦
-      let capital = capital_is_letter letter (and_parts (is_capital letter) (eqb (bit_at letters (letter - 65)) 1) h).0 in
-      sym (and_right (has letters letter) (ltb letter 65) (le-ltb letter 65 capital.0))
-  | inr h ↦ sym (ap (λ b. b && ltb letter 65) h)
-]
 
 pub among_next : (letters from index : ℕ) → from ≤ index → has letters (65 + index) ≡ true → ((other : ℕ) → from ≤ other → other < index → has letters (65 + other) ≡ false)
     → (o : Option ℕ) → (is_among_first letters from o || letter_is o (65 + index)) ≡ is_among_first letters (index + 1) o
@@ -75,20 +63,22 @@ among_all letters from none (Some letter) = elim (cases_lt letter (65 + from)) [
       ap (λ b. b && ltb letter (65 + from)) lacks ∙ sym lacks
 ]
 
--- ---- bits of two words
+-- ---- a list of letters
 
-most_is_one : (x y : ℕ) → x < 2 → y < 2 → eqb (max x y) 1 ≡ (eqb x 1 || eqb y 1)
-most_is_one zero zero p q = refl
-most_is_one zero (suc zero) p q = refl
-most_is_one (suc zero) zero p q = refl
-most_is_one (suc zero) (suc zero) p q = refl
-most_is_one (suc (suc x)) y p q = absurd (omega arith)
-most_is_one zero (suc (suc y)) p q = absurd (omega arith)
-most_is_one (suc zero) (suc (suc y)) p q = absurd (omega arith)
+-- one more letter
+pub listed_more : (list : List ℕ) (i : ℕ) (o : Option ℕ) → i < length list → is_listed (take (i + 1) list) o ≡ (is_listed (take i list) o || letter_is o (65 + get_or list i 0))
+listed_more list i o lt = list_any_more (λ place. letter_is o (65 + place)) list i 0 lt
 
-pub has_bit-or : (a b k : ℕ) → has_bit (bit_or a b) k ≡ (has_bit a k || has_bit b k)
-unfolding has_bit
-has_bit-or a b k = ap (λ x. eqb x 1) (bit_at_or a b k) ∙ most_is_one (bit_at a k) (bit_at b k) (bit_at-lt a k) (bit_at-lt b k)
+-- the letters so far, after the next one of the set is written
+pub listed_next : (list : List ℕ) (count letters from index : ℕ) (o : Option ℕ) → count < length list → from ≤ index → has letters (65 + index) ≡ true
+    → ((other : ℕ) → from ≤ other → other < index → has letters (65 + other) ≡ false) → is_listed (take count list) o ≡ is_among_first letters from o
+    → is_listed (take (count + 1) (set list count index)) o ≡ is_among_first letters (index + 1) o
+listed_next list count letters from index o lt le stands first before =
+    listed_more (set list count index) count o (omega (arith, lt, length-set list count index))
+    ∙ ap (λ l. is_listed l o || letter_is o (65 + get_or (set list count index) count 0)) (take-set list count index)
+    ∙ ap (λ place. is_listed (take count list) o || letter_is o (65 + place)) (get_or-set_same list count index 0 lt)
+    ∙ ap (λ b. b || letter_is o (65 + index)) before
+    ∙ among_next letters from index le stands first o
 
 -- ---- the indices of a block
 

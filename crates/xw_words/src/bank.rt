@@ -1,12 +1,12 @@
 //! The dictionary: all known words, grouped by length.
 ghost use Rattle.std.specs.Prelude.{◌≡◌, ◌≢◌, ℕ, ◌+◌, ◌*◌, ◌<◌, ◌≤◌, Bool, true, false, [], map, replicate, length, slice_index_or, Ok, Err, None, All, IsOk, IfErr, IfOk, IfSome, IfNone, OnOk, OnErr, IsOkUnless, position, vec_len};
 ghost use Rattle.xw_letters.specs.Letter.{folded, IsLetter};
-ghost use Rattle.xw_words.specs.Dictionary.{row as words_of, entry_at, index_of_word, add_answer, answer_on, add_to, after_add, strike_answer, after_strike, IsNew, IsDictionary, capped, is_turned, matching_answer, reserve_answer, most_words, best_grade, no_words, with_least};
+ghost use Rattle.xw_words.specs.Dictionary.{known_words, entry_at, index_of_word, add_answer, answer_on, add_to, after_add, strike_answer, after_strike, IsNew, IsDictionary, capped, is_turned, matching_answer, grade_answer, reserve_answer, most_words, best_grade, no_words, with_least};
 ghost use Rattle.std.specs.List.{list_any};
 ghost use Rattle.xw_words.specs.Bank.{has_room, limited_row, IsKept, KeepsRoom, KeepsOtherRoom};
 ghost use Rattle.xw_words.specs.Word.{is_bad_letter, judged};
 ghost use Rattle.xw_bits.specs.Bits.{has_bit};
-ghost use Rattle.xw_words.specs.Columns.{has_letter, has_one_of, is_active as word_is_active, IsColumn, AreColumns};
+ghost use Rattle.xw_words.specs.Columns.{has_letter, has_one_of, is_active as spec_is_active, IsColumn, AreColumns};
 
 use crate::fault::WordFault;
 use crate::loader::Loader;
@@ -52,9 +52,9 @@ pub struct Bank {
 }
 
 impl Model for Bank {
-    ghost use Rattle.xw_words.specs.Bank.{Bank as DictionaryWithRoom, bank_of, IsKept};
+    ghost use Rattle.xw_words.specs.Bank.{Bank as SpecBank, bank_of, IsKept};
 
-    ghost Value = { DictionaryWithRoom };
+    ghost Value = { SpecBank };
 
     ghost view = { λ bank. bank_of bank.rows.items bank.least };
 
@@ -91,7 +91,7 @@ impl Bank {
 
     /// The number of known words of length `len`, including struck ones.
     pub fn known(&self, len: usize) -> usize
-        ensures { result ≡ length (words_of self.now.words len) }
+        ensures { result ≡ length (known_words self.now.words len) }
     {
         match self.rows.get(len) {
             Some(row) => row.len(),
@@ -119,7 +119,7 @@ impl Bank {
 
     /// Whether `set_least` of this grade would make a known word of length `len` active, or leave out one that is.
     pub fn turns(&self, len: usize, least: u8) -> bool
-        ensures { result ≡ list_any (is_turned (capped least)) (words_of self.now.words len) }
+        ensures { result ≡ list_any (is_turned (capped least)) (known_words self.now.words len) }
     {
         match self.rows.get(len) {
             Some(row) => row.table().turns(least.min(BEST_GRADE)),
@@ -129,7 +129,7 @@ impl Bank {
 
     /// Whether word `index` of length `len` was struck; false if there is no such word.
     pub fn is_struck(&self, len: usize, index: usize) -> bool
-        ensures { result ≡ (entry_at (words_of self.now.words len) index).struck }
+        ensures { result ≡ (entry_at (known_words self.now.words len) index).struck }
     {
         match self.rows.get(len) {
             Some(row) => row.table().is_struck(index),
@@ -139,7 +139,7 @@ impl Bank {
 
     /// Whether word `index` of length `len` came back with a grade that was chosen then; false if there is no such word.
     pub fn is_regraded(&self, len: usize, index: usize) -> bool
-        ensures { result ≡ (entry_at (words_of self.now.words len) index).regraded }
+        ensures { result ≡ (entry_at (known_words self.now.words len) index).regraded }
     {
         match self.rows.get(len) {
             Some(row) => row.table().is_regraded(index),
@@ -149,7 +149,7 @@ impl Bank {
 
     /// Whether word `index` of length `len` is active; false if there is no such word.
     pub fn is_active(&self, len: usize, index: usize) -> bool
-        ensures { result ≡ (entry_at (words_of self.now.words len) index).active }
+        ensures { result ≡ (entry_at (known_words self.now.words len) index).active }
     {
         match self.rows.get(len) {
             Some(row) => row.table().is_active(index),
@@ -159,7 +159,7 @@ impl Bank {
 
     /// The grade of word `index` of length `len`, 0 to `BEST_GRADE`; 0 if there is no such word.
     pub fn grade(&self, len: usize, index: usize) -> u8
-        ensures grade { result ≡ (entry_at (words_of self.now.words len) index).grade }
+        ensures grade { result ≡ (entry_at (known_words self.now.words len) index).grade }
         ensures range { result ≤ best_grade }
     {
         match self.rows.get(len) {
@@ -168,11 +168,29 @@ impl Bank {
         }
     }
 
+    /// The grade of the word that the bytes spell, active or not, 0 to `BEST_GRADE`. Returns `BadLetter` or `Length`
+    /// as `add` does, and `Unknown` if the word is not known.
+    pub fn grade_of(&self, bytes: &[u8]) -> Result<u8, WordFault>
+        ensures { result ≡ grade_answer self.now.words bytes.now }
+    {
+        judge_word(bytes)?;
+        self.rows[bytes.len()].table().grade_of(bytes)
+    }
+
     /// How much the words of length `len` that a row has and that have `letter` at `position` weigh in a search: more for
     /// better grades, and 1 each if all grades are equal. It is a hint; the contract promises nothing.
     pub fn weigh(&self, len: usize, position: usize, letter: Letter, row: &BitRow) -> u64 {
         match self.rows.get(len) {
             Some(words) => words.weigh(position, letter, row),
+            None => 0,
+        }
+    }
+
+    /// How much word `index` of length `len` weighs in a search: 1, if all grades are equal. It is a hint; the contract promises
+    /// nothing.
+    pub fn weight(&self, len: usize, index: usize) -> u64 {
+        match self.rows.get(len) {
+            Some(words) => words.table().weight(index),
             None => 0,
         }
     }
@@ -191,8 +209,8 @@ impl Bank {
 
     /// The letters of word `index` of length `len`.
     pub fn word(&self, len: usize, index: usize) -> &[Letter]
-        requires { index < length (words_of self.now.words len) }
-        ensures word { result.now ≡ (entry_at (words_of self.now.words len) index).word }
+        requires { index < length (known_words self.now.words len) }
+        ensures word { result.now ≡ (entry_at (known_words self.now.words len) index).word }
         ensures long { length result.now ≡ len }
     {
         self.rows[len].table().word(index)
@@ -208,9 +226,9 @@ impl Bank {
     /// The column of a letter at a position, for the words of length `len`. Returns `None` only
     /// if `position` is out of range or no word of this length is known.
     pub(crate) fn column_of(&self, len: usize, position: usize, letter: Letter) -> Option<&BitRow>
-        ensures some { IfSome result (λ column. IsColumn (words_of self.now.words len) position letter column.now.bits) }
-        ensures none { IfNone result ((index : ℕ) → has_letter (words_of self.now.words len) position letter index ≡ false) }
-        ensures within { position < len → IfNone result (length (words_of self.now.words len) ≡ 0) }
+        ensures some { IfSome result (λ column. IsColumn (known_words self.now.words len) position letter column.now.bits) }
+        ensures none { IfNone result ((index : ℕ) → has_letter (known_words self.now.words len) position letter index ≡ false) }
+        ensures within { position < len → IfNone result (length (known_words self.now.words len) ≡ 0) }
     {
         match self.rows.get(len) {
             Some(row) => row.column_of(position, letter),
@@ -221,8 +239,8 @@ impl Bank {
     /// The 26 columns at a position, for the words of length `len`. If it returns `None`, no
     /// known word has a letter there.
     pub(crate) fn columns_of(&self, len: usize, position: usize) -> Option<&[BitRow]>
-        ensures some { IfSome result (λ columns. AreColumns (words_of self.now.words len) position columns.now) }
-        ensures none { IfNone result ((index letters : ℕ) → has_one_of (words_of self.now.words len) position letters index ≡ false) }
+        ensures some { IfSome result (λ columns. AreColumns (known_words self.now.words len) position columns.now) }
+        ensures none { IfNone result ((index letters : ℕ) → has_one_of (known_words self.now.words len) position letters index ≡ false) }
     {
         match self.rows.get(len) {
             Some(row) => row.columns_of(position),
@@ -233,7 +251,7 @@ impl Bank {
     /// A bit for each of the 64 words from `64 * chunk` on: whether it has `letter` at `position`.
     /// The first word is the lowest bit.
     pub(crate) fn column(&self, len: usize, position: usize, letter: Letter, chunk: usize) -> u64
-        ensures { (k : ℕ) → k < 64 → has_bit result k ≡ has_letter (words_of self.now.words len) position letter (64 * chunk + k) }
+        ensures { (k : ℕ) → k < 64 → has_bit result k ≡ has_letter (known_words self.now.words len) position letter (64 * chunk + k) }
     {
         match self.rows.get(len) {
             Some(row) => row.column_chunk(position, letter, chunk),
@@ -244,7 +262,7 @@ impl Bank {
     /// A bit for each of the 64 words from `64 * chunk` on: whether it is active. The first word is
     /// the lowest bit.
     pub(crate) fn active(&self, len: usize, chunk: usize) -> u64
-        ensures { (k : ℕ) → k < 64 → has_bit result k ≡ word_is_active (words_of self.now.words len) (64 * chunk + k) }
+        ensures { (k : ℕ) → k < 64 → has_bit result k ≡ spec_is_active (known_words self.now.words len) (64 * chunk + k) }
     {
         match self.rows.get(len) {
             Some(row) => row.table().active_chunk(chunk),
@@ -255,9 +273,9 @@ impl Bank {
     /// A bit for each known word of length `len`: whether it is active. Returns `None` only if no word of
     /// this length is known.
     pub(crate) fn active_row(&self, len: usize) -> Option<&BitRow>
-        ensures len { IfSome result (λ row. length row.now.bits ≡ length (words_of self.now.words len)) }
-        ensures bits { IfSome result (λ row. (i : ℕ) → slice_index_or row.now.bits i false ≡ word_is_active (words_of self.now.words len) i) }
-        ensures none { IfNone result ((i : ℕ) → word_is_active (words_of self.now.words len) i ≡ false) }
+        ensures len { IfSome result (λ row. length row.now.bits ≡ length (known_words self.now.words len)) }
+        ensures bits { IfSome result (λ row. (i : ℕ) → slice_index_or row.now.bits i false ≡ spec_is_active (known_words self.now.words len) i) }
+        ensures none { IfNone result ((i : ℕ) → spec_is_active (known_words self.now.words len) i ≡ false) }
     {
         match self.rows.get(len) {
             Some(row) => Some(row.table().active_row()),
@@ -342,7 +360,7 @@ impl Bank {
     pub fn add_reserved(&mut self, word: &[Letter], grade: Option<u8>) -> usize
         requires room { has_room self.old (length word.now) ≡ true }
         requires unknown { index_of_word self.old.words word.now ≡ None }
-        ensures index { result ≡ length (words_of self.old.words (length word.now)) }
+        ensures index { result ≡ length (known_words self.old.words (length word.now)) }
         ensures words { self.new.words ≡ after_add self.old.words word.now grade (Added.New result) }
         ensures room { KeepsOtherRoom (length word.now) self.old self.new }
     {

@@ -1,7 +1,7 @@
 //! The grade that a line of a word list gives its word.
 ghost use Rattle.std.specs.Prelude.{◌≡◌, length, position, reverse};
 ghost use Rattle.xw_words.specs.Dictionary.{capped};
-ghost use Rattle.xw_words.specs.WordList.{is_semicolon as is_semicolon_byte, is_blank as is_blank_byte, is_ink as is_ink_byte, is_negative as is_negative_text, after_semicolon as text_after_semicolon, before_semicolon as text_before_semicolon, trimmed_start as text_trimmed_at_start, trimmed_end as text_trimmed_at_end, score_field as score_field_of, score_in as score_in_field, score_of, left_of};
+ghost use Rattle.xw_words.specs.WordList.{is_semicolon, is_blank as spec_is_blank, is_ink as spec_is_ink, is_negative as spec_is_negative, after_semicolon as spec_after_semicolon, before_semicolon as spec_before_semicolon, trimmed_start as spec_trimmed_start, trimmed_end as spec_trimmed_end, score_field as spec_score_field, score_in as spec_score_in, score_of, left_of};
 
 use crate::table::BEST_GRADE;
 use xw_text::digits::{is_number, value};
@@ -13,14 +13,14 @@ const MOST_DIGITS: usize = 9;
 const USUAL_SCORE: u64 = 50;
 
 fn first_semicolon(text: &[u8]) -> Option<usize>
-    ensures { result ≡ position is_semicolon_byte text.now }
+    ensures { result ≡ position is_semicolon text.now }
 {
     text.iter().position(|byte| *byte == b';')
 }
 
 /// What follows the first semicolon; nothing if there is none.
 fn after_semicolon(line: &[u8]) -> &[u8]
-    ensures { result.now ≡ text_after_semicolon line.now }
+    ensures { result.now ≡ spec_after_semicolon line.now }
 {
     match first_semicolon(line) {
         Some(at) => &line[at + 1..],
@@ -30,7 +30,7 @@ fn after_semicolon(line: &[u8]) -> &[u8]
 
 /// What comes before the first semicolon; all if there is none.
 fn before_semicolon(text: &[u8]) -> &[u8]
-    ensures { result.now ≡ text_before_semicolon text.now }
+    ensures { result.now ≡ spec_before_semicolon text.now }
 {
     match first_semicolon(text) {
         Some(at) => &text[..at],
@@ -40,32 +40,32 @@ fn before_semicolon(text: &[u8]) -> &[u8]
 
 /// Whether a byte is a space, a tab or a carriage return.
 fn is_blank(byte: u8) -> bool
-    ensures { result ≡ is_blank_byte byte }
+    ensures { result ≡ spec_is_blank byte }
 {
     byte == b' ' || byte == b'\t' || byte == b'\r'
 }
 
 fn is_ink(byte: u8) -> bool
-    ensures { result ≡ is_ink_byte byte }
+    ensures { result ≡ spec_is_ink byte }
 {
     !is_blank(byte)
 }
 
 fn first_ink(text: &[u8]) -> Option<usize>
-    ensures { result ≡ position is_ink_byte text.now }
+    ensures { result ≡ position spec_is_ink text.now }
 {
     text.iter().position(|byte| is_ink(*byte))
 }
 
 /// The distance of the last byte that is not blank from the end.
 fn last_ink(text: &[u8]) -> Option<usize>
-    ensures { result ≡ position is_ink_byte (reverse text.now) }
+    ensures { result ≡ position spec_is_ink (reverse text.now) }
 {
     text.iter().rev().position(|byte| is_ink(*byte))
 }
 
 fn trimmed_start(text: &[u8]) -> &[u8]
-    ensures { result.now ≡ text_trimmed_at_start text.now }
+    ensures { result.now ≡ spec_trimmed_start text.now }
 {
     match first_ink(text) {
         Some(start) => &text[start..],
@@ -74,7 +74,7 @@ fn trimmed_start(text: &[u8]) -> &[u8]
 }
 
 fn trimmed_end(text: &[u8]) -> &[u8]
-    ensures { result.now ≡ text_trimmed_at_end text.now }
+    ensures { result.now ≡ spec_trimmed_end text.now }
 {
     match last_ink(text) {
         Some(after) => &text[..text.len() - after],
@@ -84,14 +84,14 @@ fn trimmed_end(text: &[u8]) -> &[u8]
 
 /// The second field of a line, without blanks at its ends.
 fn score_field(line: &[u8]) -> &[u8]
-    ensures { result.now ≡ score_field_of line.now }
+    ensures { result.now ≡ spec_score_field line.now }
 {
     trimmed_end(trimmed_start(before_semicolon(after_semicolon(line))))
 }
 
 /// Whether a text is a minus sign and a number.
 fn is_negative(text: &[u8]) -> bool
-    ensures { result ≡ is_negative_text text.now }
+    ensures { result ≡ spec_is_negative text.now }
 {
     text.starts_with(b"-") && is_number(&text[1..], MOST_DIGITS)
 }
@@ -99,7 +99,7 @@ fn is_negative(text: &[u8]) -> bool
 /// The score that a field gives: its number, 0 for a negative one, 50 for anything else.
 #[tactic(auto, using(xw_text::proofs::DigitLemmas::nine_digits))]
 fn score_in(field: &[u8]) -> u64
-    ensures { result ≡ score_in_field field.now }
+    ensures { result ≡ spec_score_in field.now }
 {
     if is_number(field, MOST_DIGITS) {
         value(field)

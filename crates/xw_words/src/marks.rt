@@ -17,9 +17,9 @@ pub struct Marks {
 }
 
 impl Model for Marks {
-    ghost use Rattle.xw_words.specs.Marks.{Marks as MarksOfWord, marks_in};
+    ghost use Rattle.xw_words.specs.Marks.{Marks as SpecMarks, marks_in};
 
-    ghost Value = { MarksOfWord };
+    ghost Value = { SpecMarks };
 
     ghost view = { λ marks. marks_in marks.byte };
 }
@@ -60,18 +60,33 @@ impl Marks {
     }
 }
 
-/// The bytes of at most 64 words. Those past the last word are 0.
+/// The bytes of the first words, at most 64. The others are 0.
+fn first_bytes(marks: &[Marks], count: usize) -> [u8; 64]
+    requires few { count ≤ 64 }
+    requires within { count ≤ length marks.now }
+    ensures len { length result ≡ 64 }
+    ensures bytes { (k : ℕ) → k < count → marks_in (slice_index result k) ≡ slice_index_or marks.now k no_marks }
+{
+    let mut bytes = [0; 64];
+    for k in 0..count {
+        let word = &marks[k];
+        bytes[k] = word.byte;
+    }
+    bytes
+}
+
+/// The bytes of at most 64 words. Those past the last word are 0. Nearly all calls have 64 words. Where the compiler sees
+/// this number, it copies all bytes at once.
 fn bytes_of(marks: &[Marks]) -> [u8; 64]
     requires { length marks.now ≤ 64 }
     ensures len { length result ≡ 64 }
     ensures bytes { (k : ℕ) → k < length marks.now → marks_in (slice_index result k) ≡ slice_index_or marks.now k no_marks }
 {
-    let mut bytes = [0; 64];
-    for k in 0..marks.len() {
-        let word = &marks[k];
-        bytes[k] = word.byte;
+    if marks.len() == 64 {
+        first_bytes(marks, 64)
+    } else {
+        first_bytes(marks, marks.len())
     }
-    bytes
 }
 
 /// A bit for each of at most 64 words: whether it is not struck and not below a grade. The first word is the lowest

@@ -26,9 +26,9 @@ pub struct Row {
 }
 
 impl Model for Row {
-    ghost use Rattle.xw_words.specs.Row.{Row as RowOfWords};
+    ghost use Rattle.xw_words.specs.Row.{Row as SpecRow};
 
-    ghost Value = { RowOfWords };
+    ghost Value = { SpecRow };
 
     ghost use Rattle.xw_words.specs.KeptRow.{row_of, IsKeptRow};
 

@@ -5,7 +5,7 @@ mod limiting;
 ghost use Rattle.xw_bits.specs.Bits.{has_bit};
 ghost use Rattle.xw_words.specs.Columns.{is_active};
 ghost use Rattle.std.specs.Prelude.{◌≡◌, ℕ, ◌+◌, ◌*◌, ◌<◌, ◌≤◌, true, false, None, All, [], ◌∷◌, ◌++◌, length, slice_index_or, slice_set, map, position, OnOk, OnErr, IfOk, ◌≢◌, vec_len, vec_capacity};
-ghost use Rattle.xw_words.specs.Dictionary.{entry_at, index_in, add_to, added_at, with_added, strike_from, most_words, grade_left, new_entry, returned, with_struck, best_grade};
+ghost use Rattle.xw_words.specs.Dictionary.{entry_at, index_in, add_to, added_at, with_added, strike_from, most_words, grade_left, grade_in, new_entry, returned, with_struck, best_grade};
 ghost use Rattle.xw_words.specs.Row.{entry_of};
 ghost use Rattle.xw_words.specs.Index.{word_in};
 ghost use Rattle.xw_letters.specs.Letter.{folded};
@@ -74,9 +74,9 @@ pub struct Table {
 }
 
 impl Model for Table {
-    ghost use Rattle.xw_words.specs.Table.{Table as TableOfWords, table_of, IsKeptTable};
+    ghost use Rattle.xw_words.specs.Table.{Table as SpecTable, table_of, IsKeptTable};
 
-    ghost Value = { TableOfWords };
+    ghost Value = { SpecTable };
 
     ghost view = { table_of };
 
@@ -168,6 +168,21 @@ impl Table {
         }
     }
 
+    /// The grade of the word that the bytes spell, active or not.
+    pub fn grade_of(&self, bytes: &[u8]) -> Result<u8, WordFault>
+        requires letters { position is_bad_letter bytes.now ≡ None }
+        requires length { length bytes.now ≡ self.now.word_len }
+        ensures { result ≡ grade_in self.now.entries (map folded bytes.now) }
+    {
+        let _ = self.word_len();
+        let mut letters = [Letter::first(); LONGEST];
+        spell(&mut letters, bytes);
+        match self.find(&letters[..bytes.len()]) {
+            Some(index) => Ok(self.grade(index)),
+            None => Err(WordFault::Unknown),
+        }
+    }
+
     /// Whether word `index` was struck; false if there is no such word.
     pub fn is_struck(&self, index: usize) -> bool
         ensures { result ≡ (entry_at self.now.entries index).struck }
@@ -185,6 +200,17 @@ impl Table {
         index < self.regraded.len() && self.regraded.has(index)
     }
 
+    /// How much word `index` weighs in a search: 1, if all grades are equal. The contract promises nothing.
+    pub fn weight(&self, index: usize) -> u64 {
+        if self.weights.are_equal() {
+            return 1;
+        }
+        match self.marks.get(index) {
+            Some(marks) => self.weights.of_grade(marks.grade()),
+            None => 0,
+        }
+    }
+
     /// How much these words of a chunk of 64 words weigh in a search. The contract promises nothing. No sum wraps, since
     /// a row has at most 2^20 words.
     fn weigh_chunk(&self, chunk: usize, words: u64) -> u64 {
@@ -196,9 +222,7 @@ impl Table {
         let mut left = words;
         while left != 0 {
             let index = first.wrapping_add(left.trailing_zeros() as usize);
-            if let Some(marks) = self.marks.get(index) {
-                total = total.wrapping_add(self.weights.of_grade(marks.grade()));
-            }
+            total = total.wrapping_add(self.weight(index));
             left &= left - 1;
         }
         total

@@ -1,6 +1,6 @@
 //! Checks words and patterns that come as bytes.
 ghost use Rattle.std.specs.Prelude.{map, take, None, ◌≡◌, ℕ, length, position, IfSome, ◌<◌, ◌≤◌};
-ghost use Rattle.xw_letters.specs.Letter.{is_letter as is_letter_byte, folded};
+ghost use Rattle.xw_letters.specs.Letter.{is_letter as spec_is_letter, folded};
 ghost use Rattle.xw_words.specs.Word.{judged, is_bad_letter, is_bad_in_pattern};
 
 use crate::fault::WordFault;
@@ -14,7 +14,7 @@ pub const LONGEST: usize = 255;
 
 /// Whether a byte is an ASCII letter of either case.
 pub(crate) fn is_letter(byte: u8) -> bool
-    ensures { result ≡ is_letter_byte byte }
+    ensures { result ≡ spec_is_letter byte }
 {
     matches!(byte, b'A'..=b'Z' | b'a'..=b'z')
 }

@@ -3,11 +3,11 @@ ghost use Rattle.std.specs.Prelude.{◌≡◌, ◌≢◌, ◌<◌, ◌+◌, ◌^
 ghost use Rattle.std.specs.List.{list_any, list_all};
 ghost use Rattle.std.specs.Option.{option_copied};
 ghost use Rattle.xw_grid.specs.Grid.{cells};
-ghost use Rattle.xw_grid.specs.Light.{begins as begins_light, lights_at, lights_of};
+ghost use Rattle.xw_grid.specs.Light.{begins as spec_begins, lights_at, lights_of};
 ghost use Rattle.xw_grid.specs.Clue.{clue_at};
 ghost use Rattle.xw_grid.specs.Puzzle.{puzzle_view};
 ghost use Rattle.xw_files.specs.Part.{is_circled_open};
-ghost use Rattle.xw_files.specs.Text.Written.{is_line_end, is_blank_at as is_blank_there, is_spelled as is_spelled_text, is_clue as is_clue_text, are_notes as are_notes_text, pieces, index_at as index_at_cell, bad_clue as bad_clue_of, bad_field as bad_field_of, texted, written};
+ghost use Rattle.xw_files.specs.Text.Written.{is_line_end, is_blank_at as spec_is_blank_at, is_spelled as spec_is_spelled, is_clue as spec_is_clue, are_notes as spec_are_notes, pieces, index_at as spec_index_at, bad_clue as spec_bad_clue, bad_field as spec_bad_field, texted, written};
 
 use crate::fault::{TextName, WriteFault};
 use crate::finished::{empty_cell, has_bar, is_circled};
@@ -27,7 +27,7 @@ fn has_line_end(text: &[u8]) -> bool
 }
 
 fn is_blank_at(byte: Option<&u8>) -> bool
-    ensures { result ≡ is_blank_there (option_copied byte.entry) }
+    ensures { result ≡ spec_is_blank_at (option_copied byte.entry) }
 {
     match byte {
         Some(byte) => is_blank(*byte),
@@ -38,7 +38,7 @@ fn is_blank_at(byte: Option<&u8>) -> bool
 /// Returns whether a text can be written on one line.
 #[tactic(auto, unfolding(crate::specs::Text::Written::is_spelled))]
 fn is_spelled(text: &[u8]) -> bool
-    ensures { result ≡ is_spelled_text text.now }
+    ensures { result ≡ spec_is_spelled text.now }
 {
     !has_line_end(text)
         && !is_blank_at(text.first())
@@ -48,20 +48,20 @@ fn is_spelled(text: &[u8]) -> bool
 
 #[tactic(auto, unfolding(crate::specs::Text::Written::is_clue))]
 fn is_clue(text: &[u8]) -> bool
-    ensures { result ≡ is_clue_text text.now }
+    ensures { result ≡ spec_is_clue text.now }
 {
     !text.is_empty() && is_spelled(text)
 }
 
 #[tactic(auto, unfolding(crate::specs::Text::Written::are_notes))]
 fn are_notes(notes: &[u8]) -> bool
-    ensures { result ≡ are_notes_text notes.now }
+    ensures { result ≡ spec_are_notes notes.now }
 {
     notes.is_empty() || are_clues(notes)
 }
 
 fn are_clues(notes: &[u8]) -> bool
-    ensures { result ≡ list_all is_clue_text (pieces notes.now) }
+    ensures { result ≡ list_all spec_is_clue (pieces notes.now) }
 {
     notes
         .split(|byte| *byte == b'\n')
@@ -92,14 +92,14 @@ fn light_count(grid: &Grid, cell: Cell) -> usize
 
 /// Returns whether a light of this direction begins at a cell and its clue cannot be written.
 fn has_bad_clue(grid: &Grid, clues: &Clues, direction: Direction, cell: Cell) -> bool
-    ensures { result ≡ (begins_light grid.now direction cell && not (is_clue_text (clue_at clues.now cell direction))) }
+    ensures { result ≡ (spec_begins grid.now direction cell && not (spec_is_clue (clue_at clues.now cell direction))) }
 {
     begins(grid, direction, cell) && !is_clue(clues.get(cell, direction))
 }
 
 /// Returns how many lights begin at a cell before the one of this direction.
 fn index_at(grid: &Grid, direction: Direction, cell: Cell) -> usize
-    ensures index { result ≡ index_at_cell grid.now direction cell }
+    ensures index { result ≡ spec_index_at grid.now direction cell }
     ensures few { result < 2 }
 {
     match direction {
@@ -110,7 +110,7 @@ fn index_at(grid: &Grid, direction: Direction, cell: Cell) -> usize
 
 /// Returns the index, in light order, of the first light of a direction whose clue cannot be written.
 fn bad_clue(grid: &Grid, clues: &Clues, direction: Direction) -> Option<usize>
-    ensures index { result ≡ bad_clue_of direction clues.now (lights_of grid.now) }
+    ensures index { result ≡ spec_bad_clue direction clues.now (lights_of grid.now) }
     ensures small { IfSome result (λ index. index + 1 < 2 ^ 64) }
 {
     let mut before = 0;
@@ -127,7 +127,7 @@ fn bad_clue(grid: &Grid, clues: &Clues, direction: Direction) -> Option<usize>
 /// Returns the first text that cannot be written.
 #[tactic(auto, unfolding(crate::specs::Text::Written::bad_field))]
 fn bad_field(puzzle: &Puzzle) -> Option<TextName>
-    ensures { result ≡ bad_field_of (puzzle_view puzzle.now) }
+    ensures { result ≡ spec_bad_field (puzzle_view puzzle.now) }
 {
     let texts = &puzzle.texts;
     if !is_spelled(&texts.title) {

@@ -1,7 +1,7 @@
 //! Splits a text file into trimmed lines.
 ghost use Rattle.std.specs.Prelude.{◌≡◌, ℕ, [], ◌∷◌, MatchOption, None};
 ghost use Rattle.std.specs.Option.{option_copied};
-ghost use Rattle.xw_files.specs.Text.Lines.{is_blank as is_blank_byte, trimmed, shown, text_lines, first_of, without_mark as unmarked};
+ghost use Rattle.xw_files.specs.Text.Lines.{is_blank as spec_is_blank, trimmed, shown, text_lines, first_of, without_mark as spec_without_mark};
 
 use bstr::{ByteSlice, Lines};
 use std::marker::Model;
@@ -11,7 +11,7 @@ const MARK: [u8; 3] = [0xEF, 0xBB, 0xBF];
 
 /// Returns whether a byte is a space or a tab.
 pub(crate) fn is_blank(byte: u8) -> bool
-    ensures { result ≡ is_blank_byte byte }
+    ensures { result ≡ spec_is_blank byte }
 {
     matches!(byte, b' ' | b'\t')
 }
@@ -36,7 +36,7 @@ pub(crate) fn trim(line: &[u8]) -> &[u8]
 
 /// Drops a byte order mark at the start of a file.
 pub(crate) fn without_mark(bytes: &[u8]) -> &[u8]
-    ensures { result.now ≡ unmarked bytes.now }
+    ensures { result.now ≡ spec_without_mark bytes.now }
 {
     if bytes.starts_with(&MARK) {
         &bytes[MARK.len()..]

@@ -12,7 +12,7 @@ ghost use Rattle.xw_grid.specs.Puzzle.{PuzzleShown, puzzle_view, texts_view};
 ghost use Rattle.xw_files.specs.Part.{part_of};
 ghost use Rattle.xw_files.specs.Text.Starts.{starts};
 ghost use Rattle.xw_files.specs.Steps.{GivesOrLacksMemory};
-ghost use Rattle.xw_files.specs.Text.Shape.{header_at, tag_at, plain_at, text_at, texts_at, is_numeral as is_numeral_text, side_of, is_times, sides_of, size_at, with_front, AreSides, row_squares, squares_after, row_at, rows_at, grid_at, clue_at_start, clues_at, both_clues_at, notes_at, shape, is_nul, all_of};
+ghost use Rattle.xw_files.specs.Text.Shape.{header_at, tag_at, plain_at, text_at, texts_at, is_numeral as spec_is_numeral, side_of, is_times, sides_of, size_at, with_front, AreSides, row_squares, squares_after, row_at, rows_at, grid_at, clue_at_start, clues_at, both_clues_at, notes_at, shape, is_nul, all_of};
 
 use crate::fault::{ReadFault, Tag};
 use crate::text::lines::{TextLines, trim};
@@ -93,14 +93,14 @@ fn are_digits(bytes: &[u8]) -> bool
 }
 
 fn is_numeral(digits: &[u8]) -> bool
-    ensures { result ≡ is_numeral_text digits.now }
+    ensures { result ≡ spec_is_numeral digits.now }
 {
     (1..=3).contains(&digits.len()) && are_digits(digits)
 }
 
 /// Returns the value of 1 to 3 digits.
 fn number(digits: &[u8]) -> u32
-    requires { is_numeral_text digits.now ≡ true }
+    requires { spec_is_numeral digits.now ≡ true }
     ensures { result ≡ digits_value 10 digits.now }
 {
     let mut number = 0;

@@ -1,6 +1,6 @@
 //! The tag lines of the text format.
 ghost use Rattle.std.specs.Prelude.{◌≡◌, codes};
-ghost use Rattle.xw_files.specs.Text.Tag.{name_of, is_tag_line as is_tag, names as is_named};
+ghost use Rattle.xw_files.specs.Text.Tag.{name_of, is_tag_line as spec_is_tag_line, names as spec_names};
 
 use crate::fault::Tag;
 
@@ -27,14 +27,14 @@ impl Tag {
 
 /// Returns whether a line is this tag, ignoring ASCII case.
 pub(crate) fn names(line: &[u8], tag: &[u8]) -> bool
-    ensures { result ≡ is_named line.now tag.now }
+    ensures { result ≡ spec_names line.now tag.now }
 {
     line.eq_ignore_ascii_case(tag)
 }
 
 /// Returns whether a line begins with `<`, as every tag does.
 pub(crate) fn is_tag_line(line: &[u8]) -> bool
-    ensures { result ≡ is_tag line.now }
+    ensures { result ≡ spec_is_tag_line line.now }
 {
     matches!(line, [b'<', ..])
 }

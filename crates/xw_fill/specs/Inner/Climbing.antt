@@ -12,7 +12,6 @@ use Rattle.xw_fill.specs.Fill.{IsActive}
 use Rattle.xw_fill.specs.NamedFill.{flags}
 use Rattle.xw_fill.specs.Best.{at_least, HasNoneAt, IsBound, IsFilledAt}
 use Rattle.xw_fill.specs.Inner.Progress.{IsDead, AreAlive, IsPlan}
-use Rattle.xw_fill.specs.Inner.Stack.{IsReady}
 use Rattle.xw_fill.specs.declared.allowance.Allowance.{Allowance}
 use Rattle.xw_fill.specs.declared.best.Best.{Best}
 use Rattle.xw_fill.specs.declared.best.Best.TheVariants as bests
@@ -56,18 +55,17 @@ pub record AreFresh (start : Position) (fresh : List Bool) : Type 0 where
   pub are : (light : ℕ) → light < light_count start → flags fresh light ≡ not (is_entered start light)
 
 -- the prober is for this state
-pub record IsProber {E S : Type 0} (saved : S → State) (prober : Prober E S) (start : State) : Type 0 where
+pub record IsProber (prober : Prober) (start : State) : Type 0 where
   pub plan : IsPlan (position_of start) prober.plan
   pub fresh : AreFresh (position_of start) prober.fresh.items
   pub least : prober.least ≡ start.words.least
-  pub ready : IsReady saved prober.stack start
 
--- what a search for a fill with the words of a grade and better found: a fill that is one at `least`; or that there is
--- none
+-- what a search for a fill with the words of a grade and better found: a fill that is one at `least`; that there is none; or
+-- nothing
 abbrev pub IsProbed : (ℕ → Bool) → State → ℕ → State → Probe → Type 0
 IsProbed named before grade after (Filled least) = (grade ≤ least) × IsFilledAt named before after least
-IsProbed named before grade after NoFill = HasNoneAt named before grade × (after ≡ before)
-IsProbed named before grade after Limit = after ≡ before
+IsProbed named before grade after NoFill = HasNoneAt named before grade
+IsProbed named before grade after Limit = Unit {0}
 
 -- a fill that was found is one at this grade or above
 abbrev pub IsAtLeast : ℕ → Probe → Type 0
@@ -82,7 +80,7 @@ IsBetter (Some found) was worst sum = (found < worst) ⊎ ((found ≡ worst) × 
 
 -- the search began at this state, and knows a bound and the best fill that was found, with the sum of its new grades
 pub record IsClimbing {E S : Type 0} (saved : S → State) (climb : Climb E S) (start : State) : Type 0 where
-  pub prober : IsProber saved climb.prober start
+  pub prober : IsProber climb.prober start
   pub began : saved climb.start ≡ start
   pub best : IsTwin (saved climb.best) start
   pub found : IfSome climb.found (IsFilledAt (flags climb.prober.plan.named.items) start (saved climb.best))

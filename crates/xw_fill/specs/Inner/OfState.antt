@@ -67,9 +67,6 @@ IsRepeatedAt state = Progress.IsRepeatedAt (position_of state)
 abbrev pub IsApartAt : State → ℕ → Type 0
 IsApartAt state = Progress.IsApartAt (position_of state)
 
-abbrev pub IsRefuted : (ℕ → Bool) → State → Type 0
-IsRefuted watched state = Progress.IsRefuted watched (position_of state)
-
 -- ---- the letters of a cell, and the entries on the way
 
 abbrev pub IsNextLetter : State → ℕ → ℕ → ℕ → Type 0

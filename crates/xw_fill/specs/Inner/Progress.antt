@@ -167,10 +167,11 @@ pub record MayTry (named : ℕ → Bool) (start : Position) (now : List (Option 
 
 -- ---- entering a letter
 
--- the letter of a frame can be entered: its cell is open and empty
+-- the letter of a frame can be entered: its cell is open and empty, and the letter is feasible there
 pub record CanBeEntered (frame : Frame) (state : State) : Type 0 where
   pub opens : is_open (board_of state.grid) frame.cell ≡ true
   pub empty : entry_in (entries_of state) frame.cell ≡ None
+  pub feasible : is_feasible_letter (position_of state) frame.cell frame.letter ≡ true
 
 -- no other letter is feasible in the cell of a frame
 abbrev pub is_forced : Frame → Bool

@@ -1,5 +1,5 @@
 -- One step of the search for a fill: what trying a word led to.
-use Rattle.std.specs.Prelude.{◌≡◌, ℕ, suc, true, List, [], ◌∷◌, ◌++◌, length, Option}
+use Rattle.std.specs.Prelude.{◌≡◌, ℕ, suc, true, List, [], ◌∷◌, ◌++◌, length, Option, Some, None}
 use Rattle.xw_feas.specs.State.{State}
 use Rattle.xw_fill.specs.OfState.{is_dead, outlook}
 use Rattle.xw_fill.specs.Inner.OfState.{AreEntered}
@@ -23,3 +23,8 @@ pub record HasDied (tried : Try) (before : State) (tries : List Try) (after : St
   pub there : State
   pub made : IsMade tried before there
   pub dead : is_dead there ≡ true
+
+-- after a try: the next step if the word was placed, and none if it led to a dead position
+abbrev pub HasStepped : Try → State → List Try → List (Option ℕ) → State → List Try → List (Option ℕ) → Option Next → Type 0
+HasStepped tried before tries since after tries_after since_after None = HasDied tried before tries after tries_after since since_after
+HasStepped tried before tries since after tries_after since_after (Some next) = HasPlaced tried before tries after tries_after since_after next

@@ -1,9 +1,9 @@
 //! A fill that is known beforehand: its letters are entered at once, and then it is checked.
-ghost use Rattle.std.specs.Prelude.{◌≡◌, All, Ok, length, true, false, is_some, IfOk, IfSome, OnErr};
+ghost use Rattle.std.specs.Prelude.{◌≡◌, All, Ok, length, true, false, is_some, IfOk, IfSome};
 ghost use Rattle.xw_letters.specs.Letter.{IsLetter};
 ghost use Rattle.xw_fill.specs.OfState.{light_count};
 ghost use Rattle.xw_fill.specs.Inner.OfState.{AreFresh, IsPlan};
-ghost use Rattle.xw_fill.specs.Inner.Stack.{IsReady};
+ghost use Rattle.xw_fill.specs.Position.{DiffersInEntries};
 ghost use Rattle.xw_fill.specs.NamedFill.{flags, entry_in};
 ghost use Rattle.xw_fill.specs.Inner.Progress.{entries_of, HasEntered};
 ghost use Rattle.xw_fill.specs.declared.search.Filling.TheVariants.{Filled};
@@ -11,15 +11,12 @@ ghost use Rattle.xw_fill.specs.Inner.Candidate.{IsForTarget, AreListed, IsComple
 
 use crate::listing::is_unlisted;
 use crate::named_lights::checks::first_dead;
-use crate::named_lights::frame::Frame;
 use crate::named_lights::plan::Plan;
 use crate::repeats::has_repeat;
 use crate::scan::{board, light_count};
-use crate::stack::Stack;
 use crate::why::entries::write;
 use std::alloc::{AllocError, Global};
 use xw_feas::feasible::Feasible;
-use xw_feas::searchable::Searchable;
 use xw_grid::cell::Cell;
 use xw_letters::letter::Letter;
 
@@ -99,31 +96,22 @@ fn is_complete<E: Feasible>(alloc: Global, engine: &E, plan: &Plan, fresh: &[boo
     }
 }
 
-/// Enters in each cell to fill its entry in a list, in one edit. Returns whether the grid then holds a fill; if not, the
-/// state is as it was. `fresh` has a flag for each light: whether it was not wholly entered.
-pub fn enter<E: Searchable>(
+/// Enters in each cell to fill its entry in a list, in one edit. Returns whether the grid then holds a fill. `fresh` has a flag
+/// for each light: whether it was not wholly entered.
+pub fn enter<E: Feasible>(
     alloc: Global,
     engine: &mut E,
-    stack: &mut Stack<E, Frame>,
     plan: &Plan,
     fresh: &[bool],
     entries: &[Option<Letter>],
 ) -> Result<bool, AllocError>
     requires plan { IsPlan (E.state engine.old) plan.now }
     requires fresh { AreFresh (E.state engine.old) fresh.now }
-    requires ready { IsReady E.saved stack.old (E.state engine.old) }
-    ensures ready { IsReady E.saved stack.new (E.state engine.old) }
     ensures filled { result ≡ Ok true → HasEntered (flags plan.now.named.items) (E.state engine.old) (E.state engine.new) Filled }
-    ensures back { result ≡ Ok false → E.state engine.new ≡ E.state engine.old }
-    ensures unchanged { OnErr result (E.state engine.new ≡ E.state engine.old) }
+    ensures entries { DiffersInEntries (E.state engine.old) (E.state engine.new) }
     ensures count { E.placed engine.new ≡ E.placed engine.old }
 {
     let list = written_of(alloc, engine, plan, entries)?;
-    stack.begin(engine);
     write(engine, &list);
-    if is_complete(alloc, engine, plan, fresh) {
-        return Ok(true);
-    }
-    stack.reset(engine);
-    Ok(false)
+    Ok(is_complete(alloc, engine, plan, fresh))
 }

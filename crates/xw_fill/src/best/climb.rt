@@ -6,9 +6,9 @@ ghost use Rattle.xw_fill.specs.Allowance.{HasPlacedWithin};
 ghost use Rattle.xw_fill.specs.Inner.OfState.{IsPlan};
 ghost use Rattle.xw_fill.specs.NamedFill.{flags};
 ghost use Rattle.xw_fill.specs.Best.{IsBest, IsFilledAt};
-ghost use Rattle.xw_feas.specs.Snapshot.{IsTwin};
+ghost use Rattle.xw_feas.specs.Snapshot.{CanSave};
 ghost use Rattle.xw_feas.specs.State.{State};
-ghost use Rattle.xw_fill.specs.declared.allowance.Allowance.{Allowance as AllowanceOf};
+ghost use Rattle.xw_fill.specs.declared.allowance.Allowance.{Allowance as SpecAllowance};
 ghost use Rattle.xw_fill.specs.Inner.Climbing.{IsAtLeast, IsBetter, IsClimbing, IsOffered, IsProbed, HasClimbed, HasScheduled, IsTaken, HasOffered, IsIdle, grade_sum, next_grade, spent_by, work_left, best_of};
 
 use crate::allowance::Allowance;
@@ -22,6 +22,7 @@ use crate::named_lights::plan::Plan;
 use crate::search::Filling;
 use std::alloc::{AllocError, Global};
 use std::snapshot::Snapshot;
+use xw_feas::progress::News;
 use xw_feas::searchable::Searchable;
 use xw_letters::letter::Letter;
 
@@ -34,7 +35,7 @@ use xw_letters::letter::Letter;
 ///   was counted is one of this search.
 #[derive(Drop)]
 pub struct Climb<E: Searchable> {
-    prober: Prober<E>,
+    prober: Prober,
     start: E::Snapshot,
     best: E::Snapshot,
     found: Option<u8>,
@@ -100,7 +101,7 @@ impl<E: Searchable> Climb<E> {
 
     /// Returns to the start.
     fn go_back(&mut self, engine: &mut E)
-        requires twin { IsTwin (E.saved self.old.start) (E.state engine.old) }
+        requires { CanSave (E.saved self.old.start) (E.state engine.old) }
         ensures back { E.state engine.new ≡ E.saved self.old.start }
         ensures climbing { (start : State) → IsClimbing E.saved self.old start → IsClimbing E.saved self.new start }
         ensures start { E.saved self.new.start ≡ E.saved self.old.start }
@@ -187,14 +188,20 @@ impl<E: Searchable> Climb<E> {
             .prober
             .probe(alloc, engine, grade, course.effort(), allowance);
         self.counted = Snapshot::of(allowance);
-        let probe = probe?;
+        let Ok(probe) = probe else {
+            self.go_back(engine);
+            return Err(AllocError);
+        };
         match probe {
             Probe::Filled(found) => {
                 course.parts.note_best(engine, &self.prober.fresh);
                 let _ = self.offer(engine, found);
             }
-            Probe::NoFill => self.bound = grade,
-            Probe::Limit => {}
+            Probe::NoFill => {
+                self.go_back(engine);
+                self.bound = grade;
+            }
+            Probe::Limit => self.go_back(engine),
         }
         Ok(probe)
     }
@@ -262,16 +269,21 @@ impl<E: Searchable> Climb<E> {
         ensures climbing { IsClimbing E.saved self.new (E.state engine.new) }
         ensures unchanged { E.state engine.new ≡ E.state engine.old }
         ensures offered { OnOk result (HasOffered E.saved self.old self.new) }
-        ensures climbed { (from to : AllowanceOf) → from.made < to.made → to.limit ≡ from.limit → self.old.counted.value.made ≡ to.made → HasClimbed E.saved self.old self.new from to }
+        ensures climbed { (from to : SpecAllowance) → from.made < to.made → to.limit ≡ from.limit → self.old.counted.value.made ≡ to.made → HasClimbed E.saved self.old self.new from to }
         ensures count { E.placed engine.new ≡ E.placed engine.old }
         ensures tries { number self.new.prober.tries ≡ suc (number self.old.prober.tries) }
     {
-        let probe = self.prober.try_known(alloc, engine, entries)?;
-        Ok(match probe {
-            Probe::Filled(grade) => self.offer(engine, grade),
-            Probe::NoFill => false,
-            Probe::Limit => false,
-        })
+        let Ok(probe) = self.prober.try_known(alloc, engine, entries) else {
+            self.go_back(engine);
+            return Err(AllocError);
+        };
+        match probe {
+            Probe::Filled(grade) => Ok(self.offer(engine, grade)),
+            Probe::NoFill | Probe::Limit => {
+                self.go_back(engine);
+                Ok(false)
+            }
+        }
     }
 
     /// Tries the best fill that is known, as one placement.
@@ -349,7 +361,7 @@ impl<E: Searchable> Climb<E> {
         ensures unchanged { E.state engine.new ≡ E.state engine.old }
         ensures made { allowance.old.made ≤ allowance.new.made }
         ensures limit { allowance.new.limit ≡ allowance.old.limit }
-        ensures climbed { (from : AllowanceOf) → from.made < allowance.old.made → allowance.old.limit ≡ from.limit → HasClimbed E.saved self.old self.new from allowance.new }
+        ensures climbed { (from : SpecAllowance) → from.made < allowance.old.made → allowance.old.limit ≡ from.limit → HasClimbed E.saved self.old self.new from allowance.new }
         ensures within { spent_by (E.placed engine.new) self.new + allowance.old.made ≤ suc (spent_by (E.placed engine.old) self.old + allowance.new.made) }
         ensures scheduled { goal ≡ Goal.Worst → HasScheduled course.old.pace course.new.pace 0 }
     {
@@ -400,7 +412,7 @@ impl<E: Searchable> Climb<E> {
         self.found.is_some() && !self.prober.plan.targets.is_empty() && !course.parts.is_tired()
     }
 
-    /// Tries the next grade or the next part.
+    /// Tells how good the best fill is and may be, and tries the next grade or the next part.
     fn advance(
         &mut self,
         alloc: Global,
@@ -417,6 +429,10 @@ impl<E: Searchable> Climb<E> {
         ensures within { HasPlacedWithin allowance.old allowance.new (spent_by (E.placed engine.old) self.old) (spent_by (E.placed engine.new) self.new) }
         ensures moved { OnOk result (work_left self.new allowance.new < work_left self.old allowance.old) }
     {
+        engine.tell(News::Graded {
+            worst: self.found,
+            bound: self.bound,
+        });
         let is_open = self.next_grade() < self.bound;
         let turn = if is_open {
             course

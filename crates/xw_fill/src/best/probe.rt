@@ -1,14 +1,13 @@
 //! A search for a fill with the words of a grade and better.
-ghost use Rattle.std.specs.Prelude.{◌≡◌, ◌⊎◌, ℕ, suc, ◌≤◌, length, IfOk, OnErr};
+ghost use Rattle.std.specs.Prelude.{◌≡◌, ◌⊎◌, ℕ, suc, ◌≤◌, length, IfOk};
 ghost use Rattle.xw_words.specs.Dictionary.{best_grade};
 ghost use Rattle.xw_feas.specs.Count.{number};
-ghost use Rattle.xw_fill.specs.Allowance.{IsCounted, HasPlacedWithin};
+ghost use Rattle.xw_fill.specs.Allowance.{HasPlacedWithin};
 ghost use Rattle.xw_fill.specs.OfState.{light_count};
 ghost use Rattle.xw_fill.specs.Inner.OfState.{IsPlan};
 ghost use Rattle.xw_fill.specs.NamedFill.{flags};
 ghost use Rattle.xw_fill.specs.Best.{IsBound};
-ghost use Rattle.xw_feas.specs.Snapshot.{IsTwin};
-ghost use Rattle.xw_fill.specs.Inner.Stack.{IsReady};
+ghost use Rattle.xw_feas.specs.Snapshot.{CanSave};
 ghost use Rattle.xw_fill.specs.Inner.Climbing.{DiffersInLeast, IsDeadAt, AreAliveAt, AreActiveAt, IsProber, IsProbed};
 
 use crate::allowance::Allowance;
@@ -77,29 +76,29 @@ fn greatest_grade<E: Feasible>(engine: &mut E, watched: &[bool], fresh: &[bool],
 /// What the probes of a search for the best fill share.
 /// - `fresh`: a flag for each light that was not wholly entered at the start.
 /// - `least`: the least grade of active words.
-/// - `stack`: the stack of each probe, whose snapshots stay from probe to probe.
+/// - `stack`: the stack of each probe.
 /// - `last`: what `try_known` found last. It takes no memory: it tells the prover what the search has to offer.
 /// - `tries`: how many known fills were tried. It takes no memory either.
 #[derive(Drop)]
-pub struct Prober<E: Searchable> {
+pub struct Prober {
     pub plan: Plan,
     pub fresh: Vec<bool>,
     pub least: u8,
-    stack: Stack<E, Frame>,
+    stack: Stack<Frame>,
     last: Snapshot<Probe>,
     tries: Count,
 }
 
-impl<E: Searchable> Prober<E> {
+impl Prober {
     /// The prober for the lights of a plan.
-    pub fn new(alloc: Global, engine: &E, plan: Plan) -> Result<Prober<E>, AllocError>
+    pub fn new<E: Feasible>(alloc: Global, engine: &E, plan: Plan) -> Result<Prober, AllocError>
         requires plan { IsPlan (E.state engine.now) plan }
-        ensures prober { IfOk result (λ prober. IsProber E.saved prober (E.state engine.now)) }
+        ensures prober { IfOk result (λ prober. IsProber prober (E.state engine.now)) }
         ensures plan { IfOk result (λ prober. prober.plan ≡ plan) }
         ensures tries { IfOk result (λ prober. number prober.tries ≡ 0) }
     {
         let fresh = fresh_lights(alloc, engine)?;
-        let stack = stack_for(alloc, engine, &plan)?;
+        let stack = stack_for(alloc, &plan)?;
         Ok(Prober {
             plan,
             fresh,
@@ -110,8 +109,9 @@ impl<E: Searchable> Prober<E> {
         })
     }
 
-    /// Looks for a fill with the words of a grade and better. The least grade of active words stays as it was.
-    pub fn probe(
+    /// Looks for a fill with the words of a grade and better. The least grade of active words stays as it was if it finds one;
+    /// otherwise the caller goes back to the start.
+    pub fn probe<E: Searchable>(
         &mut self,
         alloc: Global,
         engine: &mut E,
@@ -119,60 +119,61 @@ impl<E: Searchable> Prober<E> {
         effort: &mut Effort,
         allowance: &mut Allowance,
     ) -> Result<Probe, AllocError>
-        requires prober { IsProber E.saved self.old (E.state engine.old) }
+        requires prober { IsProber self.old (E.state engine.old) }
         requires above { self.old.least ≤ grade }
         requires graded { grade ≤ best_grade }
-        ensures prober { IsProber E.saved self.new (E.state engine.old) }
+        ensures prober { IsProber self.new (E.state engine.old) }
         ensures plan { self.new.plan ≡ self.old.plan }
         ensures fresh { self.new.fresh ≡ self.old.fresh }
         ensures least { self.new.least ≡ self.old.least }
-        ensures counted { IsCounted allowance.old allowance.new (E.state engine.old) (E.state engine.new) }
+        ensures made { allowance.old.made ≤ allowance.new.made }
+        ensures total { allowance.new.limit ≡ allowance.old.limit }
         ensures until { allowance.new.until ≡ allowance.old.until }
         ensures limit { result ≡ Ok Probe.Limit → allowance.new.made ≡ allowance.new.until }
         ensures ok { IfOk result (IsProbed (flags self.old.plan.named.items) (E.state engine.old) grade (E.state engine.new)) }
-        ensures unchanged { OnErr result (E.state engine.new ≡ E.state engine.old) }
+        ensures idle { (least : ℕ) → result ≡ Ok (Probe.Filled least) → allowance.new.made ≡ allowance.old.made → E.state engine.new ≡ E.state engine.old }
+        ensures saved { CanSave (E.state engine.old) (E.state engine.new) }
         ensures within { HasPlacedWithin allowance.old allowance.new (E.placed engine.old) (E.placed engine.new) }
         ensures tries { number self.new.tries ≡ number self.old.tries }
     {
         choose_least(engine, grade);
         let plan = &self.plan;
-        let filling = fill_planned(alloc, engine, &mut self.stack, plan, effort, allowance);
-        let watched = self.plan.watched.as_slice();
-        let fresh = self.fresh.as_slice();
-        let probe = match filling {
-            Ok(filling) => Ok(match filling {
-                Filling::Filled => Probe::Filled(greatest_grade(engine, watched, fresh, grade)),
-                Filling::NoFill => Probe::NoFill,
-                Filling::Limit => Probe::Limit,
-            }),
-            Err(failed) => Err(failed),
-        };
-        choose_least(engine, self.least);
-        probe
+        let filling = fill_planned(alloc, engine, &mut self.stack, plan, effort, allowance)?;
+        match filling {
+            Filling::Filled => {
+                let watched = self.plan.watched.as_slice();
+                let fresh = self.fresh.as_slice();
+                let found = greatest_grade(engine, watched, fresh, grade);
+                choose_least(engine, self.least);
+                Ok(Probe::Filled(found))
+            }
+            Filling::NoFill => Ok(Probe::NoFill),
+            Filling::Limit => Ok(Probe::Limit),
+        }
     }
 
-    /// Looks whether some entries of the cells to fill are a fill, and counts a try. Answers `Filled` if they are, and `Limit` if not.
-    pub fn try_known(
+    /// Looks whether some entries of the cells to fill are a fill, and counts a try. Answers `Filled` if they are, and `Limit` if
+    /// not. Then, and if an allocation fails, the caller goes back to the start.
+    pub fn try_known<E: Feasible>(
         &mut self,
         alloc: Global,
         engine: &mut E,
         entries: &[Option<Letter>],
     ) -> Result<Probe, AllocError>
-        requires prober { IsProber E.saved self.old (E.state engine.old) }
-        ensures prober { IsProber E.saved self.new (E.state engine.old) }
+        requires prober { IsProber self.old (E.state engine.old) }
+        ensures prober { IsProber self.new (E.state engine.old) }
         ensures plan { self.new.plan ≡ self.old.plan }
         ensures fresh { self.new.fresh ≡ self.old.fresh }
         ensures least { self.new.least ≡ self.old.least }
         ensures ok { IfOk result (IsProbed (flags self.old.plan.named.items) (E.state engine.old) self.old.least (E.state engine.new)) }
         ensures last { IfOk result (λ probe. self.new.last.value ≡ probe) }
-        ensures unchanged { OnErr result (E.state engine.new ≡ E.state engine.old) }
+        ensures saved { CanSave (E.state engine.old) (E.state engine.new) }
         ensures count { E.placed engine.new ≡ E.placed engine.old }
         ensures tries { number self.new.tries ≡ suc (number self.old.tries) }
     {
         self.tries.raise();
-        let plan = &self.plan;
         let fresh = self.fresh.as_slice();
-        let is_fill = enter(alloc, engine, &mut self.stack, plan, fresh, entries)?;
+        let is_fill = enter(alloc, engine, &self.plan, fresh, entries)?;
         if !is_fill {
             self.last = Snapshot::of(&Probe::Limit);
             return Ok(Probe::Limit);
@@ -187,21 +188,19 @@ impl<E: Searchable> Prober<E> {
     }
 
     /// Fills the cells of the named lights that are empty now. Only entries change.
-    fn fill_empty(
+    fn fill_empty<E: Searchable>(
         &mut self,
         alloc: Global,
         engine: &mut E,
         effort: &mut Effort,
         allowance: &mut Allowance,
     ) -> Result<Filling, AllocError>
-        requires ready { IsReady E.saved self.old.stack (E.state engine.old) }
-        ensures ready { IsReady E.saved self.new.stack (E.state engine.old) }
         ensures plan { self.new.plan ≡ self.old.plan }
         ensures fresh { self.new.fresh ≡ self.old.fresh }
         ensures least { self.new.least ≡ self.old.least }
         ensures made { allowance.old.made ≤ allowance.new.made }
         ensures limit { allowance.new.limit ≡ allowance.old.limit }
-        ensures twin { IsTwin (E.state engine.old) (E.state engine.new) }
+        ensures saved { CanSave (E.state engine.old) (E.state engine.new) }
         ensures within { HasPlacedWithin allowance.old allowance.new (E.placed engine.old) (E.placed engine.new) }
         ensures tries { number self.new.tries ≡ number self.old.tries }
     {
@@ -210,32 +209,29 @@ impl<E: Searchable> Prober<E> {
         fill_planned(alloc, engine, &mut self.stack, &plan, effort, allowance)
     }
 
-    /// Enters the fill of which a part is emptied, and fills the part with the words of its grade and better. Only
-    /// entries change, and nothing is promised of them: the caller goes back to the start.
-    pub fn fill_part(
+    /// Enters the fill of which a part is emptied, and fills the part with the words of its grade and better. Only entries
+    /// and the least grade change, and nothing is promised of them: the caller goes back to the start.
+    pub fn fill_part<E: Searchable>(
         &mut self,
         alloc: Global,
         engine: &mut E,
         parts: &mut Parts,
         allowance: &mut Allowance,
     ) -> Result<Filling, AllocError>
-        requires prober { IsProber E.saved self.old (E.state engine.old) }
-        ensures prober { IsProber E.saved self.new (E.state engine.old) }
+        requires prober { IsProber self.old (E.state engine.old) }
+        ensures prober { IsProber self.new (E.state engine.old) }
         ensures plan { self.new.plan ≡ self.old.plan }
         ensures fresh { self.new.fresh ≡ self.old.fresh }
         ensures least { self.new.least ≡ self.old.least }
         ensures made { allowance.old.made ≤ allowance.new.made }
         ensures limit { allowance.new.limit ≡ allowance.old.limit }
-        ensures twin { IsTwin (E.state engine.old) (E.state engine.new) }
+        ensures saved { CanSave (E.state engine.old) (E.state engine.new) }
         ensures within { HasPlacedWithin allowance.old allowance.new (E.placed engine.old) (E.placed engine.new) }
         ensures tries { number self.new.tries ≡ number self.old.tries }
     {
         let list = written_of(alloc, engine, &self.plan, &parts.entries)?;
         write(engine, &list);
-        let least = self.least;
         choose_least(engine, parts.grade);
-        let filling = self.fill_empty(alloc, engine, &mut parts.effort, allowance);
-        choose_least(engine, least);
-        filling
+        self.fill_empty(alloc, engine, &mut parts.effort, allowance)
     }
 }

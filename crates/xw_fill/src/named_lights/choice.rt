@@ -130,59 +130,62 @@ pub fn next_cell<E: Feasible>(
     best
 }
 
-/// How many feasible words of a light have a letter at a cell, or their weight; 0 if the light does not pass through
-/// it.
-fn tally_at<E: Searchable>(
+/// How promising each letter of a set is at a cell for one of its lights; 0 if there is no such light.
+fn promises_in<E: Searchable>(
     engine: &E,
     light: Option<usize>,
     cell: usize,
-    letter: Letter,
+    letters: LetterSet,
     weighted: bool,
-) -> u64
+) -> [u64; 26]
     requires { IfSome light (λ light. light < light_count (E.state engine.now)) }
 {
     let Some(light) = light else {
-        return 0;
+        return [0; 26];
     };
     let cells = board(engine).light(light);
     for position in 0..cells.len() {
         if cells.at(position) == cell {
-            if weighted {
-                return engine.promise(light, position, letter);
-            }
-            return engine.tally(light, position, letter) as u64;
+            return engine.promises(light, position, letters, weighted);
         }
     }
-    0
+    [0; 26]
 }
 
-/// How promising a letter is at a cell: the product of how many words it leaves to each light, plus one. If
+/// How promising each letter of a set is at a cell: the product of how many words it leaves to each light, plus one. If
 /// `weighted`, words of better grades count for more.
-fn promise_of<E: Searchable>(engine: &E, cell: usize, letter: Letter, weighted: bool) -> u64
+fn promises_at<E: Searchable>(
+    engine: &E,
+    cell: usize,
+    letters: LetterSet,
+    weighted: bool,
+) -> [u64; 26]
     requires { is_open (board_of (E.state engine.now).grid) cell ≡ true }
 {
     let (across, down) = board(engine).lights_at(cell);
-    let across = tally_at(engine, across, cell, letter, weighted).saturating_add(1);
-    let down = tally_at(engine, down, cell, letter, weighted).saturating_add(1);
-    across.saturating_mul(down)
+    let across = promises_in(engine, across, cell, letters, weighted);
+    let down = promises_in(engine, down, cell, letters, weighted);
+    let mut promises = [0; 26];
+    for index in 0..26usize {
+        let across = across[index].saturating_add(1);
+        promises[index] = across.saturating_mul(down[index].saturating_add(1));
+    }
+    promises
 }
 
-/// Whether more than one of the letters was not tried. The last one needs no promise.
-fn has_several(letters: LetterSet, tried: LetterSet) -> bool {
-    let mut has_one = false;
+/// The letters of a set that were not tried.
+fn untried(letters: LetterSet, tried: LetterSet) -> LetterSet {
+    let mut left = letters;
     for index in 0..26 {
         let letter = Letter::at(index);
-        if letters.has(letter) && !tried.has(letter) {
-            if has_one {
-                return true;
-            }
-            has_one = true;
+        if tried.has(letter) {
+            left.remove(letter);
         }
     }
-    false
+    left
 }
 
-/// The most promising feasible letter of an open cell that was not tried.
+/// The most promising feasible letter of an open cell that was not tried. The last one needs no promise.
 pub fn next_letter<E: Searchable>(
     engine: &E,
     cell: usize,
@@ -194,17 +197,17 @@ pub fn next_letter<E: Searchable>(
     ensures none { IfNone result (HasNoLetter (E.state engine.now) cell tried) }
 {
     let letters = letters_at(engine, cell);
-    let is_choice = has_several(letters, tried);
+    let left = untried(letters, tried);
+    let mut promises = [0; 26];
+    if left.len() > 1 {
+        promises = promises_at(engine, cell, left, weighted);
+    }
     let mut best = None;
     let mut most = 0;
     for number in 0..26 {
         let letter = Letter::at(number);
         if letters.has(letter) && !tried.has(letter) {
-            let promise = if is_choice {
-                promise_of(engine, cell, letter, weighted)
-            } else {
-                0
-            };
+            let promise = promises[number as usize];
             if best.is_none() || promise > most {
                 best = Some(letter);
                 most = promise;

@@ -1,19 +1,16 @@
 //! One run of the search: depth first by letters, until a fill, a cut or the end.
 ghost use Rattle.std.specs.Prelude.{◌≡◌, ◌<◌, ℕ, suc, length, true, false, ◌||◌, ◌==◌, [], IfOk, OnOk, OnErr};
 ghost use Rattle.xw_letters.specs.LetterSet.{has};
-ghost use Rattle.xw_feas.specs.Board.{board_of};
-ghost use Rattle.xw_feas.specs.Snapshot.{IsTwin};
 ghost use Rattle.xw_fill.specs.Position.{DiffersInEntries};
 ghost use Rattle.xw_fill.specs.Allowance.{IsCounted, HasPlaced, HasPlacedWithin};
-ghost use Rattle.xw_fill.specs.OfState.{light_count, IsFillOf};
-ghost use Rattle.xw_fill.specs.Inner.OfState.{HasNone, IsPlan, IsOpen, IsRefuted, AreAlive, IsApartAt};
-ghost use Rattle.xw_fill.specs.Inner.Stack.{start_of, IsReady, StandsAt};
-ghost use Rattle.xw_fill.specs.Marks.{CanMark};
+ghost use Rattle.xw_fill.specs.OfState.{IsFillOf};
+ghost use Rattle.xw_fill.specs.Inner.OfState.{HasNone, IsPlan, IsOpen, AreAlive};
+ghost use Rattle.xw_fill.specs.Inner.Stack.{first_or, LeadThrough};
 ghost use Rattle.xw_fill.specs.NamedFill.{flags};
-ghost use Rattle.xw_fill.specs.Inner.Progress.{entries_of, CanBeEntered, is_forced, IsLetterEntered, IsTried};
+ghost use Rattle.xw_fill.specs.Inner.Progress.{entries_of, CanBeEntered, IsLetterEntered, IsTried};
 
 use crate::allowance::Allowance;
-use crate::named_lights::checks::{first_dead, has_repeat_at};
+use crate::named_lights::checks::has_repeat_at;
 use crate::named_lights::choice::{is_only_letter, next_cell, next_letter};
 use crate::named_lights::frame::Frame;
 use crate::named_lights::plan::Plan;
@@ -89,46 +86,25 @@ fn blame(weights: &mut Vec<u64>, light: usize)
     }
 }
 
-/// Whether the letter that was entered in a cell rules out a fill: a watched light has no feasible word, or a word is
-/// repeated. Counts a failure of a light in the first case.
-fn is_refuted<E: Searchable>(
-    engine: &E,
-    watched: &[bool],
-    weights: &mut Vec<u64>,
-    cell: usize,
-) -> bool
-    requires long { length watched.now ≡ light_count (E.state engine.now) }
-    requires cell { cell < length (board_of (E.state engine.now).grid).open_cells }
-    ensures refuted { result ≡ true → IsRefuted (flags watched.now) (E.state engine.now) }
-    ensures alive { result ≡ false → AreAlive (flags watched.now) (E.state engine.now) }
-    ensures apart { result ≡ false → IsApartAt (E.state engine.now) cell }
-{
-    if let Some(light) = first_dead(engine, watched) {
-        blame(weights, engine.emptied().unwrap_or(light));
-        return true;
-    }
-    has_repeat_at(engine, cell)
-}
-
 /// Tries the letter of a frame, which is a placement. Returns whether the letter stays; if not, the search is back
 /// where it was.
 fn try_letter<E: Searchable>(
     engine: &mut E,
-    stack: &mut Stack<E, Frame>,
+    stack: &mut Stack<Frame>,
     plan: &Plan,
     weights: &mut Vec<u64>,
     frame: Frame,
     allowance: &mut Allowance,
 ) -> Result<bool, AllocError>
     requires can { CanBeEntered frame (E.state engine.old) }
-    requires long { length plan.now.watched.items ≡ light_count (E.state engine.old) }
-    requires stands { StandsAt E.saved IsLetterEntered is_forced stack.old (E.state engine.old) }
+    requires alive { AreAlive (flags plan.now.watched.items) (E.state engine.old) }
+    requires stands { LeadThrough IsLetterEntered stack.old.placements.items (E.levels engine.old) (E.state engine.old) }
     requires left { allowance.old.made < allowance.old.until }
     ensures made { allowance.new.made ≡ suc allowance.old.made }
     ensures until { allowance.new.until ≡ allowance.old.until }
     ensures limit { allowance.new.limit ≡ allowance.old.limit }
-    ensures stands { StandsAt E.saved IsLetterEntered is_forced stack.new (E.state engine.new) }
-    ensures start { start_of E.saved stack.new ≡ start_of E.saved stack.old }
+    ensures stands { LeadThrough IsLetterEntered stack.new.placements.items (E.levels engine.new) (E.state engine.new) }
+    ensures start { first_or (E.levels engine.new) (E.state engine.new) ≡ first_or (E.levels engine.old) (E.state engine.old) }
     ensures entries { DiffersInEntries (E.state engine.old) (E.state engine.new) }
     ensures tried { IfOk result (λ stands. IsTried (flags plan.now.watched.items) frame stands (E.state engine.old) stack.old.placements.items (E.state engine.new) stack.new.placements.items) }
     ensures placed { OnOk result (E.placed engine.new ≡ suc (E.placed engine.old)) }
@@ -136,12 +112,13 @@ fn try_letter<E: Searchable>(
 {
     let cell = frame.cell;
     allowance.count();
+    engine.tell(allowance.news());
     let dead = stack.try_place(engine, frame, &plan.watched)?;
     if let Some(light) = dead {
         blame(weights, engine.emptied().unwrap_or(light));
         return Ok(false);
     }
-    if is_refuted(engine, &plan.watched, weights, cell) {
+    if has_repeat_at(engine, cell) {
         let _ = stack.back(engine);
         return Ok(false);
     }
@@ -161,7 +138,7 @@ fn with_letter(letters: LetterSet, letter: Letter) -> LetterSet
 /// placement is left, or `cut` letters have failed. `stack` has the cells with letters.
 fn search<E: Searchable>(
     engine: &mut E,
-    stack: &mut Stack<E, Frame>,
+    stack: &mut Stack<Frame>,
     plan: &Plan,
     effort: &mut Effort,
     cut: u64,
@@ -169,11 +146,10 @@ fn search<E: Searchable>(
 ) -> Ending
     requires plan { IsPlan (E.state engine.old) plan.now }
     requires open { IsOpen (flags plan.now.named.items) (E.state engine.old) (entries_of (E.state engine.old)) }
-    requires stands { StandsAt E.saved IsLetterEntered is_forced stack.old (E.state engine.old) }
     requires empty { stack.old.placements.items ≡ [] }
-    ensures twin { IsTwin (start_of E.saved stack.new) (E.state engine.new) }
-    ensures marks { CanMark E.saved stack.new.marks (E.state engine.new) }
-    ensures start { start_of E.saved stack.new ≡ start_of E.saved stack.old }
+    requires levels { E.levels engine.old ≡ [] }
+    ensures stands { LeadThrough IsLetterEntered stack.new.placements.items (E.levels engine.new) (E.state engine.new) }
+    ensures start { first_or (E.levels engine.new) (E.state engine.new) ≡ E.state engine.old }
     ensures entries { DiffersInEntries (E.state engine.old) (E.state engine.new) }
     ensures counted { IsCounted allowance.old allowance.new (E.state engine.old) (E.state engine.new) }
     ensures placed { (result ≡ Ending.Memory → ⊥) → HasPlaced allowance.old allowance.new (E.placed engine.old) (E.placed engine.new) }
@@ -246,7 +222,7 @@ fn search<E: Searchable>(
 /// places.
 pub fn run<E: Searchable>(
     engine: &mut E,
-    stack: &mut Stack<E, Frame>,
+    stack: &mut Stack<Frame>,
     plan: &Plan,
     effort: &mut Effort,
     cut: u64,
@@ -254,8 +230,6 @@ pub fn run<E: Searchable>(
 ) -> Ending
     requires plan { IsPlan (E.state engine.old) plan.now }
     requires open { IsOpen (flags plan.now.named.items) (E.state engine.old) (entries_of (E.state engine.old)) }
-    requires ready { IsReady E.saved stack.old (E.state engine.old) }
-    ensures ready { IsReady E.saved stack.new (E.state engine.old) }
     ensures counted { IsCounted allowance.old allowance.new (E.state engine.old) (E.state engine.new) }
     ensures placed { (result ≡ Ending.Memory → ⊥) → HasPlaced allowance.old allowance.new (E.placed engine.old) (E.placed engine.new) }
     ensures within { HasPlacedWithin allowance.old allowance.new (E.placed engine.old) (E.placed engine.new) }

@@ -1,8 +1,8 @@
 //! Bars: whether an edge is barred, and toggling its orbit.
 ghost use Rattle.std.specs.Prelude.{◌≡◌, ◌<◌, ◌&&◌, not, true, length, slice_get, All, Ok, Err, OnOk, IfErr, OnErr, IsOk};
-ghost use Rattle.xw_grid.specs.Grid.{IsGrid, is_inside, index_of, is_edge, is_open as is_open_cell, is_open_square, is_barred as is_barred_edge, beyond as cell_beyond};
-ghost use Rattle.xw_grid.specs.Edit.{toggle_bar as bar_toggled, with_bar, with_edges};
-ghost use Rattle.xw_grid.specs.Orbit.{moved as moved_cell, images_of, IsEdgeBetween, AreEdgesBetween};
+ghost use Rattle.xw_grid.specs.Grid.{IsGrid, is_inside, index_of, is_edge, is_open, is_open_square, is_barred as spec_is_barred, beyond as spec_beyond};
+ghost use Rattle.xw_grid.specs.Edit.{toggle_bar as spec_toggle_bar, with_bar, with_edges};
+ghost use Rattle.xw_grid.specs.Orbit.{moved as spec_moved, images_of, IsEdgeBetween, AreEdgesBetween};
 
 use crate::cell::{Cell, Edge, Side, Square};
 use crate::fault::GridFault;
@@ -12,7 +12,7 @@ use crate::orbit::edge_between;
 impl Grid {
     /// Whether an edge is barred; false on the border and outside the grid.
     pub fn is_barred(&self, cell: Cell, side: Side) -> bool
-        ensures { result ≡ is_barred_edge self.now cell side }
+        ensures { result ≡ spec_is_barred self.now cell side }
     {
         if !self.contains(cell) || !self.contains(self.beyond(cell, side)) {
             return false;
@@ -26,7 +26,7 @@ impl Grid {
 
     /// Whether a cell and the next one on a side are open, with no bar between them.
     pub(crate) fn joins(&self, cell: Cell, side: Side) -> bool
-        ensures { result ≡ ((is_open_cell self.now cell && is_open_cell self.now (cell_beyond side cell)) && not (is_barred_edge self.now cell side)) }
+        ensures { result ≡ ((is_open self.now cell && is_open self.now (spec_beyond side cell)) && not (spec_is_barred self.now cell side)) }
     {
         if !self.contains(cell) || self.is_last(cell, side) {
             return false;
@@ -43,7 +43,7 @@ impl Grid {
     /// Whether a cell inside the grid is the last one towards a side.
     fn is_last(&self, cell: Cell, side: Side) -> bool
         requires { is_inside self.now cell ≡ true }
-        ensures { result ≡ not (is_inside self.now (cell_beyond side cell)) }
+        ensures { result ≡ not (is_inside self.now (spec_beyond side cell)) }
     {
         match side {
             Side::Right => cell.col >= self.width,
@@ -55,8 +55,8 @@ impl Grid {
     fn index_beyond(&self, index: usize, cell: Cell, side: Side) -> usize
         requires cell { is_inside self.now cell ≡ true }
         requires index { index ≡ index_of self.now cell }
-        requires next { is_inside self.now (cell_beyond side cell) ≡ true }
-        ensures index { result ≡ index_of self.now (cell_beyond side cell) }
+        requires next { is_inside self.now (spec_beyond side cell) ≡ true }
+        ensures index { result ≡ index_of self.now (spec_beyond side cell) }
         ensures within { result < length self.now.squares }
     {
         let _ = cell;
@@ -76,8 +76,8 @@ impl Grid {
 
     /// Whether `toggle_bar` would succeed, or why it would not.
     pub fn judge_bar(&self, cell: Cell, side: Side) -> Result<(), GridFault>
-        ensures ok { OnOk result (IsOk (bar_toggled self.now cell side)) }
-        ensures refused { IfErr result (λ fault. bar_toggled self.now cell side ≡ Err fault) }
+        ensures ok { OnOk result (IsOk (spec_toggle_bar self.now cell side)) }
+        ensures refused { IfErr result (λ fault. spec_toggle_bar self.now cell side ≡ Err fault) }
     {
         if !self.contains(cell) {
             return Err(GridFault::OutOfGrid);
@@ -91,8 +91,8 @@ impl Grid {
     /// Bars the whole orbit of an edge if the edge is free, and otherwise removes all bars of the orbit.
     /// Returns `OutOfGrid`, then `Border` if the edge is on the border of the grid.
     pub fn toggle_bar(&mut self, cell: Cell, side: Side) -> Result<(), GridFault>
-        ensures ok { OnOk result (bar_toggled self.old cell side ≡ Ok self.new) }
-        ensures refused { IfErr result (λ fault. bar_toggled self.old cell side ≡ Err fault) }
+        ensures ok { OnOk result (spec_toggle_bar self.old cell side ≡ Ok self.new) }
+        ensures refused { IfErr result (λ fault. spec_toggle_bar self.old cell side ≡ Err fault) }
         ensures same { OnErr result (self.new ≡ self.old) }
     {
         self.judge_bar(cell, side)?;
@@ -115,7 +115,7 @@ impl Grid {
     /// An edge and its images under one, two and three moves.
     fn edges(&self, cell: Cell, side: Side) -> [Edge; 4]
         requires { is_edge self.now cell side ≡ true }
-        ensures between { AreEdgesBetween (images_of self.now cell) (images_of self.now (cell_beyond side cell)) result }
+        ensures between { AreEdgesBetween (images_of self.now cell) (images_of self.now (spec_beyond side cell)) result }
         ensures inside { All (λ edge. is_edge self.now edge.cell edge.side ≡ true) result }
         ensures grid { IsGrid self.now }
     {
@@ -129,7 +129,7 @@ impl Grid {
     /// The image of an edge: the edge between the images of its two cells.
     fn moved_edge(&self, edge: Edge) -> Edge
         requires { is_edge self.now edge.cell edge.side ≡ true }
-        ensures between { IsEdgeBetween (moved_cell self.now edge.cell) (moved_cell self.now (cell_beyond edge.side edge.cell)) result }
+        ensures between { IsEdgeBetween (spec_moved self.now edge.cell) (spec_moved self.now (spec_beyond edge.side edge.cell)) result }
         ensures inside { is_edge self.now result.cell result.side ≡ true }
     {
         let _ = &self.width;
@@ -153,7 +153,7 @@ impl Grid {
     #[tactic(auto, using(crate::proofs::GridLemmas::inside_steps))]
     fn beyond(&self, cell: Cell, side: Side) -> Cell
         requires { is_inside self.now cell ≡ true }
-        ensures { result ≡ cell_beyond side cell }
+        ensures { result ≡ spec_beyond side cell }
     {
         let _ = &self.width;
         match side {

@@ -1,7 +1,7 @@
 //! Blocks: whether an orbit can be toggled, and toggling it.
 ghost use Rattle.std.specs.Prelude.{◌≡◌, ◌<◌, true, length, All, fold, Ok, Err, OnOk, IfErr, OnErr, IsOk};
 ghost use Rattle.xw_grid.specs.Grid.{IsSquare, is_inside};
-ghost use Rattle.xw_grid.specs.Edit.{turned, turn_at, with_orbit, is_occupied as is_occupied_orbit, toggle_block as block_toggled};
+ghost use Rattle.xw_grid.specs.Edit.{turned, turn_at, with_orbit, is_occupied as spec_is_occupied, toggle_block as spec_toggle_block};
 
 use crate::cell::{Cell, Square};
 use crate::fault::GridFault;
@@ -10,8 +10,8 @@ use crate::grid::Grid;
 impl Grid {
     /// Whether `toggle_block` would succeed, or why it would not.
     pub fn judge_block(&self, cell: Cell) -> Result<(), GridFault>
-        ensures ok { OnOk result (IsOk (block_toggled self.now cell)) }
-        ensures refused { IfErr result (λ fault. block_toggled self.now cell ≡ Err fault) }
+        ensures ok { OnOk result (IsOk (spec_toggle_block self.now cell)) }
+        ensures refused { IfErr result (λ fault. spec_toggle_block self.now cell ≡ Err fault) }
     {
         if !self.contains(cell) {
             return Err(GridFault::OutOfGrid);
@@ -28,8 +28,8 @@ impl Grid {
     /// Returns `OutOfGrid`, then `Occupied` if the orbit would become blocks and one of its cells
     /// holds a letter.
     pub fn toggle_block(&mut self, cell: Cell) -> Result<(), GridFault>
-        ensures ok { OnOk result (block_toggled self.old cell ≡ Ok self.new) }
-        ensures refused { IfErr result (λ fault. block_toggled self.old cell ≡ Err fault) }
+        ensures ok { OnOk result (spec_toggle_block self.old cell ≡ Ok self.new) }
+        ensures refused { IfErr result (λ fault. spec_toggle_block self.old cell ≡ Err fault) }
         ensures same { OnErr result (self.new ≡ self.old) }
     {
         self.judge_block(cell)?;
@@ -41,7 +41,7 @@ impl Grid {
     /// Whether a cell of the orbit holds a letter.
     fn is_occupied(&self, cell: Cell) -> bool
         requires { is_inside self.now cell ≡ true }
-        ensures { result ≡ is_occupied_orbit self.now cell }
+        ensures { result ≡ spec_is_occupied self.now cell }
     {
         self.images(cell)
             .iter()

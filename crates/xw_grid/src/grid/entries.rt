@@ -1,6 +1,6 @@
 //! What the cells of a grid hold, and the edits of their letters.
 ghost use Rattle.std.specs.Prelude.{◌≡◌, Some, None, Ok, Err, OnOk, IfErr, OnErr, IfSome};
-ghost use Rattle.xw_grid.specs.Grid.{IsSquare, is_open as is_open_cell, is_block as is_block_cell, entry as letter_at, square_at};
+ghost use Rattle.xw_grid.specs.Grid.{IsSquare, is_open as spec_is_open, is_block as spec_is_block, entry as spec_entry, square_at};
 ghost use Rattle.xw_grid.specs.Edit.{set_entry};
 ghost use Rattle.xw_grid.specs.declared.cell.Square.TheVariants.{Open};
 ghost use Rattle.xw_letters.specs.Letter.{IsLetter};
@@ -19,7 +19,7 @@ impl Grid {
 
     /// The letter in a cell; `None` if the cell is empty, a block, or outside the grid.
     pub fn entry(&self, cell: Cell) -> Option<Letter>
-        ensures entry { result ≡ letter_at self.now cell }
+        ensures entry { result ≡ spec_entry self.now cell }
         ensures letter { IfSome result (λ letter. IsLetter letter) }
     {
         match self.square(cell) {
@@ -30,14 +30,14 @@ impl Grid {
 
     /// Whether the cell is a block; false outside the grid.
     pub fn is_block(&self, cell: Cell) -> bool
-        ensures { result ≡ is_block_cell self.now cell }
+        ensures { result ≡ spec_is_block self.now cell }
     {
         matches!(self.square(cell), Some(Square::Block))
     }
 
     /// Whether the cell is open; false outside the grid.
     pub fn is_open(&self, cell: Cell) -> bool
-        ensures { result ≡ is_open_cell self.now cell }
+        ensures { result ≡ spec_is_open self.now cell }
     {
         matches!(self.square(cell), Some(Square::Open(_)))
     }

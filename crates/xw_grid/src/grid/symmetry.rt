@@ -1,8 +1,8 @@
 //! The symmetry of a grid: setting it, and the images and the orbit of a cell.
 ghost use Rattle.std.specs.Prelude.{◌≡◌, ◌<◌, true, length, map, All, Ok, Err, OnOk, IfErr, OnErr};
 ghost use Rattle.xw_grid.specs.Grid.{is_inside, index_of};
-ghost use Rattle.xw_grid.specs.Edit.{set_symmetry as symmetry_set};
-ghost use Rattle.xw_grid.specs.Orbit.{moved as moved_cell, images_of, orbit_of};
+ghost use Rattle.xw_grid.specs.Edit.{set_symmetry as spec_set_symmetry};
+ghost use Rattle.xw_grid.specs.Orbit.{moved as spec_moved, images_of, orbit_of};
 
 use crate::cell::{Cell, Symmetry};
 use crate::fault::GridFault;
@@ -13,8 +13,8 @@ impl Grid {
     /// Sets the symmetry for later edits. Blocks and bars stay as they are. Returns `NotSquare` for
     /// quarter turns of a grid that is not square.
     pub fn set_symmetry(&mut self, kind: Symmetry) -> Result<(), GridFault>
-        ensures ok { OnOk result (symmetry_set self.old kind ≡ Ok self.new) }
-        ensures refused { IfErr result (λ fault. symmetry_set self.old kind ≡ Err fault) }
+        ensures ok { OnOk result (spec_set_symmetry self.old kind ≡ Ok self.new) }
+        ensures refused { IfErr result (λ fault. spec_set_symmetry self.old kind ≡ Err fault) }
         ensures same { OnErr result (self.new ≡ self.old) }
     {
         if kind == Symmetry::Quarter && self.width != self.height {
@@ -67,7 +67,7 @@ impl Grid {
     /// The image of a cell under the symmetry.
     pub(crate) fn moved(&self, cell: Cell) -> Cell
         requires { is_inside self.now cell ≡ true }
-        ensures image { result ≡ moved_cell self.now cell }
+        ensures image { result ≡ spec_moved self.now cell }
         ensures inside { is_inside self.now result ≡ true }
     {
         let row = self.height + 1 - cell.row;

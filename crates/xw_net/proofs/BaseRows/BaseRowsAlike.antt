@@ -5,7 +5,7 @@ use Rattle.std.specs.List.{list_all}
 use Rattle.std.specs.Coded.{Coded-set, coded_bool, coded_list}
 use Rattle.std.proofs.Math.Logic.{∥∥₁_elim}
 use Rattle.std.proofs.lemmas.List.{ext_get_or, get_or-map, length-map}
-use Rattle.xw_words.specs.Dictionary.{Dictionary, Entry, row}
+use Rattle.xw_words.specs.Dictionary.{Dictionary, Entry, known_words}
 use Rattle.xw_grid.specs.Light.{lights_of}
 use Rattle.xw_feas.specs.Board.{Board, board_of, entry, light_at, allows, agrees, is_wholly_entered}
 use Rattle.xw_feas.specs.State.{State}
@@ -71,9 +71,9 @@ module _ (before after : State) (words : after.words ≡ before.words) (lights :
       let long : length cells ≡ length others = sym (length-map cells (entry (board_of before.grid))) ∙ ap length same ∙ length-map others (entry (board_of after.grid)) in
       sym (bits_are target.base.items light)
       ∙ own light (omega (arith, below, ap length lights, length-lights before.grid))
-      ∙ base_alike (board_of before.grid) (board_of after.grid) cells others (row before.words (length cells)) same
-      ∙ ap (λ (w : Dictionary). base_bits (board_of after.grid) others (row w (length cells))) (sym words)
-      ∙ ap (λ len. base_bits (board_of after.grid) others (row after.words len)) long
+      ∙ base_alike (board_of before.grid) (board_of after.grid) cells others (known_words before.words (length cells)) same
+      ∙ ap (λ (w : Dictionary). base_bits (board_of after.grid) others (known_words w (length cells))) (sym words)
+      ∙ ap (λ len. base_bits (board_of after.grid) others (known_words after.words len)) long
       ∙ sym (settled.filled.is_base light (omega (arith, below, length-lights after.grid)))
       ∙ bits_are net.base.items light
 

@@ -5,6 +5,7 @@ use Rattle.std.proofs.lemmas.Bool.{cases_Bool, cases_eq, cases_lt, both_ways, an
 use Rattle.std.proofs.lemmas.List.{get_or_default, get_or_past}
 use Rattle.xw_words.specs.Dictionary.{Entry, entry_at, no_entry}
 use Rattle.xw_feas.specs.Board.{Board, entry, allows, agrees, is_wholly_entered}
+use Rattle.xw_feas.proofs.BoardLemmas.{agrees_at}
 use Rattle.xw_net.specs.Base.{KeepsAgreeing, KeepsEntry, HasOneMore, base_bits, is_base_word, has_entry}
 use Rattle.xw_net.proofs.Edits.KeptBaseWords.{HaveSameEntries, entered_same}
 use Rattle.xw_net.proofs.Revivals.StartIsRevival.{empty_not_whole}
@@ -49,12 +50,6 @@ module _ (board : Board) (cells : List ℕ) (entries : ℕ → List Entry) (cell
     parts index on = and_parts _ _ (sym (agreeing index) ∙ on)
 
 -- ---- all positions
-
-agrees_at : (board : Board) (cells word : List ℕ) → agrees board cells word ≡ true → (k : ℕ) → k < length cells → allows (entry board (get_or cells k 0)) (get_or word k 0) ≡ true
-agrees_at board [] word all k below = absurd (omega (arith, below))
-agrees_at board (cell ∷ cells) [] all k below = let never : false ≡ true = all in cc
-agrees_at board (cell ∷ cells) (letter ∷ letters) all zero below = (and_parts _ _ all).0
-agrees_at board (cell ∷ cells) (letter ∷ letters) all (suc k) below = agrees_at board cells letters (and_parts _ _ all).1 k (omega (arith, below))
 
 agrees_all : (board : Board) (cells word : List ℕ) → length word ≡ length cells → ((k : ℕ) → k < length cells → allows (entry board (get_or cells k 0)) (get_or word k 0) ≡ true) → agrees board cells word ≡ true
 agrees_all board [] [] long each = refl

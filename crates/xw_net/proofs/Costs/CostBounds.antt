@@ -2,7 +2,7 @@
 -- are at most the cost of the set.
 use Rattle.std.proofs.Common.{◌≡◌, ℕ, zero, suc, ◌+◌, ◌*◌, ◌<◌, ◌≤◌, Bool, true, false, cond, List, length, refl, ◌∙◌, arith}
 use Rattle.std.proofs.lemmas.Nat.{mul-le}
-use Rattle.xw_words.specs.Dictionary.{row}
+use Rattle.xw_words.specs.Dictionary.{known_words}
 use Rattle.xw_feas.specs.Board.{board_of, light_at}
 use Rattle.xw_feas.specs.State.{State}
 use Rattle.xw_feas.specs.WellFormed.{IsLaidOut}
@@ -18,7 +18,7 @@ unfolding sum_to
 sum_to-is f zero = refl
 sum_to-is f (suc n) = omega (arith, sum_to-is f n)
 
-pub revival-is : (state : State) (member : List ℕ → Bool) → revival_cost state member ≡ base_cost (board_of state.grid) (row state.words) (λ light. member (light_at (board_of state.grid) light))
+pub revival-is : (state : State) (member : List ℕ → Bool) → revival_cost state member ≡ base_cost (board_of state.grid) (known_words state.words) (λ light. member (light_at (board_of state.grid) light))
 unfolding base_cost
 revival-is state member =
     sum-indices state (light_revival_cost state.words) member
@@ -53,16 +53,16 @@ settled_cost state member laid_out =
       revival-is state member,
       stripping-is state member,
       sums-le
-          (λ light. cond (member (light_at (board_of state.grid) light)) ((length (light_at (board_of state.grid) light) + 1) * chunks_of (length (row state.words (length (light_at (board_of state.grid) light))))) 0)
+          (λ light. cond (member (light_at (board_of state.grid) light)) ((length (light_at (board_of state.grid) light) + 1) * chunks_of (length (known_words state.words (length (light_at (board_of state.grid) light))))) 0)
           (λ light. cond (member (light_at (board_of state.grid) light)) (strip_cost (board_of state.grid) state.words light) 0)
           (λ light. cond (member (light_at (board_of state.grid) light)) (light_cost state.words (light_at (board_of state.grid) light)) 0)
           (length (board_of state.grid).lights)
           (λ light below. here light below (member (light_at (board_of state.grid) light))),
     ) where
       here : (light : ℕ) → light < length (board_of state.grid).lights → (b : Bool)
-          → cond b ((length (light_at (board_of state.grid) light) + 1) * chunks_of (length (row state.words (length (light_at (board_of state.grid) light))))) 0
+          → cond b ((length (light_at (board_of state.grid) light) + 1) * chunks_of (length (known_words state.words (length (light_at (board_of state.grid) light))))) 0
           + cond b (strip_cost (board_of state.grid) state.words light) 0 ≤ cond b (light_cost state.words (light_at (board_of state.grid) light)) 0
       here light below true =
-          light-le (length (light_at (board_of state.grid) light)) (length (row state.words (length (light_at (board_of state.grid) light))))
-          (chunks_of (length (row state.words (length (light_at (board_of state.grid) light))))) (laid_out.several light below)
+          light-le (length (light_at (board_of state.grid) light)) (length (known_words state.words (length (light_at (board_of state.grid) light))))
+          (chunks_of (length (known_words state.words (length (light_at (board_of state.grid) light))))) (laid_out.several light below)
       here light below false = omega arith

@@ -9,7 +9,7 @@ use Rattle.xw_words.specs.declared.fault.WordFault.{WordFault}
 use Rattle.xw_words.specs.declared.bank.Added.{Added}
 use Rattle.xw_words.specs.declared.bank.Added.TheVariants.{New, Returned}
 use Rattle.xw_letters.specs.Letter.{folded}
-use Rattle.xw_words.specs.Dictionary.{Entry, Dictionary, IsDictionary, row, with_row, entry_at, no_entry, new_entry, returned, struck, add_answer, after_add, strike_answer, after_strike, capped, is_left, limited, all_limited, with_least, is_turned}
+use Rattle.xw_words.specs.Dictionary.{Entry, Dictionary, IsDictionary, known_words, with_row, entry_at, no_entry, new_entry, returned, struck, add_answer, after_add, strike_answer, after_strike, capped, is_left, limited, all_limited, with_least, is_turned}
 use Rattle.xw_words.proofs.DictionaryLemmas.{word-set}
 use Rattle.xw_grid.specs.declared.cell.Cell.{Cell}
 use Rattle.xw_grid.specs.Grid.{Grid, IsGrid, index_of}
@@ -43,11 +43,11 @@ set_past (first ∷ rows) zero entries past = absurd (omega arith)
 set_past (first ∷ rows) (suc at) entries past = ap (λ rest. first ∷ rest) (set_past rows at entries (omega arith))
 
 -- a property of the words of each length, after those of one length were replaced
-row_set : (P : ℕ → List Entry → Type 0) (words : Dictionary) (len : ℕ) (entries : List Entry) (word_len : ℕ) → P len entries → P word_len (row words word_len) → (word_len ≡ len → P len entries → P word_len entries) → P word_len (row (with_row words len entries) word_len)
+row_set : (P : ℕ → List Entry → Type 0) (words : Dictionary) (len : ℕ) (entries : List Entry) (word_len : ℕ) → P len entries → P word_len (known_words words word_len) → (word_len ≡ len → P len entries → P word_len entries) → P word_len (known_words (with_row words len entries) word_len)
 row_set P words len entries word_len there here moved = elim (cases_eq word_len len) [
   | inr apart ↦ subst (P word_len) (sym (get_or-set_other words.rows len word_len entries [] apart)) here
   | inl e ↦ elim (cases_lt len (length words.rows)) [
-    | inl below ↦ subst (P word_len) (sym (ap (λ n. row (with_row words len entries) n) e ∙ get_or-set_same words.rows len entries [] below)) (moved e there)
+    | inl below ↦ subst (P word_len) (sym (ap (λ n. known_words (with_row words len entries) n) e ∙ get_or-set_same words.rows len entries [] below)) (moved e there)
     | inr past ↦ subst (P word_len) (sym (ap (λ (rows : List (List Entry)). get_or rows word_len []) (set_past words.rows len entries past))) here
   ]
 ]
@@ -75,22 +75,22 @@ set_agrees (first ∷ entries) (suc index) entry (suc k) apart = set_agrees entr
 
 -- both facts, for a word given by its length and index
 record AreWordsBut (old new : Dictionary) (word : Option (ℕ × ℕ)) : Type 0 where
-  agree : (word_len index : ℕ) → ¬ IsIndexOf word word_len index → slice_get (row new word_len) index ≡ slice_get (row old word_len) index
-  alike : (word_len : ℕ) → AreSpelledAlike (row old word_len) (row new word_len)
+  agree : (word_len index : ℕ) → ¬ IsIndexOf word word_len index → slice_get (known_words new word_len) index ≡ slice_get (known_words old word_len) index
+  alike : (word_len : ℕ) → AreSpelledAlike (known_words old word_len) (known_words new word_len)
 
 same_words : (old new : Dictionary) (word : Option (ℕ × ℕ)) → new ≡ old → AreWordsBut old new word
 same_words old new word same = record {
-  agree = λ word_len index apart. ap (λ (d : Dictionary). slice_get (row d word_len) index) same;
-  alike = λ word_len k below. ap (λ (d : Dictionary). (entry_at (row d word_len) k).word) same;
+  agree = λ word_len index apart. ap (λ (d : Dictionary). slice_get (known_words d word_len) index) same;
+  alike = λ word_len k below. ap (λ (d : Dictionary). (entry_at (known_words d word_len) k).word) same;
 }
 
-words_but : (old : Dictionary) (len index : ℕ) (entries : List Entry) → AgreeBut index (row old len) entries → AreSpelledAlike (row old len) entries → AreWordsBut old (with_row old len entries) (Some (len, index))
+words_but : (old : Dictionary) (len index : ℕ) (entries : List Entry) → AgreeBut index (known_words old len) entries → AreSpelledAlike (known_words old len) entries → AreWordsBut old (with_row old len entries) (Some (len, index))
 words_but old len index entries agree alike = record {
   agree = λ word_len k apart.
-      row_set (λ n es. ¬ ((len ≡ n) × (index ≡ k)) → slice_get es k ≡ slice_get (row old n) k) old len entries word_len
-      (λ apart'. agree k (λ e. apart' (refl, sym e))) (λ _. refl) (λ e there apart'. subst (λ n. ¬ ((len ≡ n) × (index ≡ k)) → slice_get entries k ≡ slice_get (row old n) k) (sym e) there apart') apart;
+      row_set (λ n es. ¬ ((len ≡ n) × (index ≡ k)) → slice_get es k ≡ slice_get (known_words old n) k) old len entries word_len
+      (λ apart'. agree k (λ e. apart' (refl, sym e))) (λ _. refl) (λ e there apart'. subst (λ n. ¬ ((len ≡ n) × (index ≡ k)) → slice_get entries k ≡ slice_get (known_words old n) k) (sym e) there apart') apart;
   alike = λ word_len.
-      row_set (λ n es. AreSpelledAlike (row old n) es) old len entries word_len alike (λ k below. refl) (λ e there. subst (λ n. AreSpelledAlike (row old n) entries) (sym e) there);
+      row_set (λ n es. AreSpelledAlike (known_words old n) es) old len entries word_len alike (λ k below. refl) (λ e there. subst (λ n. AreSpelledAlike (known_words old n) entries) (sym e) there);
 }
 
 added_but : (old new : Dictionary) (word : List ℕ) (grade : Option ℕ) (answer : Result Added WordFault) → add_answer old word ≡ answer → answered (after_add old (map folded word) grade) answer ≡ Ok new → AreWordsBut old new (index_added (length word) answer)
@@ -98,7 +98,7 @@ added_but old new word grade (Err fault) is h = cc
 added_but old new word grade (Ok (Returned index)) is h =
     let made : after_add old (map folded word) grade (Returned index) ≡ new = cc in
     let len : length (map folded word) ≡ length word = length-map word folded in
-    let entries = row old (length (map folded word)) in
+    let entries = known_words old (length (map folded word)) in
     let again : Entry = returned old.least grade (entry_at entries index) in
     subst (λ (d : Dictionary). AreWordsBut old d (Some (length word, index))) made
     (subst (λ n. AreWordsBut old (after_add old (map folded word) grade (Returned index)) (Some (n, index))) len
@@ -106,11 +106,11 @@ added_but old new word grade (Ok (Returned index)) is h =
 added_but old new word grade (Ok (New index)) is h =
     let made : after_add old (map folded word) grade (New index) ≡ new = cc in
     let len : length (map folded word) ≡ length word = length-map word folded in
-    let entries = row old (length (map folded word)) in
+    let entries = known_words old (length (map folded word)) in
     let entry : Entry = new_entry old.least (map folded word) grade in
     let fresh = new_word old word (subst Rattle.xw_words.specs.Dictionary.IsNew (sym is) tt) in
-    let last : index ≡ length (row old (length word)) = let answer = fresh.answer in cc in
-    let last' : length (row old (length (map folded word))) ≡ index = ap (λ n. length (row old n)) len ∙ sym last in
+    let last : index ≡ length (known_words old (length word)) = let answer = fresh.answer in cc in
+    let last' : length (known_words old (length (map folded word))) ≡ index = ap (λ n. length (known_words old n)) len ∙ sym last in
     subst (λ (d : Dictionary). AreWordsBut old d (Some (length word, index))) made
     (subst (λ n. AreWordsBut old (after_add old (map folded word) grade (New index)) (Some (n, index))) len
     (words_but old (length (map folded word)) index (entries ++ entry ∷ []) (subst (λ p. AgreeBut p entries (entries ++ entry ∷ [])) last' (push_agrees entries entry))
@@ -121,7 +121,7 @@ struck_but old new word (Err fault) h = cc
 struck_but old new word (Ok index) h =
     let made : after_strike old (map folded word) index ≡ new = cc in
     let len : length (map folded word) ≡ length word = length-map word folded in
-    let entries = row old (length (map folded word)) in
+    let entries = known_words old (length (map folded word)) in
     let gone : Entry = struck (entry_at entries index) in
     subst (λ (d : Dictionary). AreWordsBut old d (Some (length word, index))) made
     (subst (λ n. AreWordsBut old (after_strike old (map folded word) index) (Some (n, index))) len
@@ -144,15 +144,15 @@ all_stay least (entry ∷ entries) none =
     let same : limited least entry ≡ entry = λ t. record { word = entry.word; active = active t; struck = entry.struck; grade = entry.grade; regraded = entry.regraded } in
     ap (λ (first : Entry). first ∷ all_limited least entries) same ∙ ap (λ rest. entry ∷ rest) (all_stay least entries parts.1)
 
-row_limited : (grade : ℕ) (words : Dictionary) (len : ℕ) → row (with_least grade words) len ≡ all_limited (capped grade) (row words len)
+row_limited : (grade : ℕ) (words : Dictionary) (len : ℕ) → known_words (with_least grade words) len ≡ all_limited (capped grade) (known_words words len)
 row_limited grade words len = get_or-map_any (all_limited (capped grade)) words.rows len []
 
 -- the known words agree, except for one word and in the lengths in which the least grade turns some
 record AreWordsAfter (old new : Dictionary) (word : Option (ℕ × ℕ)) (turned : ℕ → Bool) (back : Bool) : Type 0 where
-  agree : (word_len index : ℕ) → turned word_len ≡ false → ¬ IsIndexOf word word_len index → slice_get (row new word_len) index ≡ slice_get (row old word_len) index
-  counts : (word_len : ℕ) → turned word_len ≡ true → length (row new word_len) ≡ length (row old word_len)
-  gone : (word_len index : ℕ) → back ≡ false → turned word_len ≡ true → (entry_at (row new word_len) index).active ≡ true → (entry_at (row old word_len) index).active ≡ true
-  alike : (word_len : ℕ) → AreSpelledAlike (row old word_len) (row new word_len)
+  agree : (word_len index : ℕ) → turned word_len ≡ false → ¬ IsIndexOf word word_len index → slice_get (known_words new word_len) index ≡ slice_get (known_words old word_len) index
+  counts : (word_len : ℕ) → turned word_len ≡ true → length (known_words new word_len) ≡ length (known_words old word_len)
+  gone : (word_len index : ℕ) → back ≡ false → turned word_len ≡ true → (entry_at (known_words new word_len) index).active ≡ true → (entry_at (known_words old word_len) index).active ≡ true
+  alike : (word_len : ℕ) → AreSpelledAlike (known_words old word_len) (known_words new word_len)
 
 none_turned : (old new : Dictionary) (word : Option (ℕ × ℕ)) → AreWordsBut old new word → AreWordsAfter old new word (λ word_len. false) false
 none_turned old new word but = record {
@@ -163,12 +163,12 @@ none_turned old new word but = record {
 }
 
 -- without a lower least grade each word that is active was active
-limited_gone : (old : Dictionary) (grade word_len index : ℕ) → IsDictionary old → ltb (capped grade) old.least ≡ false → (entry_at (all_limited (capped grade) (row old word_len)) index).active ≡ true → (entry_at (row old word_len) index).active ≡ true
-limited_gone old grade word_len index is lower now = elim (cases_lt index (length (row old word_len))) [
-  | inr past ↦ absurd (false≢true (sym (ap (λ (entry : Entry). entry.active) (get_or_past (all_limited (capped grade) (row old word_len)) index no_entry (omega (arith, past, length-map (row old word_len) (limited (capped grade)))))) ∙ now))
+limited_gone : (old : Dictionary) (grade word_len index : ℕ) → IsDictionary old → ltb (capped grade) old.least ≡ false → (entry_at (all_limited (capped grade) (known_words old word_len)) index).active ≡ true → (entry_at (known_words old word_len) index).active ≡ true
+limited_gone old grade word_len index is lower now = elim (cases_lt index (length (known_words old word_len))) [
+  | inr past ↦ absurd (false≢true (sym (ap (λ (entry : Entry). entry.active) (get_or_past (all_limited (capped grade) (known_words old word_len)) index no_entry (omega (arith, past, length-map (known_words old word_len) (limited (capped grade)))))) ∙ now))
   | inl below ↦
-      let entry = entry_at (row old word_len) index in
-      let left : is_left (capped grade) (entry_at (row old word_len) index) ≡ true = sym (ap (λ (e : Entry). e.active) (get_or-map (limited (capped grade)) (row old word_len) index no_entry no_entry below)) ∙ now in
+      let entry = entry_at (known_words old word_len) index in
+      let left : is_left (capped grade) (entry_at (known_words old word_len) index) ≡ true = sym (ap (λ (e : Entry). e.active) (get_or-map (limited (capped grade)) (known_words old word_len) index no_entry no_entry below)) ∙ now in
       let parts = and_parts (not entry.struck) (leb (capped grade) entry.grade) left in
       let least = ltb-false (capped grade) old.least lower in
       let few = leb-true (capped grade) entry.grade parts.1 in
@@ -177,12 +177,12 @@ limited_gone old grade word_len index is lower now = elim (cases_lt index (lengt
 
 limited_after : (old : Dictionary) (grade : ℕ) → IsDictionary old → AreWordsAfter old (with_least grade old) None (turns_words old (least_chosen grade)) (brings_back old (least_chosen grade))
 limited_after old grade is = record {
-  agree = λ word_len index still apart. ap (λ entries. slice_get entries index) (row_limited grade old word_len ∙ all_stay (capped grade) (row old word_len) still);
-  counts = λ word_len on. ap length (row_limited grade old word_len) ∙ length-map (row old word_len) (limited (capped grade));
+  agree = λ word_len index still apart. ap (λ entries. slice_get entries index) (row_limited grade old word_len ∙ all_stay (capped grade) (known_words old word_len) still);
+  counts = λ word_len on. ap length (row_limited grade old word_len) ∙ length-map (known_words old word_len) (limited (capped grade));
   gone = λ word_len index lower on now. limited_gone old grade word_len index is lower (sym (ap (λ entries. (entry_at entries index).active) (row_limited grade old word_len)) ∙ now);
   alike = λ word_len k below.
       ap (λ entries. (entry_at entries k).word) (row_limited grade old word_len)
-      ∙ ap (λ (entry : Entry). entry.word) (get_or-map (limited (capped grade)) (row old word_len) k no_entry no_entry below);
+      ∙ ap (λ (entry : Entry). entry.word) (get_or-map (limited (capped grade)) (known_words old word_len) k no_entry no_entry below);
 }
 
 words_after : (before now : State) (action : Action) → after before action ≡ Ok now → IsDictionary before.words → AreWordsAfter before.words now.words (word_changed before.words action) (turns_words before.words action) (brings_back before.words action)

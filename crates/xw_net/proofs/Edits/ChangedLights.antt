@@ -7,9 +7,9 @@ use Rattle.std.proofs.lemmas.List.{get_or_default, get_or-map, length-map, ext_g
 use Rattle.std.proofs.lemmas.Option.{slice_get_within, unwrap_or-slice_get, slice_get-get_or}
 use Rattle.std.proofs.Math.ListN.{get_or-map as get_or-map_any}
 use Rattle.xw_bits.specs.Bits.{RowOfBits}
-use Rattle.xw_words.specs.Dictionary.{Entry, Dictionary, row, entry_at, no_entry, add_answer, strike_answer}
+use Rattle.xw_words.specs.Dictionary.{Entry, Dictionary, known_words, entry_at, no_entry, add_answer, strike_answer}
 use Rattle.xw_grid.specs.declared.cell.Cell.{Cell}
-use Rattle.xw_grid.specs.Grid.{Grid, index_of, is_inside, letter_in, entry as entry_in}
+use Rattle.xw_grid.specs.Grid.{Grid, index_of, is_inside, letter_in, entry as grid_entry}
 use Rattle.xw_feas.specs.Board.{Board, board_of, entry, light_at, is_wholly_entered, allows, agrees, is_open}
 use Rattle.xw_letters.specs.Letter.{is_capital}
 use Rattle.xw_feas.specs.Feasible.{may_stand}
@@ -33,7 +33,7 @@ use Rattle.xw_net.proofs.Edits.ExactFamilies.{exact_may}
 use Rattle.xw_net.proofs.Edits.ChangeFacts.{written_indices}
 use Rattle.xw_net.proofs.Costs.RegionIsClosed.{light_stands}
 use Rattle.xw_net.proofs.Edits.UntouchedLights.{matched}
-use Rattle.xw_net.proofs.Edits.KeptBaseWords.{HaveSameEntries, entered_same}
+use Rattle.xw_net.proofs.Edits.KeptBaseWords.{HaveSameEntries, agrees_same, entered_same}
 use Rattle.xw_net.proofs.Edits.SameLights.{same_is_matching}
 use Rattle.xw_net.proofs.BaseRows.BaseBits.{length-base_bits}
 use Rattle.xw_net.proofs.Edits.KeptByEdits.{IsWrittenAt, entry_after, open_after}
@@ -49,12 +49,12 @@ unmap f (x ∷ xs) (suc k) y below at =
     let rest = unmap f xs k y (omega arith) at in
     (rest.0, (suc rest.1.0, omega (arith, rest.1.1), rest.1.2), rest.2)
 
-pub entries_of : (grid : Grid) (cells : List Cell) (k : ℕ) (listed : Cell × Option ℕ) → k < length (map (with_entry_of grid) cells) → get_or (map (with_entry_of grid) cells) k listed ≡ listed → listed.1 ≡ entry_in grid listed.0
+pub entries_of : (grid : Grid) (cells : List Cell) (k : ℕ) (listed : Cell × Option ℕ) → k < length (map (with_entry_of grid) cells) → get_or (map (with_entry_of grid) cells) k listed ≡ listed → listed.1 ≡ grid_entry grid listed.0
 entries_of grid [] k listed below at = absurd (omega arith)
-entries_of grid (cell ∷ cells) zero listed below at = subst (λ x. x.1 ≡ entry_in grid x.0) at refl
+entries_of grid (cell ∷ cells) zero listed below at = subst (λ x. x.1 ≡ grid_entry grid x.0) at refl
 entries_of grid (cell ∷ cells) (suc k) listed below at = entries_of grid cells k listed (omega arith) at
 
-pub entry_of_board : (grid : Grid) (cell : Cell) → is_inside grid cell ≡ true → entry_in grid cell ≡ entry (board_of grid) (index_of grid cell)
+pub entry_of_board : (grid : Grid) (cell : Cell) → is_inside grid cell ≡ true → grid_entry grid cell ≡ entry (board_of grid) (index_of grid cell)
 entry_of_board grid cell inside = ap (λ b. letter_in (cond b (slice_get grid.squares (index_of grid cell)) None)) inside ∙ sym (entry-square grid (index_of grid cell))
 
 -- lists with the same elements
@@ -112,7 +112,7 @@ module _ (before now : State) (action : Action) (change : Fields) (is : IsChange
       both_ways _ calm ((edited this.listed this.has).queued light in_cells.0 (in_board, in_cells.1) (meets light cell in_cells ∙ sym this.at)))
 
   -- if no word of its length has changed, a light has the same known words as before
-  pub changed_words_same : (light : ℕ) → change.turned (length (light_at new_board light)) ≡ false → is_long change.word (length (light_at new_board light)) ≡ false → row now.words (length (light_at new_board light)) ≡ row before.words (length (light_at new_board light))
+  pub changed_words_same : (light : ℕ) → change.turned (length (light_at new_board light)) ≡ false → is_long change.word (length (light_at new_board light)) ≡ false → known_words now.words (length (light_at new_board light)) ≡ known_words before.words (length (light_at new_board light))
   changed_words_same light still short = same_elements _ _ (λ k. is.entries (length (light_at new_board light)) k still (not_there k change.word refl)) where
     not_there : (k : ℕ) (word : Option (ℕ × ℕ)) → change.word ≡ word → ¬ IsIndexOf change.word (length (light_at new_board light)) k
     not_there k None none found = subst (λ w. IsIndexOf w (length (light_at new_board light)) k) none found
@@ -120,8 +120,8 @@ module _ (before now : State) (action : Action) (change : Fields) (is : IsChange
         let there = subst (λ w. IsIndexOf w (length (light_at new_board light)) k) some found in
         both_ways _ short (ap (λ w. is_long w (length (light_at new_board light))) some ∙ eq-eqb word.0 (length (light_at new_board light)) there.0)
 
-  module _ (calm : (light : ℕ) → light < length new_board.lights → queued light ≡ false → may_have change.word (length (light_at new_board light)) (base_bits new_board (light_at new_board light) (row now.words (length (light_at new_board light)))) ≡ false)
-      (seeds : (light : ℕ) → light < length new_board.lights → queued light ≡ true → is_seed new_board change.word (light_at new_board light) (base_bits new_board (light_at new_board light) (row now.words (length (light_at new_board light)))) ≡ true → seed light ≡ true)
+  module _ (calm : (light : ℕ) → light < length new_board.lights → queued light ≡ false → may_have change.word (length (light_at new_board light)) (base_bits new_board (light_at new_board light) (known_words now.words (length (light_at new_board light)))) ≡ false)
+      (seeds : (light : ℕ) → light < length new_board.lights → queued light ≡ true → is_seed new_board change.word (light_at new_board light) (base_bits new_board (light_at new_board light) (known_words now.words (length (light_at new_board light)))) ≡ true → seed light ≡ true)
       (turned : (light : ℕ) → light < length new_board.lights → change.back ≡ true → change.turned (length (light_at new_board light)) ≡ true → seed light ≡ true) where
     pub changed_entered : (light : ℕ) → light < length new_board.lights → queued light ≡ true → is_wholly_entered new_board (light_at new_board light) ≡ true → seed light ≡ true
     changed_entered light in_board is_queued whole = seeds light in_board is_queued (or_left _ _ whole)
@@ -129,12 +129,12 @@ module _ (before now : State) (action : Action) (change : Fields) (is : IsChange
     -- two rows of known words differ in one word, whose base flag is clear
     record IsRowBut (cells : List ℕ) : Type 0 where
       pub index : ℕ
-      pub inner : index + 1 < length (row now.words (length cells))
-      pub off : get_or (base_bits new_board cells (row now.words (length cells))) index false ≡ false
-      pub others : (k : ℕ) → (k ≡ index → ⊥) → slice_get (row now.words (length cells)) k ≡ slice_get (row before.words (length cells)) k
+      pub inner : index + 1 < length (known_words now.words (length cells))
+      pub off : get_or (base_bits new_board cells (known_words now.words (length cells))) index false ≡ false
+      pub others : (k : ℕ) → (k ≡ index → ⊥) → slice_get (known_words now.words (length cells)) k ≡ slice_get (known_words before.words (length cells)) k
 
     -- the changed word is not a base word of a light that is not a seed
-    pub changed_has_not : (light : ℕ) → light < length new_board.lights → seed light ≡ false → may_have change.word (length (light_at new_board light)) (base_bits new_board (light_at new_board light) (row now.words (length (light_at new_board light)))) ≡ false
+    pub changed_has_not : (light : ℕ) → light < length new_board.lights → seed light ≡ false → may_have change.word (length (light_at new_board light)) (base_bits new_board (light_at new_board light) (known_words now.words (length (light_at new_board light)))) ≡ false
     changed_has_not light in_board no_seed = elim (cases_Bool (queued light)) [
       | inr is_calm ↦ calm light in_board is_calm
       | inl is_queued ↦ false_from_ne_true _ (λ has. both_ways _ no_seed (seeds light in_board is_queued (or_right (is_wholly_entered new_board (light_at new_board light)) _ has)))
@@ -144,12 +144,12 @@ module _ (before now : State) (action : Action) (change : Fields) (is : IsChange
     none_back : (light : ℕ) → light < length new_board.lights → seed light ≡ false → change.turned (length (light_at new_board light)) ≡ true → change.back ≡ false
     none_back light in_board no_seed on = false_from_ne_true _ (λ back. both_ways _ no_seed (turned light in_board back on))
 
-    row_cases : (light : ℕ) → light < length new_board.lights → seed light ≡ false → change.turned (length (light_at new_board light)) ≡ false → (row now.words (length (light_at new_board light)) ≡ row before.words (length (light_at new_board light))) ⊎ IsRowBut (light_at new_board light)
+    row_cases : (light : ℕ) → light < length new_board.lights → seed light ≡ false → change.turned (length (light_at new_board light)) ≡ false → (known_words now.words (length (light_at new_board light)) ≡ known_words before.words (length (light_at new_board light))) ⊎ IsRowBut (light_at new_board light)
     row_cases light in_board no_seed still = by_word change.word refl where
       bits : List Bool
-      bits = base_bits new_board (light_at new_board light) (row now.words (length (light_at new_board light)))
+      bits = base_bits new_board (light_at new_board light) (known_words now.words (length (light_at new_board light)))
 
-      by_word : (word : Option (ℕ × ℕ)) → change.word ≡ word → (row now.words (length (light_at new_board light)) ≡ row before.words (length (light_at new_board light))) ⊎ IsRowBut (light_at new_board light)
+      by_word : (word : Option (ℕ × ℕ)) → change.word ≡ word → (known_words now.words (length (light_at new_board light)) ≡ known_words before.words (length (light_at new_board light))) ⊎ IsRowBut (light_at new_board light)
       by_word None none = inl (changed_words_same light still (ap (λ w. is_long w (length (light_at new_board light))) none))
       by_word (Some word) some = elim (cases_Bool (eqb word.0 (length (light_at new_board light)))) [
         | inr apart ↦ inl (changed_words_same light still (ap (λ w. is_long w (length (light_at new_board light))) some ∙ apart))
@@ -159,7 +159,7 @@ module _ (before now : State) (action : Action) (change : Fields) (is : IsChange
               index = word.1;
               inner = elim (cases_Bool (leb (length bits) (word.1 + 1))) [
                 | inl last ↦ absurd (no (and_from _ _ e (or_left _ _ last)))
-                | inr not_last ↦ subst (λ n. word.1 + 1 < n) (length-base_bits new_board (light_at new_board light) (row now.words (length (light_at new_board light)))) (leb-false (length bits) (word.1 + 1) not_last)
+                | inr not_last ↦ subst (λ n. word.1 + 1 < n) (length-base_bits new_board (light_at new_board light) (known_words now.words (length (light_at new_board light)))) (leb-false (length bits) (word.1 + 1) not_last)
               ];
               off = elim (cases_Bool (get_or bits word.1 false)) [
                 | inl on ↦ absurd (no (and_from _ _ e (or_right (leb (length bits) (word.1 + 1)) _ on)))
@@ -179,10 +179,10 @@ module _ (before now : State) (action : Action) (change : Fields) (is : IsChange
     ]
 
     -- rows of the same length spell the same words
-    spelled_alike : (len : ℕ) → length (row now.words len) ≡ length (row before.words len) → spellings now.words len ≡ spellings before.words len
+    spelled_alike : (len : ℕ) → length (known_words now.words len) ≡ length (known_words before.words len) → spellings now.words len ≡ spellings before.words len
     spelled_alike len long =
-        let new_row = row now.words len in
-        let old_row = row before.words len in
+        let new_row = known_words now.words len in
+        let old_row = known_words before.words len in
         let long_new = length-map new_row (λ (word : Entry). word.word) in
         let long_old = length-map old_row (λ (word : Entry). word.word) in
         ext_get_or [] (map (λ (word : Entry). word.word) new_row) (map (λ (word : Entry). word.word) old_row) (omega arith)
@@ -196,8 +196,8 @@ module _ (before now : State) (action : Action) (change : Fields) (is : IsChange
       | inr still ↦ elim (row_cases light in_board no_seed still) [
         | inl same ↦ ap (map (λ (word : Entry). word.word)) same
         | inr but ↦
-            let new_row = row now.words (length (light_at new_board light)) in
-            let old_row = row before.words (length (light_at new_board light)) in
+            let new_row = known_words now.words (length (light_at new_board light)) in
+            let old_row = known_words before.words (length (light_at new_board light)) in
             let within = slice_get_within old_row (but.index + 1) (get_or new_row (but.index + 1) no_entry) (sym (but.others (but.index + 1) (λ e. absurd (omega arith))) ∙ slice_get-get_or new_row (but.index + 1) no_entry but.inner) in
             let most = at_least new_row old_row but.index (omega arith) but.others in
             let least = at_least old_row new_row but.index (omega (arith, but.inner)) (λ k apart. sym (but.others k apart)) in
@@ -206,8 +206,8 @@ module _ (before now : State) (action : Action) (change : Fields) (is : IsChange
     ]
 
     -- the active flag of a word
-    flag_of : (words : Dictionary) (len choice : ℕ) → get_or (actives words len) choice false ≡ (entry_at (row words len) choice).active
-    flag_of words len choice = get_or-map_any (λ (word : Entry). word.active) (row words len) choice no_entry
+    flag_of : (words : Dictionary) (len choice : ℕ) → get_or (actives words len) choice false ≡ (entry_at (known_words words len) choice).active
+    flag_of words len choice = get_or-map_any (λ (word : Entry). word.active) (known_words words len) choice no_entry
 
     pub changed_active : (light choice : ℕ) → light < length new_board.lights → seed light ≡ false → is_base_at new_board now.words light choice ≡ true → get_or (actives now.words (length (light_at new_board light))) choice false ≡ true → get_or (actives before.words (length (light_at new_board light))) choice false ≡ true
     changed_active light choice in_board no_seed base act = elim (cases_Bool (change.turned (length (light_at new_board light)))) [
@@ -219,13 +219,13 @@ module _ (before now : State) (action : Action) (change : Fields) (is : IsChange
         | inl same ↦ ap (λ (r : List Entry). get_or (map (λ (word : Entry). word.active) r) choice false) (sym same) ∙ act
         | inr but ↦ elim (cases_eq choice but.index) [
           | inl e ↦
-              let bits = base_bits new_board (light_at new_board light) (row now.words (length (light_at new_board light))) in
-              let below : choice < length bits = omega (arith, e, but.inner, length-base_bits new_board (light_at new_board light) (row now.words (length (light_at new_board light)))) in
+              let bits = base_bits new_board (light_at new_board light) (known_words now.words (length (light_at new_board light))) in
+              let below : choice < length bits = omega (arith, e, but.inner, length-base_bits new_board (light_at new_board light) (known_words now.words (length (light_at new_board light)))) in
               let on : get_or bits choice false ≡ true = sym (get_or_append_left bits (is_wholly_entered new_board (light_at new_board light) ∷ []) false choice below) ∙ base in
               absurd (both_ways _ but.off (ap (λ n. get_or bits n false) (sym e) ∙ on))
           | inr apart ↦
-              let new_row = row now.words (length (light_at new_board light)) in
-              let old_row = row before.words (length (light_at new_board light)) in
+              let new_row = known_words now.words (length (light_at new_board light)) in
+              let old_row = known_words before.words (length (light_at new_board light)) in
               let same : get_or new_row choice no_entry ≡ get_or old_row choice no_entry = sym (unwrap_or-slice_get new_row choice no_entry) ∙ ap (λ o. unwrap_or o no_entry) (but.others choice apart) ∙ unwrap_or-slice_get old_row choice no_entry in
               flag_of before.words (length (light_at new_board light)) choice ∙ ap (λ (word : Entry). word.active) (sym same) ∙ sym (flag_of now.words (length (light_at new_board light)) choice) ∙ act
         ]
@@ -233,14 +233,6 @@ module _ (before now : State) (action : Action) (change : Fields) (is : IsChange
     ]
 
 -- ---- base rows
-
-agrees_same : (before after : Board) (cells word : List ℕ) → HaveSameEntries before after cells → agrees after cells word ≡ agrees before cells word
-agrees_same before after [] [] same = refl
-agrees_same before after [] (letter ∷ letters) same = refl
-agrees_same before after (cell ∷ cells) [] same = refl
-agrees_same before after (cell ∷ cells) (letter ∷ letters) same =
-    ap (λ e. allows e letter && agrees after cells letters) (same cell (0, omega arith, refl))
-    ∙ ap (λ b. allows (entry before cell) letter && b) (agrees_same before after cells letters (λ other in_cells. same other (suc in_cells.0, omega (arith, in_cells.1), in_cells.2)))
 
 pub base_bits_same : (before after : Board) (cells : List ℕ) (entries : List Entry) → HaveSameEntries before after cells → base_bits after cells entries ≡ base_bits before cells entries
 base_bits_same before after cells [] same = refl
@@ -258,14 +250,14 @@ module _ (before now : State) (action : Action) (change : Fields) (is : IsChange
       → ((light : ℕ) → light < length (board_of now.grid).lights → change.turned (length (light_at (board_of now.grid) light)) ≡ true → queued light ≡ true)
       → IsBase (board_of before.grid) before.words base_before
       → ((light other : ℕ) → light < length (board_of now.grid).lights → same_light before.grid now.grid light ≡ Some other → is_long change.word (length (light_at (board_of now.grid) light)) ≡ false → bits_in base light ≡ bits_in base_before other)
-      → ((light : ℕ) → light < length (board_of now.grid).lights → is_read (board_of now.grid) change.word queued light ≡ true → bits_in base' light ≡ base_bits (board_of now.grid) (light_at (board_of now.grid) light) (row now.words (length (light_at (board_of now.grid) light))))
+      → ((light : ℕ) → light < length (board_of now.grid).lights → is_read (board_of now.grid) change.word queued light ≡ true → bits_in base' light ≡ base_bits (board_of now.grid) (light_at (board_of now.grid) light) (known_words now.words (length (light_at (board_of now.grid) light))))
       → ((light : ℕ) → is_read (board_of now.grid) change.word queued light ≡ false → bits_in base' light ≡ bits_in base light)
       → IsBase (board_of now.grid) now.words base'
   changed_base base_before base base' turned was moved on off light in_board = elim (cases_Bool (is_read (board_of now.grid) change.word queued light)) [
     | inl read ↦ on light in_board read
     | inr not_read ↦ by_match not_read (same_light before.grid now.grid light) refl
   ] where
-    by_match : is_read (board_of now.grid) change.word queued light ≡ false → (o : Option ℕ) → same_light before.grid now.grid light ≡ o → bits_in base' light ≡ base_bits (board_of now.grid) (light_at (board_of now.grid) light) (row now.words (length (light_at (board_of now.grid) light)))
+    by_match : is_read (board_of now.grid) change.word queued light ≡ false → (o : Option ℕ) → same_light before.grid now.grid light ≡ o → bits_in base' light ≡ base_bits (board_of now.grid) (light_at (board_of now.grid) light) (known_words now.words (length (light_at (board_of now.grid) light)))
     by_match not_read None at = absurd (both_ways _ (or_parts (queued light) _ not_read).0 (new light in_board at))
     by_match not_read (Some other) at =
         let calm = (or_parts (queued light) (is_long change.word (length (light_at (board_of now.grid) light))) not_read).0 in
@@ -274,9 +266,9 @@ module _ (before now : State) (action : Action) (change : Fields) (is : IsChange
         let matching = same_is_matching before.grid now.grid is.width in
         let cells = matching.cells light other in_board at in
         off light not_read ∙ moved light other in_board at short ∙ was other (matching.lights light other in_board at)
-        ∙ ap (λ cs. base_bits (board_of before.grid) cs (row before.words (length cs))) (sym cells)
+        ∙ ap (λ cs. base_bits (board_of before.grid) cs (known_words before.words (length cs))) (sym cells)
         ∙ ap (base_bits (board_of before.grid) (light_at (board_of now.grid) light)) (sym (changed_words_same before now action change is letters queued seed inside edited light still short))
-        ∙ sym (base_bits_same (board_of before.grid) (board_of now.grid) (light_at (board_of now.grid) light) (row now.words (length (light_at (board_of now.grid) light)))
+        ∙ sym (base_bits_same (board_of before.grid) (board_of now.grid) (light_at (board_of now.grid) light) (known_words now.words (length (light_at (board_of now.grid) light)))
         (λ cell in_cells. changed_entry_calm before now action change is letters queued seed inside edited light cell in_board calm in_cells))
 
   -- ---- letters
@@ -390,8 +382,8 @@ module _ (before now : State) (action : Action) (change : Fields) (is : IsChange
     (edited : (listed : Cell × Option ℕ) → Contains change.cells listed → IsEdited (board_of now.grid) start.letters start.queued seed (index_of now.grid listed.0) listed.1)
     (new : (light : ℕ) → light < length (board_of now.grid).lights → same_light before.grid now.grid light ≡ None → start.queued light ≡ true)
     (new_seeds : (light : ℕ) → light < length (board_of now.grid).lights → same_light before.grid now.grid light ≡ None → seed light ≡ true)
-    (calm : (light : ℕ) → light < length (board_of now.grid).lights → start.queued light ≡ false → may_have change.word (length (light_at (board_of now.grid) light)) (base_bits (board_of now.grid) (light_at (board_of now.grid) light) (row now.words (length (light_at (board_of now.grid) light)))) ≡ false)
-    (seeds : (light : ℕ) → light < length (board_of now.grid).lights → start.queued light ≡ true → is_seed (board_of now.grid) change.word (light_at (board_of now.grid) light) (base_bits (board_of now.grid) (light_at (board_of now.grid) light) (row now.words (length (light_at (board_of now.grid) light)))) ≡ true → seed light ≡ true)
+    (calm : (light : ℕ) → light < length (board_of now.grid).lights → start.queued light ≡ false → may_have change.word (length (light_at (board_of now.grid) light)) (base_bits (board_of now.grid) (light_at (board_of now.grid) light) (known_words now.words (length (light_at (board_of now.grid) light)))) ≡ false)
+    (seeds : (light : ℕ) → light < length (board_of now.grid).lights → start.queued light ≡ true → is_seed (board_of now.grid) change.word (light_at (board_of now.grid) light) (base_bits (board_of now.grid) (light_at (board_of now.grid) light) (known_words now.words (length (light_at (board_of now.grid) light)))) ≡ true → seed light ≡ true)
     (turned : (light : ℕ) → light < length (board_of now.grid).lights → change.back ≡ true → change.turned (length (light_at (board_of now.grid) light)) ≡ true → seed light ≡ true)
     (spread : IsSpread (board_of now.grid) settled.letters start.letters seed waiting no_positions)
     (opened : (listed : Cell × Option ℕ) → Contains change.cells listed → is_fill (board_of now.grid) (index_of now.grid listed.0) listed.1 ≡ true → is_open (board_of before.grid) (index_of now.grid listed.0) ≡ true)

@@ -1,7 +1,7 @@
 -- A light whose entries and known words are unchanged has the same base words as before.
 use Rattle.std.proofs.Common.{◌≡◌, ℕ, suc, true, ◌&&◌, List, [], ◌∷◌, refl, ◌∙◌, ap, arith}
 use Rattle.std.specs.Prelude.{Contains, is_some}
-use Rattle.xw_feas.specs.Board.{Board, entry, allows, is_wholly_entered, spelled}
+use Rattle.xw_feas.specs.Board.{Board, entry, allows, agrees, is_wholly_entered, spelled}
 
 -- the cells have the same entries
 abbrev pub HaveSameEntries : Board → Board → List ℕ → Type 0
@@ -29,3 +29,11 @@ spelled_same before after (cell ∷ cells) same =
     let first = same cell (here cell cells) in
     let rest = spelled_same before after cells (λ other in_cells. same other (later other cell cells in_cells)) in
     rw (first, rest) refl
+
+pub agrees_same : (before after : Board) (cells word : List ℕ) → HaveSameEntries before after cells → agrees after cells word ≡ agrees before cells word
+agrees_same before after [] [] same = refl
+agrees_same before after [] (letter ∷ letters) same = refl
+agrees_same before after (cell ∷ cells) [] same = refl
+agrees_same before after (cell ∷ cells) (letter ∷ letters) same =
+    ap (λ e. allows e letter && agrees after cells letters) (same cell (here cell cells))
+    ∙ ap (λ b. allows (entry before cell) letter && b) (agrees_same before after cells letters (λ other in_cells. same other (later other cell cells in_cells)))

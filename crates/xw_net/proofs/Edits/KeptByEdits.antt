@@ -17,7 +17,7 @@ use Rattle.xw_grid.specs.declared.lights.Light.{Light}
 use Rattle.xw_grid.specs.declared.cell.Side.{Side}
 use Rattle.xw_grid.specs.declared.cell.Symmetry.{Symmetry}
 use Rattle.xw_grid.specs.declared.fault.GridFault.TheVariants as grids
-use Rattle.xw_grid.specs.Grid.{Grid, IsGrid, is_inside, is_block, is_barred, is_open_square, letter_in, entry as entry_of, index_of, cells, cell_at}
+use Rattle.xw_grid.specs.Grid.{Grid, IsGrid, is_inside, is_block, is_barred, is_open_square, letter_in, entry as grid_entry, index_of, cells, cell_at}
 use Rattle.xw_grid.specs.Light.{lights_of, cells_of, index_named, no_light}
 use Rattle.xw_grid.specs.Edit.{with_entry, set_entry, set_symmetry, toggle_block, toggle_bar, with_orbit, with_edges, turned, square_of}
 use Rattle.xw_grid.specs.Orbit.{is_in_orbit, orbit_of}
@@ -150,7 +150,7 @@ list_kept grid new list is ok = subst (λ r. IsWrittenAt grid new (map (index_of
   leaves = list_leaves list grid new ok
 
   test : Cell → Bool
-  test cell = not (same_entry (entry_of grid cell) (entry_of new cell))
+  test cell = not (same_entry (grid_entry grid cell) (grid_entry new cell))
 
   kept_at : (index : ℕ) → ¬ Contains (map (index_of grid) (filter test (cells grid))) index → StaysOrOpen (slice_get grid.squares index) (slice_get new.squares index) → slice_get new.squares index ≡ slice_get grid.squares index
   kept_at index outside (inl same) = same
@@ -161,16 +161,16 @@ list_kept grid new list is ok = subst (λ r. IsWrittenAt grid new (map (index_of
         let here : get_or (cells grid) index (cell_at grid index) ≡ cell_at grid index = get_or-map-range_with_len (cell_at grid) 0 (grid.width * grid.height) index index (cell_at grid index) (omega (arith, below, length-cells grid)) (omega arith) in
         let among : Contains (cells grid) (cell_at grid index) = subst (Contains (cells grid)) here (Contains-get_or (cells grid) index (cell_at grid index) below) in
         let inside : is_inside grid (cell_at grid index) ≡ true = cell_at-inside grid index is (omega (arith, below, length-cells grid)) in
-        let entry_old : entry_of grid (cell_at grid index) ≡ one =
+        let entry_old : grid_entry grid (cell_at grid index) ≡ one =
         ap (λ b. letter_in (cond b (slice_get grid.squares (index_of grid (cell_at grid index))) None)) inside ∙ ap (λ p. letter_in (slice_get grid.squares p)) (index_of-cell_at grid index) ∙ ap letter_in old in
-        let entry_new : entry_of new (cell_at grid index) ≡ other =
-        ap (λ (g : Grid). entry_of g (cell_at grid index)) leaves.alone
+        let entry_new : grid_entry new (cell_at grid index) ≡ other =
+        ap (λ (g : Grid). grid_entry g (cell_at grid index)) leaves.alone
         ∙ ap (λ b. letter_in (cond b (slice_get new.squares (index_of grid (cell_at grid index))) None)) inside ∙ ap (λ p. letter_in (slice_get new.squares p)) (index_of-cell_at grid index) ∙ ap letter_in now in
         let same : one ≡ other = elim (cases_Bool (same_entry one other)) [
           | inl alike ↦ same_entries one other alike
           | inr apart ↦ absurd (outside (subst (Contains (map (index_of grid) (filter test (cells grid)))) (index_of-cell_at grid index)
               (contains_mapped (index_of grid) (filter test (cells grid)) (cell_at grid index)
-              (contains_filtered test (cells grid) (cell_at grid index) among (ap (λ e. not (same_entry e (entry_of new (cell_at grid index)))) entry_old ∙ ap (λ e. not (same_entry one e)) entry_new ∙ ap not apart)))))
+              (contains_filtered test (cells grid) (cell_at grid index) among (ap (λ e. not (same_entry e (grid_entry new (cell_at grid index)))) entry_old ∙ ap (λ e. not (same_entry one e)) entry_new ∙ ap not apart)))))
         ] in
         now ∙ ap (λ e. Some (Open e)) (sym same) ∙ sym old
   ]

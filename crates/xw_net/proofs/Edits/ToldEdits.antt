@@ -12,7 +12,7 @@ use Rattle.xw_words.specs.declared.fault.WordFault.{WordFault}
 use Rattle.xw_words.specs.declared.fault.WordFault.TheVariants as faults
 use Rattle.xw_words.specs.declared.bank.Added.{Added}
 use Rattle.xw_words.specs.Word.{is_bad_letter, is_word_length, judged}
-use Rattle.xw_words.specs.Dictionary.{Entry, Dictionary, IsDictionary, row, entry_at, no_entry, add_to, strike_from, answer_on, after_add, after_strike, with_least}
+use Rattle.xw_words.specs.Dictionary.{Entry, Dictionary, IsDictionary, known_words, entry_at, no_entry, add_to, strike_from, answer_on, after_add, after_strike, with_least}
 use Rattle.xw_words.proofs.DictionaryLemmas.{IsDictionary-added, IsDictionary-struck, IsDictionary-with_least, letters_folded}
 use Rattle.xw_grid.specs.declared.lights.Light.{Light}
 use Rattle.xw_grid.specs.Light.{lights_of}
@@ -48,7 +48,7 @@ module _ (words new : Dictionary) (bytes : List ℕ) (is : IsDictionary words) w
 
   added : (grade : Option ℕ) → answered (after_add words word grade) (answer_on add_to words (judged (position is_bad_letter bytes) (length bytes) word)) ≡ Ok new → IsDictionary new
   added grade h = by_letters (position is_bad_letter bytes) refl h where
-    by_answer : position is_bad_letter bytes ≡ None → is_word_length (length bytes) ≡ true → (answer : Result Added WordFault) → add_to (row words (length word)) word ≡ answer → answered (after_add words word grade) answer ≡ Ok new → IsDictionary new
+    by_answer : position is_bad_letter bytes ≡ None → is_word_length (length bytes) ≡ true → (answer : Result Added WordFault) → add_to (known_words words (length word)) word ≡ answer → answered (after_add words word grade) answer ≡ Ok new → IsDictionary new
     by_answer good fits (Err fault) found g = cc
     by_answer good fits (Ok outcome) found g =
         let made : after_add words word grade outcome ≡ new = cc in
@@ -56,7 +56,7 @@ module _ (words new : Dictionary) (bytes : List ℕ) (is : IsDictionary words) w
 
     by_length : position is_bad_letter bytes ≡ None → (fits : Bool) → is_word_length (length bytes) ≡ fits
         → answered (after_add words word grade) (answer_on add_to words (cond fits (Ok word) (Err faults.Length))) ≡ Ok new → IsDictionary new
-    by_length good true fits g = by_answer good fits (add_to (row words (length word)) word) refl g
+    by_length good true fits g = by_answer good fits (add_to (known_words words (length word)) word) refl g
     by_length good false fits g = cc
 
     by_letters : (bad : Option ℕ) → position is_bad_letter bytes ≡ bad → answered (after_add words word grade) (answer_on add_to words (judged bad (length bytes) word)) ≡ Ok new → IsDictionary new
@@ -72,7 +72,7 @@ module _ (words new : Dictionary) (bytes : List ℕ) (is : IsDictionary words) w
         subst IsDictionary made (IsDictionary-struck words word index is (long fits))
 
     by_length : (fits : Bool) → is_word_length (length bytes) ≡ fits → answered (after_strike words word) (answer_on strike_from words (cond fits (Ok word) (Err faults.Length))) ≡ Ok new → IsDictionary new
-    by_length true fits g = by_answer fits (strike_from (row words (length word)) word) g
+    by_length true fits g = by_answer fits (strike_from (known_words words (length word)) word) g
     by_length false fits g = cc
 
     by_letters : (bad : Option ℕ) → answered (after_strike words word) (answer_on strike_from words (judged bad (length bytes) word)) ≡ Ok new → IsDictionary new
@@ -107,12 +107,12 @@ index_long (Some word) len index here = eq-eqb word.0 len here.0
 
 module _ (before now : State) (action : Action) (change : Fields) (is : IsChange before now action change) where
   -- a word that is new is the changed one
-  more_words : (len index : ℕ) → index < length (row now.words len) → length (row before.words len) ≤ index → ¬ IsIndexOf change.word len index → ⊥
+  more_words : (len index : ℕ) → index < length (known_words now.words len) → length (known_words before.words len) ≤ index → ¬ IsIndexOf change.word len index → ⊥
   more_words len index there past apart = elim (cases_Bool (change.turned len)) [
     | inl on ↦ absurd (omega (arith, there, past, is.counts len on))
     | inr still ↦
-        let first = slice_get-get_or (row now.words len) index no_entry there in
-        let second = slice_get_past (row before.words len) index past in
+        let first = slice_get-get_or (known_words now.words len) index no_entry there in
+        let second = slice_get_past (known_words before.words len) index past in
         let same = is.entries len index still apart in
         cc
   ]
@@ -122,10 +122,10 @@ module _ (before now : State) (action : Action) (change : Fields) (is : IsChange
   as_many len = elim (cases_lt (known_counts now.words len) (known_counts before.words len)) [
     | inr enough ↦ enough
     | inl lost ↦
-        let index = length (row now.words len) in
-        let blank : (entry_at (row now.words len) index).word ≡ [] = ap (λ (entry : Entry). entry.word) (get_or_past (row now.words len) index no_entry (omega arith)) in
-        let spelled : length (entry_at (row before.words len) index).word ≡ 0 = ap length (sym (is.spelling len index lost) ∙ blank) in
-        let long : length (entry_at (row before.words len) index).word ≡ len = (is.formed_before.dictionary.words len).long index no_entry lost in
+        let index = length (known_words now.words len) in
+        let blank : (entry_at (known_words now.words len) index).word ≡ [] = ap (λ (entry : Entry). entry.word) (get_or_past (known_words now.words len) index no_entry (omega arith)) in
+        let spelled : length (entry_at (known_words before.words len) index).word ≡ 0 = ap length (sym (is.spelling len index lost) ∙ blank) in
+        let long : length (entry_at (known_words before.words len) index).word ≡ len = (is.formed_before.dictionary.words len).long index no_entry lost in
         let short : len < 2 = omega (arith, spelled, long) in
         omega (arith, lost, ap length (is.formed_before.dictionary.none_shorter len short))
   ]
@@ -138,7 +138,7 @@ module _ (before now : State) (action : Action) (change : Fields) (is : IsChange
   none_short : (len : ℕ) → is_long change.word len ≡ false → known_counts now.words len ≤ known_counts before.words len
   none_short len short = elim (cases_lt (known_counts before.words len) (known_counts now.words len)) [
     | inr few ↦ few
-    | inl many ↦ absurd (more_words len (length (row before.words len)) many (omega arith) (λ here. both_ways (is_long change.word len) short (index_long change.word len (length (row before.words len)) here)))
+    | inl many ↦ absurd (more_words len (length (known_words before.words len)) many (omega arith) (λ here. both_ways (is_long change.word len) short (index_long change.word len (length (known_words before.words len)) here)))
   ]
 
   -- at most one word is new
@@ -146,7 +146,7 @@ module _ (before now : State) (action : Action) (change : Fields) (is : IsChange
   one_more len = elim (cases_lt (known_counts before.words len + 1) (known_counts now.words len)) [
     | inr few ↦ few
     | inl many ↦
-        let last = length (row before.words len) in
+        let last = length (known_words before.words len) in
         absurd (more_words len last (omega (arith, many)) (omega arith) (λ here. more_words len (last + 1) many (omega arith) (λ there. both len last (last + 1) change.word (λ e. omega (arith, e)) here there)))
   ]
 
@@ -161,7 +161,7 @@ module _ (before now : State) (action : Action) (change : Fields) (is : IsChange
   same_counts : change.word ≡ None → SameCounts before.words now.words
   same_counts none len = elim (cases_lt (known_counts before.words len) (known_counts now.words len)) [
     | inr few ↦ omega (arith, few, as_many len)
-    | inl more ↦ absurd (more_words len (length (row before.words len)) more (omega arith) (λ here. subst (λ word. IsIndexOf word len (length (row before.words len))) none here))
+    | inl more ↦ absurd (more_words len (length (known_words before.words len)) more (omega arith) (λ here. subst (λ word. IsIndexOf word len (length (known_words before.words len))) none here))
   ]
 
 -- ---- the conditions

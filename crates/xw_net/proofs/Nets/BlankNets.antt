@@ -7,7 +7,7 @@ use Rattle.std.proofs.lemmas.List.Elements.{All-get_or}
 use Rattle.std.proofs.lemmas.Nat.{mul-le}
 use Rattle.xw_bits.specs.Bits.{RowOfBits}
 use Rattle.xw_letters.specs.Letter.{is_capital}
-use Rattle.xw_words.specs.Dictionary.{Dictionary, IsDictionary, row, most_words}
+use Rattle.xw_words.specs.Dictionary.{Dictionary, IsDictionary, known_words, most_words}
 use Rattle.xw_letters.proofs.LetterSetLemmas.{has-none, capital_is_letter}
 use Rattle.xw_letters.specs.LetterSet.{has}
 use Rattle.xw_grid.specs.Grid.{Grid, IsGrid}
@@ -53,24 +53,24 @@ held_far grid is_grid held is light position letter here capital =
     omega (arith, there)
 
 module _ (grid : Grid) (is_grid : IsGrid grid) (dictionary : Dictionary) (is_dictionary : IsDictionary dictionary) (net : Net)
-    (blank : IsBlank (lights_of grid) (counts_of (row dictionary)) (length grid.squares) net) (room : HasRoom (lights_of grid) (counts_of (row dictionary)) net) where
+    (blank : IsBlank (lights_of grid) (counts_of (known_words dictionary)) (length grid.squares) net) (room : HasRoom (lights_of grid) (counts_of (known_words dictionary)) net) where
   in_lights : (light : ℕ) → light < length (board_of grid).lights → light < length (lights_of grid)
   in_lights light lt = omega (arith, lt, length-lights grid)
 
   few : length (board_of grid).open_cells < 2 ^ 32
   few = omega (arith, length-open_cells grid, is_grid.squares, mul-le grid.width grid.height 255 255 is_grid.wide.1 is_grid.high.1)
 
-  long_bits : (rows : List RowOfBits) → AreFalse (lights_of grid) (counts_of (row dictionary)) rows → (light : ℕ) → light < length (board_of grid).lights
-      → length (bits_in rows light) ≡ length (row dictionary (length (light_at (board_of grid) light)))
+  long_bits : (rows : List RowOfBits) → AreFalse (lights_of grid) (counts_of (known_words dictionary)) rows → (light : ℕ) → light < length (board_of grid).lights
+      → length (bits_in rows light) ≡ length (known_words dictionary (length (light_at (board_of grid) light)))
   long_bits rows are light lt =
       let within = in_lights light lt in
       ap (λ (bits : List Bool). length bits) (bits_are rows light ∙ are.bits light within)
-      ∙ length-replicate (counts_of (row dictionary) (size_at (lights_of grid) light)) false
-      ∙ ap (λ n. length (row dictionary n)) (sym (length-light_at grid light within))
+      ∙ length-replicate (counts_of (known_words dictionary) (size_at (lights_of grid) light)) false
+      ∙ ap (λ n. length (known_words dictionary n)) (sym (length-light_at grid light within))
 
   all_bits : (light : ℕ) → (k : ℕ) × (bits_for net light ≡ replicate k false)
   all_bits light = elim (cases_lt light (length (lights_of grid))) [
-    | inl lt ↦ (counts_of (row dictionary) (size_at (lights_of grid) light), bits_are net.rows.items light ∙ blank.rows.bits light lt)
+    | inl lt ↦ (counts_of (known_words dictionary) (size_at (lights_of grid) light), bits_are net.rows.items light ∙ blank.rows.bits light lt)
     | inr le ↦ (0, bits_are net.rows.items light ∙ ap (λ (r : RowOfBits). r.bits) (get_or_past net.rows.items light no_row (omega (arith, blank.rows.long, le))))
   ]
 
@@ -102,12 +102,12 @@ module _ (grid : Grid) (is_grid : IsGrid grid) (dictionary : Dictionary) (is_dic
   unfolding is_marked
   not_marked light = ap (λ (flags : List Bool). get_or flags light false) blank.chain.marks ∙ all_false (length (lights_of grid)) light
 
-  row_room : (rows : List RowOfBits) → HaveRoom (lights_of grid) (counts_of (row dictionary)) rows → HasRowRoom (board_of grid) (row dictionary) rows
+  row_room : (rows : List RowOfBits) → HaveRoom (lights_of grid) (counts_of (known_words dictionary)) rows → HasRowRoom (board_of grid) (known_words dictionary) rows
   row_room rows have light lt =
       let within = in_lights light lt in
-      omega (arith, have light within, ap (λ n. length (row dictionary n)) (length-light_at grid light within))
+      omega (arith, have light within, ap (λ n. length (known_words dictionary n)) (length-light_at grid light within))
 
-  pub blank_fresh : IsFresh (board_of grid) (row dictionary) net
+  pub blank_fresh : IsFresh (board_of grid) (known_words dictionary) net
   blank_fresh = record {
     whole = record {
       shaped = record {

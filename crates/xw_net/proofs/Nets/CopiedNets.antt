@@ -8,7 +8,7 @@ use Rattle.std.proofs.lemmas.List.FromFn.{fill_by_all}
 use mathlib.Core.HLevel.{Π_prop}
 use mathlib.Core.Bool.{Bool-set}
 use Rattle.xw_bits.specs.Bits.{RowOfBits}
-use Rattle.xw_words.specs.Dictionary.{Dictionary, IsDictionary, row}
+use Rattle.xw_words.specs.Dictionary.{Dictionary, IsDictionary, known_words}
 use Rattle.xw_grid.specs.declared.lights.Light.{Light}
 use Rattle.xw_grid.specs.Grid.{Grid, IsGrid}
 use Rattle.xw_grid.specs.Light.{lights_of}
@@ -21,7 +21,7 @@ use Rattle.xw_feas.proofs.FormedLemmas.{length-light_at}
 use Rattle.xw_net.specs.Inner.Blank.{IsBlank}
 use Rattle.xw_net.specs.Copy.{IsReusable, CanCopy, IsCopy, AreRowsCopied}
 use Rattle.xw_net.specs.Brought.{IsBase}
-use Rattle.xw_net.specs.Filled.{IsWholeNet, IsQuiet, IsFilled, IsStoppedAt}
+use Rattle.xw_net.specs.Filled.{IsWholeNet, IsQuiet, IsFilled}
 use Rattle.xw_net.specs.Fit.{IsAtRest}
 use Rattle.xw_net.specs.Marks.{IsHolding, IsSettledNet}
 use Rattle.xw_net.specs.Net.{row_flags, flags_of, sets_of, known_counts, IsSettledFor}
@@ -40,11 +40,11 @@ use Rattle.xw_net.proofs.Nets.SettledNets.{whole_room, filled_settled, flags_are
 
 -- the rows of a grid's net have a bit for each known word
 have_bits : (grid : Grid) (dictionary : Dictionary) (rows : List RowOfBits)
-    → ((light : ℕ) → light < length (board_of grid).lights → length (bits_in rows light) ≡ length (row dictionary (length (light_at (board_of grid) light)))) → HaveBits (lights_of grid) (known_counts dictionary) rows
+    → ((light : ℕ) → light < length (board_of grid).lights → length (bits_in rows light) ≡ length (known_words dictionary (length (light_at (board_of grid) light)))) → HaveBits (lights_of grid) (known_counts dictionary) rows
 have_bits grid dictionary rows have light lt =
     ap length (sym (bits_are rows light)) ∙ have light (omega (arith, lt, length-lights grid)) ∙ ap (known_counts dictionary) (length-light_at grid light lt)
 
-whole_reusable : (grid : Grid) (dictionary : Dictionary) (net : Net) → IsWholeNet (board_of grid) (row dictionary) net → IsQuiet net → ((slot letter : ℕ) → pending_in net slot letter ≡ false)
+whole_reusable : (grid : Grid) (dictionary : Dictionary) (net : Net) → IsWholeNet (board_of grid) (known_words dictionary) net → IsQuiet net → ((slot letter : ℕ) → pending_in net slot letter ≡ false)
     → ((light choice : ℕ) → length (lights_of grid) ≤ light → word_stands net light choice ≡ false) → IsReusable (lights_of grid) (known_counts dictionary) (length grid.squares) net
 whole_reusable grid dictionary net whole quiet pending past = record {
   rest = subst (λ cells. IsAtRest (lights_of grid) cells net) (whole.shaped.letters ∙ length-open_cells grid) (whole_rest grid dictionary net whole quiet);
@@ -60,8 +60,8 @@ filled_reusable grid dictionary net filled =
     (λ light choice beyond. false_from_ne_true (word_stands net light choice) (λ stands. let lt = filled.settled.ready.sound.within.lights light choice stands in omega (arith, lt, beyond, length-lights grid)))
 
 -- a blank net can be copied into
-pub blank_reusable : (grid : Grid) → IsGrid grid → (dictionary : Dictionary) → IsDictionary dictionary → (net : Net) → IsBlank (lights_of grid) (counts_of (row dictionary)) (length grid.squares) net
-    → HasRoom (lights_of grid) (counts_of (row dictionary)) net → IsReusable (lights_of grid) (known_counts dictionary) (length grid.squares) net
+pub blank_reusable : (grid : Grid) → IsGrid grid → (dictionary : Dictionary) → IsDictionary dictionary → (net : Net) → IsBlank (lights_of grid) (counts_of (known_words dictionary)) (length grid.squares) net
+    → HasRoom (lights_of grid) (counts_of (known_words dictionary)) net → IsReusable (lights_of grid) (known_counts dictionary) (length grid.squares) net
 blank_reusable grid is_grid dictionary is_dictionary net blank room =
     let fresh = blank_fresh grid is_grid dictionary is_dictionary net blank room in
     whole_reusable grid dictionary net fresh.whole fresh.quiet fresh.pending (λ light choice beyond. fresh.past light choice (omega (arith, beyond, length-lights grid)))
@@ -86,16 +86,6 @@ pub settled_reusable : (state : State) (net : Net) → ∥ IsSettledFor state ne
 settled_reusable state net settled =
     ∥∥₁_elim settled (reusable_prop (lights_of state.grid) (known_counts state.words) (length state.grid.squares) net)
     (λ settled. filled_reusable state.grid state.words net settled.filled)
-
--- a stopped net can be copied into
-pub stopped_reusable : (grid : Grid) (dictionary : Dictionary) (net : Net) (light : ℕ) → ∥ IsStoppedAt (board_of grid) dictionary net light ∥₁ → IsReusable (lights_of grid) (known_counts dictionary) (length grid.squares) net
-stopped_reusable grid dictionary net at stopped =
-    ∥∥₁_elim stopped (reusable_prop (lights_of grid) (known_counts dictionary) (length grid.squares) net) (λ there. whole_reusable grid dictionary net there.stopped.whole there.stopped.quiet there.stopped.pending
-    (λ light choice beyond. false_from_ne_true (word_stands net light choice) (λ stands. let lt = there.stopped.lights light choice stands in omega (arith, lt, beyond, length-lights grid))))
-
--- its base rows are right
-pub stopped_base : (grid : Grid) (dictionary : Dictionary) (net : Net) (light : ℕ) → ∥ IsStoppedAt (board_of grid) dictionary net light ∥₁ → IsBase (board_of grid) dictionary net.base.items
-stopped_base grid dictionary net at stopped light lt = ∥∥₁_elim stopped (Coded-set (coded_list coded_bool) _ _) (λ there. there.stopped.is_base light lt)
 
 -- the base rows of a settled net are right
 pub settled_base : (state : State) (net : Net) → ∥ IsSettledFor state net ∥₁ → IsBase (board_of state.grid) state.words net.base.items
@@ -218,7 +208,7 @@ module _ (state : State) (net old new : Net) (can : CanCopy (lights_of state.gri
   unfolding queued_in is_marked
   filled_new =
       let grid = state.grid in
-      let entries = row state.words in
+      let entries = known_words state.words in
       let same = marks_same (lights_of state.grid) net old new can copied in
       record {
         whole = record {

@@ -1,15 +1,16 @@
 -- A net from which stripping can start: it has all base words and all allowed letters, no supports,
 -- and each light is queued.
-use Rattle.std.proofs.Common.{◌≡◌, ℕ, zero, suc, ◌+◌, ◌<◌, ◌≤◌, Bool, true, false, not, ◌&&◌, List, [], ◌∷◌, length, get_or, refl, sym, ap, ◌∙◌, subst, inl, inr, arith}
+use Rattle.std.proofs.Common.{◌≡◌, ℕ, ◌+◌, ◌<◌, ◌≤◌, Bool, true, false, not, ◌&&◌, List, length, get_or, refl, sym, ap, ◌∙◌, subst, inl, inr, arith}
 use Rattle.std.specs.Prelude.{is_some, unwrap_or}
-use Rattle.std.proofs.lemmas.Bool.{false_from_ne_true, cases_Bool, cases_lt, both_ways, and_parts, and_from, or_left, eq-eqb, false≢true}
+use Rattle.std.proofs.lemmas.Bool.{false_from_ne_true, cases_Bool, cases_lt, both_ways, and_parts, and_from, or_left, eq-eqb}
 use Rattle.std.proofs.lemmas.List.Folds.{list_all_at}
 use Rattle.xw_letters.specs.Letter.{IsLetter, is_capital}
-use Rattle.xw_words.specs.Dictionary.{Dictionary, Entry, row, no_entry}
+use Rattle.xw_words.specs.Dictionary.{Dictionary, Entry, known_words, no_entry}
 use Rattle.xw_letters.proofs.LetterSetLemmas.{letter_is_capital}
 use Rattle.xw_feas.specs.Board.{Board, light_at, entry, is_open, allows, agrees, is_wholly_entered}
 use Rattle.xw_feas.specs.Feasible.{may_stand}
 use Rattle.xw_feas.specs.Choices.{is_base_at, base_flags}
+use Rattle.xw_feas.proofs.BoardLemmas.{agrees_at}
 use Rattle.xw_feas.proofs.ChoicesLemmas.{base_flag_at, base_flag_entered, length-base_flags}
 use Rattle.xw_feas.proofs.Support.{set_flag_within}
 use Rattle.std.proofs.lemmas.List.{length-map}
@@ -17,13 +18,6 @@ use Rattle.xw_net.specs.Marks.{Marks, IsPositionIn, cell_at, slot_at, IsSetting,
 use Rattle.xw_net.specs.Brought.{IsBrought}
 use Rattle.xw_net.proofs.Stripping.WordsByNumber.{choice_listed, letter_entered}
 use Rattle.xw_net.proofs.Stripping.EndOfStripping.{some_is}
-
--- each cell allows the letter at its position
-agrees_at : (board : Board) (cells letters : List ℕ) (k : ℕ) → agrees board cells letters ≡ true → k < length cells → allows (entry board (get_or cells k 0)) (get_or letters k 0) ≡ true
-agrees_at board [] letters k h lt = absurd (omega arith)
-agrees_at board (cell ∷ cells) [] k h lt = absurd (false≢true h)
-agrees_at board (cell ∷ cells) (letter ∷ letters) zero h lt = (and_parts (allows (entry board cell) letter) (agrees board cells letters) h).0
-agrees_at board (cell ∷ cells) (letter ∷ letters) (suc k) h lt = agrees_at board cells letters k (and_parts (allows (entry board cell) letter) (agrees board cells letters) h).1 (omega arith)
 
 pub may_capital : (board : Board) (cell letter : ℕ) → may_stand board cell letter ≡ true → is_capital letter ≡ true
 may_capital board cell letter may = (and_parts (is_open board cell) (is_capital letter) (and_parts (is_open board cell && is_capital letter) (allows (entry board cell) letter) may).0).1
@@ -38,7 +32,7 @@ module _ (board : Board) (entries : ℕ → List Entry) (dictionary : Dictionary
   pub base_letter_may : (light position choice : ℕ) → IsPositionIn board light position → is_base_at board dictionary light choice ≡ true → may_stand board (cell_at board light position) (letter_of board dictionary light choice position) ≡ true
   base_letter_may light position choice here base =
       let cells = light_at board light in
-      let words = row dictionary (length cells) in
+      let words = known_words dictionary (length cells) in
       let below : choice < known board dictionary light + 1 = omega (arith, set_flag_within (base_flags board dictionary cells) choice base, length-base_flags board dictionary cells, length-map words (λ (word : Entry). word.word)) in
       elim (cases_lt choice (known board dictionary light)) [
         | inl lt ↦
@@ -47,10 +41,10 @@ module _ (board : Board) (entries : ℕ → List Entry) (dictionary : Dictionary
             let agree = (and_parts word.active (agrees board cells word.word) parts.1).1 in
             let spelled_is = choice_listed board entries dictionary setting light choice lt in
             let long : length word.word ≡ length cells = (setting.words.words (length cells)).long choice no_entry lt in
-            let letter : IsLetter (get_or (get_or (row dictionary (length (light_at board light))) choice no_entry).word position 0) = (setting.words.words (length cells)).letters choice no_entry lt position 0 (omega (arith, long, here.1)) in
+            let letter : IsLetter (get_or (get_or (known_words dictionary (length (light_at board light))) choice no_entry).word position 0) = (setting.words.words (length cells)).letters choice no_entry lt position 0 (omega (arith, long, here.1)) in
             let same : get_or word.word position 0 ≡ letter_of board dictionary light choice position = ap (λ w. get_or w position 0) (sym spelled_is) in
             subst (λ b. may_stand board (cell_at board light position) b ≡ true) same
-            (may_from light position (get_or word.word position 0) here (letter_is_capital (get_or word.word position 0) letter) (agrees_at board cells word.word position agree here.1))
+            (may_from light position (get_or word.word position 0) here (letter_is_capital (get_or word.word position 0) letter) (agrees_at board cells word.word agree position here.1))
         | inr le ↦
             let last : choice ≡ known board dictionary light = omega (arith, below, le) in
             let whole : is_wholly_entered board (light_at board light) ≡ true = sym (base_flag_entered board dictionary cells choice (last ∙ sym (length-map words (λ (word : Entry). word.word)))) ∙ base in

@@ -4,7 +4,7 @@ use Rattle.std.specs.Prelude.{Option, slice_get, unwrap_or}
 use Rattle.std.proofs.lemmas.Bool.{cases_lt, ltb-true}
 use Rattle.std.proofs.lemmas.Option.{unwrap_or-slice_get}
 use Rattle.xw_bits.specs.Bits.{RowOfBits}
-use Rattle.xw_words.specs.Dictionary.{row}
+use Rattle.xw_words.specs.Dictionary.{known_words}
 use Rattle.xw_grid.specs.declared.lights.Light.{Light}
 use Rattle.xw_grid.specs.Light.{lights_of}
 use Rattle.xw_feas.specs.Board.{board_of, light_at}
@@ -55,9 +55,9 @@ fitted_bit known bits index = split (ltb (length bits) known) where
   split true = get_or_past_one bits index
 
 module _ (was now : State) (cells : ℕ) (old mid new : Net) (turned : IsTurned (lights_of was.grid) (lights_of now.grid) old mid)
-    (rows : AreFitted (lights_of now.grid) (counts_of (row now.words)) mid.rows.items new.rows.items)
+    (rows : AreFitted (lights_of now.grid) (counts_of (known_words now.words)) mid.rows.items new.rows.items)
     (others : (light : ℕ) → length (lights_of now.grid) ≤ light → row_at new.rows.items light ≡ row_at mid.rows.items light)
-    (base : AreFitted (lights_of now.grid) (counts_of (row now.words)) mid.base.items new.base.items)
+    (base : AreFitted (lights_of now.grid) (counts_of (known_words now.words)) mid.base.items new.base.items)
     (rest : new ≡ record mid { rows = new.rows; base = new.base }) (at_rest : IsAtRest (lights_of now.grid) cells new)
     (filled : IsFilled (board_of was.grid) was.words old) where
   in_lights : (light : ℕ) → light < length (board_of now.grid).lights → light < length (lights_of now.grid)
@@ -67,26 +67,26 @@ module _ (was now : State) (cells : ℕ) (old mid new : Net) (turned : IsTurned 
   in_before light other at = let there = other_there (lights_of was.grid) (lights_of now.grid) light other at in omega (arith, there, length-lights was.grid)
 
   -- if the number of known words stays, the bits stay
-  kept_bits : (all all-mid all-new : List RowOfBits) → AreFitted (lights_of now.grid) (counts_of (row now.words)) all-mid all-new
+  kept_bits : (all all-mid all-new : List RowOfBits) → AreFitted (lights_of now.grid) (counts_of (known_words now.words)) all-mid all-new
       → ((light other : ℕ) → light < length (lights_of now.grid) → same_before (lights_of was.grid) (lights_of now.grid) light ≡ Some other → (row_at all-mid light).bits ≡ (row_at all other).bits)
-      → ((other : ℕ) → other < length (board_of was.grid).lights → length (bits_in all other) ≡ length (row was.words (length (light_at (board_of was.grid) other))))
+      → ((other : ℕ) → other < length (board_of was.grid).lights → length (bits_in all other) ≡ length (known_words was.words (length (light_at (board_of was.grid) other))))
       → (light other : ℕ) → light < length (board_of now.grid).lights → same_light was.grid now.grid light ≡ Some other → known (board_of now.grid) now.words light ≡ known (board_of was.grid) was.words other
       → bits_in all-new light ≡ bits_in all other
   kept_bits all all-mid all-new fits turns whole light other in_board at many =
       let lt = in_lights light in_board in
-      let sizes : length (row now.words (size_at (lights_of now.grid) light)) ≡ known (board_of now.grid) now.words light = ap (λ n. length (row now.words n)) (sym (length-light_at now.grid light lt)) in
-      let full : length (row_at all other).bits ≡ length (row now.words (size_at (lights_of now.grid) light)) = sym (ap length (row_bits all other)) ∙ whole other (in_before light other at) ∙ sym many ∙ sym sizes in
-      row_bits all-new light ∙ fits light lt ∙ ap (fitted (length (row now.words (size_at (lights_of now.grid) light)))) (turns light other lt at)
-      ∙ fitted_full (length (row now.words (size_at (lights_of now.grid) light))) (row_at all other).bits full ∙ sym (row_bits all other)
+      let sizes : length (known_words now.words (size_at (lights_of now.grid) light)) ≡ known (board_of now.grid) now.words light = ap (λ n. length (known_words now.words n)) (sym (length-light_at now.grid light lt)) in
+      let full : length (row_at all other).bits ≡ length (known_words now.words (size_at (lights_of now.grid) light)) = sym (ap length (row_bits all other)) ∙ whole other (in_before light other at) ∙ sym many ∙ sym sizes in
+      row_bits all-new light ∙ fits light lt ∙ ap (fitted (length (known_words now.words (size_at (lights_of now.grid) light)))) (turns light other lt at)
+      ∙ fitted_full (length (known_words now.words (size_at (lights_of now.grid) light))) (row_at all other).bits full ∙ sym (row_bits all other)
 
   -- an added bit is clear
-  kept_bit : (all all-mid all-new : List RowOfBits) → AreFitted (lights_of now.grid) (counts_of (row now.words)) all-mid all-new
+  kept_bit : (all all-mid all-new : List RowOfBits) → AreFitted (lights_of now.grid) (counts_of (known_words now.words)) all-mid all-new
       → ((light other : ℕ) → light < length (lights_of now.grid) → same_before (lights_of was.grid) (lights_of now.grid) light ≡ Some other → (row_at all-mid light).bits ≡ (row_at all other).bits)
       → (light other index : ℕ) → light < length (board_of now.grid).lights → same_light was.grid now.grid light ≡ Some other → get_or (bits_in all-new light) index false ≡ get_or (bits_in all other) index false
   kept_bit all all-mid all-new fits turns light other index in_board at =
       let lt = in_lights light in_board in
-      ap (λ bits. get_or bits index false) (row_bits all-new light ∙ fits light lt ∙ ap (fitted (length (row now.words (size_at (lights_of now.grid) light)))) (turns light other lt at))
-      ∙ fitted_bit (length (row now.words (size_at (lights_of now.grid) light))) (row_at all other).bits index
+      ap (λ bits. get_or bits index false) (row_bits all-new light ∙ fits light lt ∙ ap (fitted (length (known_words now.words (size_at (lights_of now.grid) light)))) (turns light other lt at))
+      ∙ fitted_bit (length (known_words now.words (size_at (lights_of now.grid) light))) (row_at all other).bits index
       ∙ ap (λ bits. get_or bits index false) (sym (row_bits all other))
 
   same_rest : new ≡ record old { rows = new.rows; base = new.base; entered = mid.entered; queue = mid.queue; chain = mid.chain; spare = None }

@@ -6,7 +6,7 @@ use Rattle.std.proofs.Math.Logic.{∥∥₁_elim}
 use mathlib.Core.HLevel.{Π_prop, ×_prop}
 use mathlib.Core.Bool.{Bool-set}
 use Rattle.xw_bits.specs.Bits.{RowOfBits}
-use Rattle.xw_words.specs.Dictionary.{Dictionary, row}
+use Rattle.xw_words.specs.Dictionary.{Dictionary, known_words}
 use Rattle.xw_grid.specs.declared.lights.Light.{Light}
 use Rattle.xw_grid.specs.Grid.{Grid}
 use Rattle.xw_grid.specs.Light.{lights_of}
@@ -23,7 +23,7 @@ use Rattle.xw_net.specs.Net.{known_counts, StoodFor, IsSettledFor}
 use Rattle.xw_net.specs.declared.net.Net.{Net}
 use Rattle.xw_net.proofs.Nets.RowRoom.{bits_are}
 
-module _ (grid : Grid) (dictionary : Dictionary) (net : Net) (whole : IsWholeNet (board_of grid) (row dictionary) net) (quiet : IsQuiet net) where
+module _ (grid : Grid) (dictionary : Dictionary) (net : Net) (whole : IsWholeNet (board_of grid) (known_words dictionary) net) (quiet : IsQuiet net) where
   pub whole_rest : IsAtRest (lights_of grid) (vec_len net.letters) net
   unfolding queued_in is_marked
   whole_rest =
@@ -52,7 +52,7 @@ module _ (grid : Grid) (dictionary : Dictionary) (net : Net) (filled : IsFilled 
 
   -- if at most the changed word is new, a row that was complete lacks at most its bit
   near : (counts : ℕ → ℕ) (word : Option (ℕ × ℕ)) → ((len : ℕ) → (known_counts dictionary len ≤ counts len) × (counts len ≤ known_counts dictionary len + lacking word len)) → (rows : List RowOfBits)
-      → ((light : ℕ) → light < length (board_of grid).lights → length (bits_in rows light) ≡ length (row dictionary (length (light_at (board_of grid) light)))) → AreNear (lights_of grid) counts word rows
+      → ((light : ℕ) → light < length (board_of grid).lights → length (bits_in rows light) ≡ length (known_words dictionary (length (light_at (board_of grid) light)))) → AreNear (lights_of grid) counts word rows
   near counts word grown rows bits light lt =
       let size = length-light_at grid light lt in
       let long : length (row_at rows light).bits ≡ known_counts dictionary (size_at (lights_of grid) light) =

@@ -4,7 +4,7 @@ use Rattle.std.specs.Prelude.{Option, slice_get, slice_index_or, unwrap_or}
 use Rattle.std.proofs.lemmas.List.{ext_get_or, length-replicate}
 use Rattle.std.proofs.lemmas.Option.{unwrap_or-slice_get}
 use Rattle.xw_bits.specs.Bits.{RowOfBits}
-use Rattle.xw_words.specs.Dictionary.{Dictionary, IsDictionary, row}
+use Rattle.xw_words.specs.Dictionary.{Dictionary, IsDictionary, known_words}
 use Rattle.xw_grid.specs.declared.lights.Light.{Light}
 use Rattle.xw_grid.specs.Light.{no_light}
 use Rattle.xw_net.specs.Nets.{bits_at}
@@ -12,7 +12,7 @@ use Rattle.xw_net.proofs.Lists.QuietNets.{all_false}
 use Rattle.xw_net.specs.Spread.{bits_in}
 use Rattle.xw_net.specs.Room.{size_at, no_row, row_at}
 
-pub known_few : (dictionary : Dictionary) (len : ℕ) → IsDictionary dictionary → length (row dictionary len) ≤ 1048576
+pub known_few : (dictionary : Dictionary) (len : ℕ) → IsDictionary dictionary → length (known_words dictionary len) ≤ 1048576
 known_few dictionary len is = (is.words len).few
 
 pub size_nowhere : (lights : List Light) (light : ℕ) → slice_get lights light ≡ None → 0 ≡ size_at lights light

@@ -1,16 +1,16 @@
 -- A net that is `IsFilled` is settled as its callers see it.
-use Rattle.std.proofs.Common.{◌≡◌, ℕ, ◌+◌, ◌<◌, ◌≤◌, Bool, true, false, cond, List, [], ◌∷◌, length, get_or, length-append, refl, sym, ap, ◌∙◌, arith}
+use Rattle.std.proofs.Common.{◌≡◌, ℕ, ◌+◌, ◌<◌, ◌≤◌, Bool, true, false, cond, List, [], ◌∷◌, length, get_or, length-append, refl, sym, ap, ◌∙◌, subst, arith}
 use Rattle.std.specs.Prelude.{count_by, vec_len}
 use Rattle.std.specs.Coded.{le_prop}
 use Rattle.std.proofs.Math.Logic.{∥∥₁_elim}
 use Rattle.std.proofs.lemmas.List.Sums.{sum_by-append}
 use Rattle.std.proofs.lemmas.List.{length-map}
 use Rattle.std.proofs.lemmas.List.FromFn.{length-map-range_with_len, get_or-map-range_with_len}
-use Rattle.xw_words.specs.Dictionary.{Dictionary, Entry, row}
+use Rattle.xw_words.specs.Dictionary.{Dictionary, Entry, known_words}
 use Rattle.xw_grid.specs.declared.lights.Light.{Light}
 use Rattle.xw_grid.specs.Grid.{Grid}
 use Rattle.xw_grid.specs.Light.{lights_of}
-use Rattle.xw_feas.specs.Board.{board_of, light_at}
+use Rattle.xw_feas.specs.Board.{Board, board_of, light_at}
 use Rattle.xw_feas.specs.Flags.{flag_at, standing_count}
 use Rattle.xw_feas.proofs.BoardLemmas.{length-lights}
 use Rattle.xw_feas.proofs.FormedLemmas.{length-light_at}
@@ -18,7 +18,7 @@ use Rattle.xw_net.specs.Nets.{bits_for, word_stands, letter_stands}
 use Rattle.xw_net.specs.Filled.{IsWholeNet, IsQuiet, IsFilled}
 use Rattle.xw_net.specs.Layout.{layout_of}
 use Rattle.xw_net.specs.Room.{size_at, HasRoom}
-use Rattle.xw_net.specs.Net.{row_flags, flags_of, flags_at, sets_of, IsSettledOn, StandsFor, known_counts}
+use Rattle.xw_net.specs.Net.{row_flags, flags_of, flags_at, sets_of, IsSettledOn, IsSettledOver, StandsFor, known_counts}
 use Rattle.xw_net.specs.declared.net.Net.{Net}
 
 -- the flags of a light are its bits, and the flag of its entered word
@@ -44,7 +44,7 @@ filled_settled grid dictionary net filled = record {
         let entered = get_or net.entered.items light false in
         ap (λ (flags : List Bool). length flags) (flags_are (lights_of grid) net light within)
         ∙ length-append (bits_for net light) (entered ∷ [])
-        ∙ ap (λ n. n + 1) (filled.whole.bits light lt ∙ sym (length-map (row dictionary (length (light_at (board_of grid) light))) (λ (word : Entry). word.word)));
+        ∙ ap (λ n. n + 1) (filled.whole.bits light lt ∙ sym (length-map (known_words dictionary (length (light_at (board_of grid) light))) (λ (word : Entry). word.word)));
     cells = omega (arith, filled.whole.shaped.letters);
   };
   exact = record {
@@ -58,7 +58,7 @@ filled_settled grid dictionary net filled = record {
 }
 
 -- a net between edits has room for its lights and the known words
-pub whole_room : (grid : Grid) (dictionary : Dictionary) (net : Net) → IsWholeNet (board_of grid) (row dictionary) net → IsQuiet net → HasRoom (lights_of grid) (known_counts dictionary) net
+pub whole_room : (grid : Grid) (dictionary : Dictionary) (net : Net) → IsWholeNet (board_of grid) (known_words dictionary) net → IsQuiet net → HasRoom (lights_of grid) (known_counts dictionary) net
 whole_room grid dictionary net whole quiet = record {
   rows = λ light lt. omega (arith, whole.room light (in_board light lt), long light lt);
   base = λ light lt. omega (arith, whole.base_room light (in_board light lt), long light lt);
@@ -66,7 +66,7 @@ whole_room grid dictionary net whole quiet = record {
   in_board : (light : ℕ) → light < length (lights_of grid) → light < length (board_of grid).lights
   in_board light lt = omega (arith, lt, length-lights grid)
 
-  long : (light : ℕ) → light < length (lights_of grid) → length (row dictionary (length (light_at (board_of grid) light))) ≡ known_counts dictionary (size_at (lights_of grid) light)
+  long : (light : ℕ) → light < length (lights_of grid) → length (known_words dictionary (length (light_at (board_of grid) light))) ≡ known_counts dictionary (size_at (lights_of grid) light)
   long light lt = ap (known_counts dictionary) (length-light_at grid light lt)
 
 pub filled_room : (grid : Grid) (dictionary : Dictionary) (net : Net) → IsFilled (board_of grid) dictionary net → HasRoom (lights_of grid) (known_counts dictionary) net
@@ -78,6 +78,23 @@ stands_shaped lights net light stands lt =
     (∥∥₁_elim stands.settled le_prop (λ settled. omega (arith, lt, in_board, settled.filled.whole.shaped.rows)), ∥∥₁_elim stands.settled le_prop (λ settled. omega (arith, lt, in_board, settled.filled.whole.shaped.entered))) where
       in_board : length (board_of stands.state.grid).lights ≡ length lights
       in_board = length-lights stands.state.grid ∙ ap (λ (ls : List Light). length ls) stands.are_lights
+
+-- there are a row and a flag for each light, and no more bits than known words
+pub over_shaped : (board : Board) (dictionary : Dictionary) (net : Net) (light : ℕ) → IsSettledOver board dictionary net → light < length board.lights
+    → (light < length net.rows.items) × (light < length net.entered.items) × (length (bits_for net light) ≤ length (known_words dictionary (length (light_at board light))))
+over_shaped board dictionary net light over lt = (shaped.0, shaped.1, bits) where
+  under : light < length (board_of over.grid).lights
+  under = subst (λ (b : Board). light < length b.lights) (sym over.is_board) lt
+
+  stands : StandsFor (lights_of over.grid) net
+  stands = record { state = record { grid = over.grid; words = dictionary }; are_lights = refl; settled = over.settled }
+
+  shaped : (light < length net.rows.items) × (light < length net.entered.items)
+  shaped = stands_shaped (lights_of over.grid) net light stands (omega (arith, under, length-lights over.grid))
+
+  bits : length (bits_for net light) ≤ length (known_words dictionary (length (light_at board light)))
+  bits = subst (λ (b : Board). length (bits_for net light) ≤ length (known_words dictionary (length (light_at b light)))) over.is_board
+      (∥∥₁_elim over.settled le_prop (λ settled. omega (arith, settled.filled.whole.bits light under)))
 
 -- there is a row for each light
 pub stands_rows : (lights : List Light) (net : Net) → StandsFor lights net → (length lights ≤ vec_len net.rows) × (length lights ≤ vec_len net.base)

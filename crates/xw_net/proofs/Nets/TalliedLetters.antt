@@ -12,7 +12,7 @@ use Rattle.std.proofs.lemmas.Option.{unwrap_or-slice_get}
 use Rattle.xw_bits.specs.Bits.{has_bit}
 use Rattle.xw_bits.proofs.BitLemmas.{ones_of_word, has_bit-none}
 use Rattle.xw_words.specs.Columns.{letter_is, has_letter}
-use Rattle.xw_words.specs.Dictionary.{Entry, entry_at, no_entry, row as known_words}
+use Rattle.xw_words.specs.Dictionary.{Entry, entry_at, no_entry, known_words}
 use Rattle.xw_grid.specs.Light.{lights_of}
 use Rattle.xw_feas.specs.Board.{board_of, light_at, entry, spelled}
 use Rattle.xw_feas.specs.Choices.{choices}

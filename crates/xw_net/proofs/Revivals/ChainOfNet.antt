@@ -3,7 +3,7 @@ use Rattle.std.proofs.Common.{◌≡◌, ℕ, zero, suc, ◌+◌, ◌-◌, ◌*�
 use Rattle.std.specs.Prelude.{not}
 use Rattle.std.proofs.lemmas.Bool.{or_cases, and_parts, eqb-true, both_ways, false_from_ne_true}
 use Rattle.xw_bits.specs.Bits.{RowOfBits}
-use Rattle.xw_words.specs.Dictionary.{Dictionary, row}
+use Rattle.xw_words.specs.Dictionary.{Dictionary, known_words}
 use Rattle.xw_letters.specs.LetterSet.{has}
 use Rattle.xw_feas.specs.Board.{Board, light_at, is_wholly_entered}
 use Rattle.xw_feas.specs.Choices.{is_base_at}
@@ -65,7 +65,7 @@ module _ (board : Board) (dictionary : Dictionary) (base : List RowOfBits) (old 
     lights = in_board;
     words_on = λ light choice on.
         ap (λ bs. get_or (bs ++ get_or new.entered.items light false ∷ []) choice false) (lit.rows_on light (in_board light on) on refl ∙ is_base light (in_board light on))
-        ∙ ap (λ e. get_or (base_bits board (light_at board light) (row dictionary (length (light_at board light))) ++ e ∷ []) choice false) (lit.entered_on light (in_board light on) on refl);
+        ∙ ap (λ e. get_or (base_bits board (light_at board light) (known_words dictionary (length (light_at board light))) ++ e ∷ []) choice false) (lit.entered_on light (in_board light on) on refl);
     words_off = λ light choice off.
         ap (λ bs. get_or (bs ++ get_or new.entered.items light false ∷ []) choice false) (lit.rows_off light off)
         ∙ ap (λ e. get_or (bits_in old.rows.items light ++ e ∷ []) choice false) (lit.entered_off light off);

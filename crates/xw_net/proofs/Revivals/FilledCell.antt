@@ -2,7 +2,7 @@
 use Rattle.std.proofs.Common.{◌≡◌, ℕ, zero, suc, ◌+◌, ◌-◌, ◌*◌, ◌<◌, Bool, true, false, cond, List, [], ◌∷◌, map, length, get_or, Some, None, refl, sym, ◌∙◌, ap, subst, arith}
 use Rattle.std.specs.Prelude.{Option, Contains, is_none, is_some}
 use Rattle.std.proofs.lemmas.Bool.{and_parts, false≢true}
-use Rattle.xw_words.specs.Dictionary.{row}
+use Rattle.xw_words.specs.Dictionary.{known_words}
 use Rattle.xw_grid.specs.declared.cell.Cell.{Cell}
 use Rattle.xw_grid.specs.declared.lights.Light.{Light}
 use Rattle.xw_grid.specs.Grid.{Grid, index_of, is_inside}
@@ -36,7 +36,7 @@ pub record FillsOne (grid : Grid) (change : Fields) (cell : ℕ) : Type 0 where
   pub turned : (len : ℕ) → change.turned len ≡ false
 
 -- the one cell that was filled
-record IsOne (grid : Grid) (all : List (Cell × Option ℕ)) (cell : ℕ) : Type 0 where
+pub record IsOne (grid : Grid) (all : List (Cell × Option ℕ)) (cell : ℕ) : Type 0 where
   pub listed : Cell × Option ℕ
   pub cells : all ≡ listed ∷ []
   pub at : index_of grid listed.0 ≡ cell
@@ -46,7 +46,7 @@ was_none : (o : Option ℕ) → is_none o ≡ true → o ≡ None
 was_none None is = refl
 was_none (Some letter) is = absurd (false≢true is)
 
-one_filled : (grid : Grid) (board : Board) (cells : List (Cell × Option ℕ)) (cell : ℕ) → only_filled grid board cells ≡ Some cell → IsOne grid cells cell
+pub one_filled : (grid : Grid) (board : Board) (cells : List (Cell × Option ℕ)) (cell : ℕ) → only_filled grid board cells ≡ Some cell → IsOne grid cells cell
 one_filled grid board [] cell found = let never : None ≡ Some cell = found in cc
 one_filled grid board (listed ∷ other ∷ rest) cell found = let never : None ≡ Some cell = found in cc
 one_filled grid board (listed ∷ []) cell found = split (is_fill board (index_of grid listed.0) listed.1) refl found where
@@ -99,7 +99,7 @@ module _ (before now : State) (action : Action) (change : Fields) (is : IsChange
   same_lights : lights_of now.grid ≡ lights_of before.grid
   same_lights = sym one.lights ∙ is.lights
 
-  same_words : (len : ℕ) → row now.words len ≡ row before.words len
+  same_words : (len : ℕ) → known_words now.words len ≡ known_words before.words len
   same_words len = same_elements _ _ (λ k. is.entries len k (one.turned len) (λ found. subst (λ w. IsIndexOf w len k) one.word found))
 
   same_cells : (light : ℕ) → light < length (lights_of now.grid) → light_at (board_of now.grid) light ≡ light_at (board_of before.grid) light
@@ -109,20 +109,20 @@ module _ (before now : State) (action : Action) (change : Fields) (is : IsChange
       ∙ ap (λ w. map (λ (here : Cell). (here.row - 1) * w + (here.col - 1)) (cells_of (get_or (lights_of before.grid) light no_light))) is.width
       ∙ sym (light_at-board before.grid light no_light (omega (arith, lt, ap length same_lights)))
 
-  pub filled_row : (light : ℕ) → light < length (board_of now.grid).lights → WasRow (board_of now.grid) (row now.words) cell light (bits_in net.base.items light)
+  pub filled_row : (light : ℕ) → light < length (board_of now.grid).lights → WasRow (board_of now.grid) (known_words now.words) cell light (bits_in net.base.items light)
   filled_row light in_board =
       let lt : light < length (lights_of now.grid) = omega (arith, in_board, length-lights now.grid) in
       let in_before : light < length (board_of before.grid).lights = omega (arith, lt, ap length same_lights, length-lights before.grid) in
       let cells = same_cells light lt in
       let at = same_is_whole before.grid now.grid is.width light light in_board in_before cells in
       let words = same_words (length (light_at (board_of now.grid) light)) in
-      let many : known (board_of now.grid) now.words light ≡ known (board_of before.grid) before.words light = ap length words ∙ ap (λ cs. length (row before.words (length cs))) cells in
+      let many : known (board_of now.grid) now.words light ≡ known (board_of before.grid) before.words light = ap length words ∙ ap (λ cs. length (known_words before.words (length cs))) cells in
       record {
         before = board_of before.grid;
         more = record { empty = was_empty; others = same_entries };
         row =
             moved.base light light in_board at many
             ∙ filled.is_base light in_before
-            ∙ ap (λ cs. base_bits (board_of before.grid) cs (row before.words (length cs))) (sym cells)
+            ∙ ap (λ cs. base_bits (board_of before.grid) cs (known_words before.words (length cs))) (sym cells)
             ∙ ap (base_bits (board_of before.grid) (light_at (board_of now.grid) light)) (sym words);
       }

@@ -3,7 +3,7 @@ use Rattle.std.proofs.Common.{◌≡◌, ℕ, ◌+◌, ◌-◌, ◌*◌, ◌<◌
 use Rattle.std.specs.Prelude.{Option, Contains, slice_index, slice_get}
 use Rattle.std.proofs.lemmas.Bool.{cases_Bool, both_ways}
 use Rattle.std.proofs.lemmas.Option.{get_or_from_slice_get}
-use Rattle.xw_words.specs.Dictionary.{row}
+use Rattle.xw_words.specs.Dictionary.{known_words}
 use Rattle.xw_grid.specs.declared.cell.Cell.{Cell}
 use Rattle.xw_grid.specs.Grid.{is_inside, index_of}
 use Rattle.xw_grid.specs.declared.lights.Light.{Light}
@@ -45,8 +45,8 @@ use Rattle.xw_net.proofs.Revivals.OpenedRows.{listed_inside, opened_prepared, ne
 
 module _ {cell : Option ℕ} (before now : State) (action : Action) (change : Fields) (is : IsChange before now action change) (settled net opened : Net)
     (filled : IsFilled (board_of before.grid) before.words settled) (holding : IsHolding (board_of before.grid) before.words (marks_of settled)) (moved : IsMoved before now settled net)
-    (opening : IsOpening now.grid (board_of now.grid) (lights_of now.grid) (row now.words) change cell (arrays_of net) (arrays_of opened))
-    (forgets : Forgets (board_of now.grid) (λ light. lost_from change.word (same_before change.before (lights_of now.grid) light) (length (light_at (board_of now.grid) light)) (length (row now.words (length (light_at (board_of now.grid) light)))))
+    (opening : IsOpening now.grid (board_of now.grid) (lights_of now.grid) (known_words now.words) change cell (arrays_of net) (arrays_of opened))
+    (forgets : Forgets (board_of now.grid) (λ light. lost_from change.word (same_before change.before (lights_of now.grid) light) (length (light_at (board_of now.grid) light)) (length (known_words now.words (length (light_at (board_of now.grid) light)))))
     net.held.items opened.held.items net.pending.items opened.pending.items)
     (entered_kept : opened.entered.items ≡ net.entered.items) (restart_kept : opened.restart.items ≡ net.restart.items)
     (inside : (listed : Cell × Option ℕ) → Contains change.cells listed → is_inside now.grid listed.0 ≡ true)
@@ -57,11 +57,11 @@ module _ {cell : Option ℕ} (before now : State) (action : Action) (change : Fi
   inside_before : (listed : Cell × Option ℕ) → Contains change.cells listed → is_inside before.grid listed.0 ≡ true
   inside_before = listed_inside before now action change is settled net opened filled moved opening entered_kept inside one
 
-  prepared : IsPrepared (board_of now.grid) (row now.words) change.word net.rows.items opened.rows.items net.base.items opened.base.items (is_marked opened.queue.marks) (is_marked opened.chain.marks)
+  prepared : IsPrepared (board_of now.grid) (known_words now.words) change.word net.rows.items opened.rows.items net.base.items opened.base.items (is_marked opened.queue.marks) (is_marked opened.chain.marks)
   prepared = opened_prepared before now action change is settled net opened filled moved opening entered_kept inside one
 
   has_not : (light : ℕ) → light < length (board_of now.grid).lights → is_marked opened.chain.marks light ≡ false
-      → may_have change.word (length (light_at (board_of now.grid) light)) (base_bits (board_of now.grid) (light_at (board_of now.grid) light) (row now.words (length (light_at (board_of now.grid) light)))) ≡ false
+      → may_have change.word (length (light_at (board_of now.grid) light)) (base_bits (board_of now.grid) (light_at (board_of now.grid) light) (known_words now.words (length (light_at (board_of now.grid) light)))) ≡ false
   has_not = opened_has_not before now action change is settled net opened filled moved opening entered_kept inside one
 
   started : IsStarted (board_of before.grid) (board_of now.grid) before.words now.words (same_light before.grid now.grid) (marks_of settled) (marks_of opened) (is_marked opened.chain.marks)

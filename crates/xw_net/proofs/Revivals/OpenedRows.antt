@@ -4,7 +4,7 @@ use Rattle.std.specs.Prelude.{Option, Ok, List, Contains, slice_index, slice_get
 use Rattle.std.proofs.lemmas.Bool.{cases_Bool, both_ways, and_from, and_cases, or_parts, eq-eqb, leb-false, false_from_ne_true}
 use Rattle.std.proofs.lemmas.List.{get_or_append_left, get_or_default, get_or_push, length-map}
 use Rattle.std.proofs.lemmas.Option.{slice_get-get_or, unwrap_or-slice_get}
-use Rattle.xw_words.specs.Dictionary.{Entry, row, entry_at, no_entry}
+use Rattle.xw_words.specs.Dictionary.{Entry, known_words, entry_at, no_entry}
 use Rattle.xw_grid.specs.declared.cell.Cell.{Cell}
 use Rattle.xw_grid.specs.Grid.{is_inside}
 use Rattle.xw_grid.specs.Light.{lights_of, no_light, step}
@@ -68,7 +68,7 @@ same_flag (x ∷ xs) (y ∷ ys) last (suc k) long same = same_flag xs ys last k 
 
 module _ {cell : Option ℕ} (before now : State) (action : Action) (change : Fields) (is : IsChange before now action change) (settled net opened : Net)
     (filled : IsFilled (board_of before.grid) before.words settled) (moved : IsMoved before now settled net)
-    (opening : IsOpening now.grid (board_of now.grid) (lights_of now.grid) (row now.words) change cell (arrays_of net) (arrays_of opened))
+    (opening : IsOpening now.grid (board_of now.grid) (lights_of now.grid) (known_words now.words) change cell (arrays_of net) (arrays_of opened))
     (entered_kept : opened.entered.items ≡ net.entered.items)
     (inside : (listed : Cell × Option ℕ) → Contains change.cells listed → is_inside now.grid listed.0 ≡ true)
     (one : (filled : ℕ) → cell ≡ Some filled → FillsOne now.grid change filled) where
@@ -109,7 +109,7 @@ module _ {cell : Option ℕ} (before now : State) (action : Action) (change : Fi
   -- ---- base rows
 
   -- an edit of a word keeps the grid, and the base words of each light except perhaps that word
-  base_but : AreBaseBut (board_of now.grid) (row now.words) change.word net.base.items
+  base_but : AreBaseBut (board_of now.grid) (known_words now.words) change.word net.base.items
   base_but light in_board index some k apart =
       let grid = word_keeps_grid before now action (length (light_at (board_of now.grid) light), index) is.made (sym is.word ∙ some) in
       let in_before : light < length (board_of before.grid).lights = subst (λ g. light < length (board_of g).lights) grid in_board in
@@ -118,18 +118,18 @@ module _ {cell : Option ℕ} (before now : State) (action : Action) (change : Fi
       let kept = is.entries (length (light_at (board_of now.grid) light)) k still (λ found. let there = subst (λ w. IsIndexOf w (length (light_at (board_of now.grid) light)) k) some found in apart (sym there.1)) in
       moved.base_at light light k in_board at
       ∙ ap (λ bits. get_or bits k false) (filled.is_base light in_before)
-      ∙ sym (base_bit (board_of before.grid) (light_at (board_of before.grid) light) (row before.words (length (light_at (board_of before.grid) light))) k)
-      ∙ ap (λ g. is_base_word (board_of g) (light_at (board_of g) light) (entry_at (row before.words (length (light_at (board_of g) light))) k)) (sym grid)
-      ∙ ap (is_base_word (board_of now.grid) (light_at (board_of now.grid) light)) (same_entry (row before.words (length (light_at (board_of now.grid) light))) (row now.words (length (light_at (board_of now.grid) light))) k (sym kept))
+      ∙ sym (base_bit (board_of before.grid) (light_at (board_of before.grid) light) (known_words before.words (length (light_at (board_of before.grid) light))) k)
+      ∙ ap (λ g. is_base_word (board_of g) (light_at (board_of g) light) (entry_at (known_words before.words (length (light_at (board_of g) light))) k)) (sym grid)
+      ∙ ap (is_base_word (board_of now.grid) (light_at (board_of now.grid) light)) (same_entry (known_words before.words (length (light_at (board_of now.grid) light))) (known_words now.words (length (light_at (board_of now.grid) light))) k (sym kept))
 
-  pub opened_prepared : IsPrepared (board_of now.grid) (row now.words) change.word net.rows.items opened.rows.items net.base.items opened.base.items (is_marked opened.queue.marks) (is_marked opened.chain.marks)
+  pub opened_prepared : IsPrepared (board_of now.grid) (known_words now.words) change.word net.rows.items opened.rows.items net.base.items opened.base.items (is_marked opened.queue.marks) (is_marked opened.chain.marks)
   opened_prepared = opening.prepared base_but (λ light in_board at some. filled_row before now action change is settled net filled moved listed_inside at (one at some) light in_board)
 
   short_known : (light other : ℕ) → light < length (board_of now.grid).lights → same_light before.grid now.grid light ≡ Some other → is_long change.word (length (light_at (board_of now.grid) light)) ≡ false → known (board_of now.grid) now.words light ≡ known (board_of before.grid) before.words other
   short_known light other in_board at short =
       many
-      ∙ ap (λ cs. length (row before.words (length cs))) (matching.cells light other in_board at) where
-        many : length (row now.words (length (light_at (board_of now.grid) light))) ≡ length (row before.words (length (light_at (board_of now.grid) light)))
+      ∙ ap (λ cs. length (known_words before.words (length cs))) (matching.cells light other in_board at) where
+        many : length (known_words now.words (length (light_at (board_of now.grid) light))) ≡ length (known_words before.words (length (light_at (board_of now.grid) light)))
         many = elim (cases_Bool (change.turned (length (light_at (board_of now.grid) light)))) [
           | inl on ↦ is.counts (length (light_at (board_of now.grid) light)) on
           | inr still ↦ ap length (changed_words_same before now action change is (set_has opened.letters.items) queued seed listed_inside opening.edited light still short)
@@ -165,10 +165,10 @@ module _ {cell : Option ℕ} (before now : State) (action : Action) (change : Fi
 
   kept_known : (light other : ℕ) → light < length (board_of now.grid).lights → seed light ≡ false → same_light before.grid now.grid light ≡ Some other → known (board_of now.grid) now.words light ≡ known (board_of before.grid) before.words other
   kept_known light other in_board no_seed at =
-      sym (length-map (row now.words (length (light_at (board_of now.grid) light))) (λ (word : Entry). word.word))
+      sym (length-map (known_words now.words (length (light_at (board_of now.grid) light))) (λ (word : Entry). word.word))
       ∙ ap length (changed_spelled before now action change is (set_has opened.letters.items) queued seed listed_inside opening.edited opened_prepared.calm opened_prepared.seeds turned_seeds light in_board no_seed)
-      ∙ length-map (row before.words (length (light_at (board_of now.grid) light))) (λ (word : Entry). word.word)
-      ∙ ap (λ cs. length (row before.words (length cs))) (matching.cells light other in_board at)
+      ∙ length-map (known_words before.words (length (light_at (board_of now.grid) light))) (λ (word : Entry). word.word)
+      ∙ ap (λ cs. length (known_words before.words (length cs))) (matching.cells light other in_board at)
 
   pub opened_words_off : (light other choice : ℕ) → light < length (board_of now.grid).lights → seed light ≡ false → queued light ≡ false → same_light before.grid now.grid light ≡ Some other → word_stands opened light choice ≡ word_stands settled other choice
   unfolding word_stands
@@ -177,7 +177,7 @@ module _ {cell : Option ℕ} (before now : State) (action : Action) (change : Fi
       ∙ ap (λ e. get_or (bits_in settled.rows.items other ++ e ∷ []) choice false) (ap (λ flags. get_or flags light false) entered_kept ∙ moved.entered light other in_board at)
 
   -- the changed word is not a base word of a light that is not a seed
-  pub opened_has_not : (light : ℕ) → light < length (board_of now.grid).lights → seed light ≡ false → may_have change.word (length (light_at (board_of now.grid) light)) (base_bits (board_of now.grid) (light_at (board_of now.grid) light) (row now.words (length (light_at (board_of now.grid) light)))) ≡ false
+  pub opened_has_not : (light : ℕ) → light < length (board_of now.grid).lights → seed light ≡ false → may_have change.word (length (light_at (board_of now.grid) light)) (base_bits (board_of now.grid) (light_at (board_of now.grid) light) (known_words now.words (length (light_at (board_of now.grid) light)))) ≡ false
   opened_has_not = changed_has_not before now action change is (set_has opened.letters.items) queued seed listed_inside opening.edited opened_prepared.calm opened_prepared.seeds turned_seeds
 
   -- at a light that is not queued, the changed word was not in the net, and each word that was is
@@ -185,21 +185,21 @@ module _ {cell : Option ℕ} (before now : State) (action : Action) (change : Fi
   pub opened_words_calm : (light other choice : ℕ) → light < length (board_of now.grid).lights → queued light ≡ false → seed light ≡ false → same_light before.grid now.grid light ≡ Some other → word_stands settled other choice ≡ true → is_base_at (board_of now.grid) now.words light choice ≡ true
   unfolding word_stands
   opened_words_calm light other choice in_board calm no_seed at stood =
-      ap (λ bits. get_or (bits ++ is_wholly_entered (board_of now.grid) (light_at (board_of now.grid) light) ∷ []) choice false) (base_bits_same (board_of before.grid) (board_of now.grid) (light_at (board_of now.grid) light) (row now.words (length (light_at (board_of now.grid) light))) entries)
-      ∙ ap (λ e. get_or (base_bits (board_of before.grid) (light_at (board_of now.grid) light) (row now.words (length (light_at (board_of now.grid) light))) ++ e ∷ []) choice false) (entered_same (board_of before.grid) (board_of now.grid) (light_at (board_of now.grid) light) entries)
-      ∙ same_flag (base_bits (board_of before.grid) (light_at (board_of now.grid) light) (row now.words (length (light_at (board_of now.grid) light)))) (base_bits (board_of before.grid) (light_at (board_of now.grid) light) (row before.words (length (light_at (board_of now.grid) light))))
+      ap (λ bits. get_or (bits ++ is_wholly_entered (board_of now.grid) (light_at (board_of now.grid) light) ∷ []) choice false) (base_bits_same (board_of before.grid) (board_of now.grid) (light_at (board_of now.grid) light) (known_words now.words (length (light_at (board_of now.grid) light))) entries)
+      ∙ ap (λ e. get_or (base_bits (board_of before.grid) (light_at (board_of now.grid) light) (known_words now.words (length (light_at (board_of now.grid) light))) ++ e ∷ []) choice false) (entered_same (board_of before.grid) (board_of now.grid) (light_at (board_of now.grid) light) entries)
+      ∙ same_flag (base_bits (board_of before.grid) (light_at (board_of now.grid) light) (known_words now.words (length (light_at (board_of now.grid) light)))) (base_bits (board_of before.grid) (light_at (board_of now.grid) light) (known_words before.words (length (light_at (board_of now.grid) light))))
       (is_wholly_entered (board_of before.grid) (light_at (board_of now.grid) light)) choice many same_bit
-      ∙ ap (λ cs. get_or (base_bits (board_of before.grid) cs (row before.words (length cs)) ++ is_wholly_entered (board_of before.grid) cs ∷ []) choice false) (matching.cells light other in_board at)
+      ∙ ap (λ cs. get_or (base_bits (board_of before.grid) cs (known_words before.words (length cs)) ++ is_wholly_entered (board_of before.grid) cs ∷ []) choice false) (matching.cells light other in_board at)
       ∙ exact_base (board_of before.grid) before.words _ _ filled.exact other choice (matching.lights light other in_board at) stood where
         entries : HaveSameEntries (board_of before.grid) (board_of now.grid) (light_at (board_of now.grid) light)
         entries cell in_cells = changed_entry_calm before now action change is (set_has opened.letters.items) queued seed listed_inside opening.edited light cell in_board calm in_cells
 
-        many : length (base_bits (board_of before.grid) (light_at (board_of now.grid) light) (row now.words (length (light_at (board_of now.grid) light)))) ≡ length (base_bits (board_of before.grid) (light_at (board_of now.grid) light) (row before.words (length (light_at (board_of now.grid) light))))
+        many : length (base_bits (board_of before.grid) (light_at (board_of now.grid) light) (known_words now.words (length (light_at (board_of now.grid) light)))) ≡ length (base_bits (board_of before.grid) (light_at (board_of now.grid) light) (known_words before.words (length (light_at (board_of now.grid) light))))
         many =
-            length-base_bits (board_of before.grid) (light_at (board_of now.grid) light) (row now.words (length (light_at (board_of now.grid) light)))
+            length-base_bits (board_of before.grid) (light_at (board_of now.grid) light) (known_words now.words (length (light_at (board_of now.grid) light)))
             ∙ kept_known light other in_board no_seed at
-            ∙ ap (λ cs. length (row before.words (length cs))) (sym (matching.cells light other in_board at))
-            ∙ sym (length-base_bits (board_of before.grid) (light_at (board_of now.grid) light) (row before.words (length (light_at (board_of now.grid) light))))
+            ∙ ap (λ cs. length (known_words before.words (length cs))) (sym (matching.cells light other in_board at))
+            ∙ sym (length-base_bits (board_of before.grid) (light_at (board_of now.grid) light) (known_words before.words (length (light_at (board_of now.grid) light))))
 
         rows : bits_in net.rows.items light ≡ bits_in settled.rows.items other
         rows = moved.rows light other in_board at (kept_known light other in_board no_seed at)
@@ -220,38 +220,38 @@ module _ {cell : Option ℕ} (before now : State) (action : Action) (change : Fi
                   both_ways _ parts.1 (ap (λ k. get_or (bits_in net.rows.items light) k false) there.1 ∙ ap (λ bits. get_or bits choice false) rows ∙ on)
             ]
 
-        same_bit : get_or (base_bits (board_of before.grid) (light_at (board_of now.grid) light) (row now.words (length (light_at (board_of now.grid) light)))) choice false ≡ get_or (base_bits (board_of before.grid) (light_at (board_of now.grid) light) (row before.words (length (light_at (board_of now.grid) light)))) choice false
+        same_bit : get_or (base_bits (board_of before.grid) (light_at (board_of now.grid) light) (known_words now.words (length (light_at (board_of now.grid) light)))) choice false ≡ get_or (base_bits (board_of before.grid) (light_at (board_of now.grid) light) (known_words before.words (length (light_at (board_of now.grid) light)))) choice false
         same_bit =
-            sym (base_bit (board_of before.grid) (light_at (board_of now.grid) light) (row now.words (length (light_at (board_of now.grid) light))) choice)
-            ∙ ap (is_base_word (board_of before.grid) (light_at (board_of now.grid) light)) (same_entry (row now.words (length (light_at (board_of now.grid) light))) (row before.words (length (light_at (board_of now.grid) light))) choice (is.entries (length (light_at (board_of now.grid) light)) choice (false_from_ne_true _ (λ on. both_ways _ calm (turned_queued light in_board on))) (not_there change.word refl)))
-            ∙ base_bit (board_of before.grid) (light_at (board_of now.grid) light) (row before.words (length (light_at (board_of now.grid) light))) choice
+            sym (base_bit (board_of before.grid) (light_at (board_of now.grid) light) (known_words now.words (length (light_at (board_of now.grid) light))) choice)
+            ∙ ap (is_base_word (board_of before.grid) (light_at (board_of now.grid) light)) (same_entry (known_words now.words (length (light_at (board_of now.grid) light))) (known_words before.words (length (light_at (board_of now.grid) light))) choice (is.entries (length (light_at (board_of now.grid) light)) choice (false_from_ne_true _ (λ on. both_ways _ calm (turned_queued light in_board on))) (not_there change.word refl)))
+            ∙ base_bit (board_of before.grid) (light_at (board_of now.grid) light) (known_words before.words (length (light_at (board_of now.grid) light))) choice
 
   -- the entered word was in the net only if the light is filled
   entered_whole : (light other : ℕ) → light < length (board_of now.grid).lights → seed light ≡ false → same_light before.grid now.grid light ≡ Some other → get_or settled.entered.items other false ≡ true → is_wholly_entered (board_of now.grid) (light_at (board_of now.grid) light) ≡ true
   unfolding word_stands
   entered_whole light other in_board no_seed at stood =
       let in_before = matching.lights light other in_board at in
-      let count = length (row before.words (length (light_at (board_of before.grid) other))) in
-      let stands : word_stands settled other (length (row before.words (length (light_at (board_of before.grid) other)))) ≡ true =
-      get_or_push (bits_in settled.rows.items other) (get_or settled.entered.items other false) false (length (row before.words (length (light_at (board_of before.grid) other)))) (filled.whole.bits other in_before) ∙ stood in
-      let base = exact_base (board_of before.grid) before.words _ _ filled.exact other (length (row before.words (length (light_at (board_of before.grid) other)))) in_before stands in
-      let last = base_flag_entered (board_of before.grid) before.words (light_at (board_of before.grid) other) (length (row before.words (length (light_at (board_of before.grid) other)))) (sym (length-map (row before.words (length (light_at (board_of before.grid) other))) (λ (word : Entry). word.word))) in
+      let count = length (known_words before.words (length (light_at (board_of before.grid) other))) in
+      let stands : word_stands settled other (length (known_words before.words (length (light_at (board_of before.grid) other)))) ≡ true =
+      get_or_push (bits_in settled.rows.items other) (get_or settled.entered.items other false) false (length (known_words before.words (length (light_at (board_of before.grid) other)))) (filled.whole.bits other in_before) ∙ stood in
+      let base = exact_base (board_of before.grid) before.words _ _ filled.exact other (length (known_words before.words (length (light_at (board_of before.grid) other)))) in_before stands in
+      let last = base_flag_entered (board_of before.grid) before.words (light_at (board_of before.grid) other) (length (known_words before.words (length (light_at (board_of before.grid) other)))) (sym (length-map (known_words before.words (length (light_at (board_of before.grid) other))) (λ (word : Entry). word.word))) in
       whole_stays light in_board no_seed (ap (is_wholly_entered (board_of before.grid)) (matching.cells light other in_board at) ∙ sym last ∙ base)
 
   -- after an edit of a word, each other word that was in the net is still a base word
   still_base : (light other : ℕ) → light < length (board_of now.grid).lights → same_light before.grid now.grid light ≡ Some other
       → (index : ℕ) → change.word ≡ Some (length (light_at (board_of now.grid) light), index) → (k : ℕ) → (k ≡ index → ⊥) → get_or (bits_in settled.rows.items other) k false ≡ true
-      → get_or (base_bits (board_of now.grid) (light_at (board_of now.grid) light) (row now.words (length (light_at (board_of now.grid) light)))) k false ≡ true
+      → get_or (base_bits (board_of now.grid) (light_at (board_of now.grid) light) (known_words now.words (length (light_at (board_of now.grid) light)))) k false ≡ true
   unfolding word_stands
   still_base light other in_board at index some k apart stood =
       let in_before = matching.lights light other in_board at in
       let cells = light_at (board_of before.grid) other in
       let below : k < length (bits_in settled.rows.items other) = set_flag_within (bits_in settled.rows.items other) k stood in
-      let many = filled.whole.bits other in_before ∙ sym (length-base_bits (board_of before.grid) (light_at (board_of before.grid) other) (row before.words (length (light_at (board_of before.grid) other)))) in
+      let many = filled.whole.bits other in_before ∙ sym (length-base_bits (board_of before.grid) (light_at (board_of before.grid) other) (known_words before.words (length (light_at (board_of before.grid) other)))) in
       let stands = get_or_append_left (bits_in settled.rows.items other) (get_or settled.entered.items other false ∷ []) false k below ∙ stood in
-      sym (base_bit (board_of now.grid) (light_at (board_of now.grid) light) (row now.words (length (light_at (board_of now.grid) light))) k)
+      sym (base_bit (board_of now.grid) (light_at (board_of now.grid) light) (known_words now.words (length (light_at (board_of now.grid) light))) k)
       ∙ sym (base_but light in_board index some k apart) ∙ moved.base_at light other k in_board at ∙ ap (λ bits. get_or bits k false) (filled.is_base other in_before)
-      ∙ sym (get_or_append_left (base_bits (board_of before.grid) (light_at (board_of before.grid) other) (row before.words (length (light_at (board_of before.grid) other)))) (is_wholly_entered (board_of before.grid) (light_at (board_of before.grid) other) ∷ []) false k (omega (arith, below, many)))
+      ∙ sym (get_or_append_left (base_bits (board_of before.grid) (light_at (board_of before.grid) other) (known_words before.words (length (light_at (board_of before.grid) other)))) (is_wholly_entered (board_of before.grid) (light_at (board_of before.grid) other) ∷ []) false k (omega (arith, below, many)))
       ∙ exact_base (board_of before.grid) before.words _ _ filled.exact other k in_before stands
 
   pub opened_words_on : (light other choice : ℕ) → light < length (board_of now.grid).lights → seed light ≡ false → queued light ≡ true → same_light before.grid now.grid light ≡ Some other
@@ -260,15 +260,15 @@ module _ {cell : Option ℕ} (before now : State) (action : Action) (change : Fi
   opened_words_on light other choice in_board no_seed on at =
       let in_before = matching.lights light other in_board at in
       let cells = light_at (board_of now.grid) light in
-      let base = base_bits (board_of now.grid) (light_at (board_of now.grid) light) (row now.words (length (light_at (board_of now.grid) light))) in
+      let base = base_bits (board_of now.grid) (light_at (board_of now.grid) light) (known_words now.words (length (light_at (board_of now.grid) light))) in
       let e = get_or settled.entered.items other false in
       let whole = is_wholly_entered (board_of now.grid) (light_at (board_of now.grid) light) in
       let many = kept_known light other in_board no_seed at in
       let long : length (bits_in settled.rows.items other) ≡ length base =
-      filled.whole.bits other in_before ∙ sym many ∙ sym (length-base_bits (board_of now.grid) (light_at (board_of now.grid) light) (row now.words (length (light_at (board_of now.grid) light)))) in
+      filled.whole.bits other in_before ∙ sym many ∙ sym (length-base_bits (board_of now.grid) (light_at (board_of now.grid) light) (known_words now.words (length (light_at (board_of now.grid) light)))) in
       let bits : bits_in opened.rows.items light ≡ common_bits (bits_in settled.rows.items other) base =
       narrowed_common change.word (length cells) (bits_in settled.rows.items other) base (bits_in opened.rows.items light) long
-      (subst (λ b. IsNarrowedRow change.word (length (light_at (board_of now.grid) light)) b (base_bits (board_of now.grid) (light_at (board_of now.grid) light) (row now.words (length (light_at (board_of now.grid) light)))) (bits_in opened.rows.items light))
+      (subst (λ b. IsNarrowedRow change.word (length (light_at (board_of now.grid) light)) b (base_bits (board_of now.grid) (light_at (board_of now.grid) light) (known_words now.words (length (light_at (board_of now.grid) light)))) (bits_in opened.rows.items light))
       (moved.rows light other in_board at many) (opened_prepared.rows_on light in_board on))
       (λ index some k apart stood. still_base light other in_board at index some k apart stood) in
       let last : get_or settled.entered.items other false ≡ (get_or settled.entered.items other false && is_wholly_entered (board_of now.grid) (light_at (board_of now.grid) light)) = elim (cases_Bool (get_or settled.entered.items other false)) [
@@ -276,10 +276,10 @@ module _ {cell : Option ℕ} (before now : State) (action : Action) (change : Fi
         | inr none ↦ none ∙ sym (ap (λ b. b && is_wholly_entered (board_of now.grid) (light_at (board_of now.grid) light)) none)
       ] in
       ap (λ bs. get_or (bs ++ get_or opened.entered.items light false ∷ []) choice false) bits
-      ∙ ap (λ f. get_or (common_bits (bits_in settled.rows.items other) (base_bits (board_of now.grid) (light_at (board_of now.grid) light) (row now.words (length (light_at (board_of now.grid) light)))) ++ f ∷ []) choice false)
+      ∙ ap (λ f. get_or (common_bits (bits_in settled.rows.items other) (base_bits (board_of now.grid) (light_at (board_of now.grid) light) (known_words now.words (length (light_at (board_of now.grid) light)))) ++ f ∷ []) choice false)
       (ap (λ flags. get_or flags light false) entered_kept ∙ moved.entered light other in_board at)
-      ∙ row_narrowed (bits_in settled.rows.items other) (base_bits (board_of now.grid) (light_at (board_of now.grid) light) (row now.words (length (light_at (board_of now.grid) light)))) (get_or settled.entered.items other false) whole choice
-      (filled.whole.bits other in_before ∙ sym many ∙ sym (length-base_bits (board_of now.grid) (light_at (board_of now.grid) light) (row now.words (length (light_at (board_of now.grid) light))))) last
+      ∙ row_narrowed (bits_in settled.rows.items other) (base_bits (board_of now.grid) (light_at (board_of now.grid) light) (known_words now.words (length (light_at (board_of now.grid) light)))) (get_or settled.entered.items other false) whole choice
+      (filled.whole.bits other in_before ∙ sym many ∙ sym (length-base_bits (board_of now.grid) (light_at (board_of now.grid) light) (known_words now.words (length (light_at (board_of now.grid) light))))) last
 
   -- ---- cells of removed lights
 

@@ -5,7 +5,7 @@ use Rattle.std.proofs.lemmas.Bool.{cases_lt, cases_eq, cases_Bool, both_ways, an
 use Rattle.std.proofs.lemmas.List.{get_or_append_left, get_or-map, length-map}
 use Rattle.std.proofs.lemmas.Option.{slice_get_within, slice_get-get_or}
 use Rattle.xw_letters.specs.Letter.{is_capital}
-use Rattle.xw_words.specs.Dictionary.{Entry, row, no_entry}
+use Rattle.xw_words.specs.Dictionary.{Entry, known_words, no_entry}
 use Rattle.xw_grid.specs.Light.{lights_of}
 use Rattle.xw_feas.specs.Board.{board_of, light_at, spelled}
 use Rattle.xw_feas.specs.Choices.{choices}
@@ -43,11 +43,11 @@ new_loses (Some word) size many = refl
 -- the held words of a net, moved to another position with the same slot
 module _ {cell : Option ℕ} (before now : State) (action : Action) (change : Fields) (is : IsChange before now action change) (settled net opened : Net)
     (is_settled : IsSettledNet (board_of before.grid) before.words (marks_of settled)) (holding : IsHolding (board_of before.grid) before.words (marks_of settled)) (moved : IsMoved before now settled net)
-    (opening : IsOpening now.grid (board_of now.grid) (lights_of now.grid) (row now.words) change cell (arrays_of net) (arrays_of opened))
-    (forgets : Forgets (board_of now.grid) (λ light. lost_from change.word (same_before change.before (lights_of now.grid) light) (length (light_at (board_of now.grid) light)) (length (row now.words (length (light_at (board_of now.grid) light)))))
+    (opening : IsOpening now.grid (board_of now.grid) (lights_of now.grid) (known_words now.words) change cell (arrays_of net) (arrays_of opened))
+    (forgets : Forgets (board_of now.grid) (λ light. lost_from change.word (same_before change.before (lights_of now.grid) light) (length (light_at (board_of now.grid) light)) (length (known_words now.words (length (light_at (board_of now.grid) light)))))
     net.held.items opened.held.items net.pending.items opened.pending.items)
     (has_not : (light : ℕ) → light < length (board_of now.grid).lights → is_marked opened.chain.marks light ≡ false
-    → may_have change.word (length (light_at (board_of now.grid) light)) (base_bits (board_of now.grid) (light_at (board_of now.grid) light) (row now.words (length (light_at (board_of now.grid) light)))) ≡ false) where
+    → may_have change.word (length (light_at (board_of now.grid) light)) (base_bits (board_of now.grid) (light_at (board_of now.grid) light) (known_words now.words (length (light_at (board_of now.grid) light)))) ≡ false) where
   abbrev seed : ℕ → Bool
   seed = is_marked opened.chain.marks
 
@@ -57,8 +57,8 @@ module _ {cell : Option ℕ} (before now : State) (action : Action) (change : Fi
   abbrev lost : ℕ → ℕ
   lost light = lost_from change.word (same_light before.grid now.grid light) (length (light_at (board_of now.grid) light)) (known (board_of now.grid) now.words light)
 
-  lost_is : (light : ℕ) → lost_from change.word (same_before change.before (lights_of now.grid) light) (length (light_at (board_of now.grid) light)) (length (row now.words (length (light_at (board_of now.grid) light)))) ≡ lost light
-  lost_is light = ap (λ ls. lost_from change.word (same_before ls (lights_of now.grid) light) (length (light_at (board_of now.grid) light)) (length (row now.words (length (light_at (board_of now.grid) light))))) is.lights
+  lost_is : (light : ℕ) → lost_from change.word (same_before change.before (lights_of now.grid) light) (length (light_at (board_of now.grid) light)) (length (known_words now.words (length (light_at (board_of now.grid) light)))) ≡ lost light
+  lost_is light = ap (λ ls. lost_from change.word (same_before ls (lights_of now.grid) light) (length (light_at (board_of now.grid) light)) (length (known_words now.words (length (light_at (board_of now.grid) light))))) is.lights
 
   matching : IsMatching (board_of before.grid) (board_of now.grid) (same_light before.grid now.grid)
   matching = same_is_matching before.grid now.grid is.width
@@ -86,10 +86,10 @@ module _ {cell : Option ℕ} (before now : State) (action : Action) (change : Fi
       | inr stays ↦ ap (λ b. cond b word.1 nowhere) stays
       | inl goes ↦
           let both = and_parts (eqb word.0 (length (light_at (board_of now.grid) light))) (leb (known (board_of now.grid) now.words light) (word.1 + 1)) goes in
-          let long = length-base_bits (board_of now.grid) (light_at (board_of now.grid) light) (row now.words (length (light_at (board_of now.grid) light))) in
-          let last : leb (length (base_bits (board_of now.grid) (light_at (board_of now.grid) light) (row now.words (length (light_at (board_of now.grid) light))))) (word.1 + 1) ≡ true = ap (λ n. leb n (word.1 + 1)) long ∙ both.1 in
-          let has : may_have (Some word) (length (light_at (board_of now.grid) light)) (base_bits (board_of now.grid) (light_at (board_of now.grid) light) (row now.words (length (light_at (board_of now.grid) light)))) ≡ true = and_from _ _ both.0 (or_left _ _ last) in
-          absurd (both_ways _ (has_not light in_board no_seed) (ap (λ w. may_have w (length (light_at (board_of now.grid) light)) (base_bits (board_of now.grid) (light_at (board_of now.grid) light) (row now.words (length (light_at (board_of now.grid) light))))) some ∙ has))
+          let long = length-base_bits (board_of now.grid) (light_at (board_of now.grid) light) (known_words now.words (length (light_at (board_of now.grid) light))) in
+          let last : leb (length (base_bits (board_of now.grid) (light_at (board_of now.grid) light) (known_words now.words (length (light_at (board_of now.grid) light))))) (word.1 + 1) ≡ true = ap (λ n. leb n (word.1 + 1)) long ∙ both.1 in
+          let has : may_have (Some word) (length (light_at (board_of now.grid) light)) (base_bits (board_of now.grid) (light_at (board_of now.grid) light) (known_words now.words (length (light_at (board_of now.grid) light)))) ≡ true = and_from _ _ both.0 (or_left _ _ last) in
+          absurd (both_ways _ (has_not light in_board no_seed) (ap (λ w. may_have w (length (light_at (board_of now.grid) light)) (base_bits (board_of now.grid) (light_at (board_of now.grid) light) (known_words now.words (length (light_at (board_of now.grid) light))))) some ∙ has))
     ]
 
     by_match : (o : Option ℕ) → same_light before.grid now.grid light ≡ o → lost light ≡ nowhere
@@ -122,17 +122,17 @@ module _ {cell : Option ℕ} (before now : State) (action : Action) (change : Fi
   -- a known word was known before, unless it is the changed word and the last one of its length
   was_known : (light held : ℕ) → held < known (board_of now.grid) now.words light
       → ((word : ℕ × ℕ) → change.word ≡ Some word → word.0 ≡ length (light_at (board_of now.grid) light) → known (board_of now.grid) now.words light ≤ word.1 + 1 → held ≡ word.1 → ⊥)
-      → held < length (row before.words (length (light_at (board_of now.grid) light)))
+      → held < length (known_words before.words (length (light_at (board_of now.grid) light)))
   was_known light held below apart = by_word change.word refl where
-    stood : (k : ℕ) → k < known (board_of now.grid) now.words light → ¬ IsIndexOf change.word (length (light_at (board_of now.grid) light)) k → k < length (row before.words (length (light_at (board_of now.grid) light)))
+    stood : (k : ℕ) → k < known (board_of now.grid) now.words light → ¬ IsIndexOf change.word (length (light_at (board_of now.grid) light)) k → k < length (known_words before.words (length (light_at (board_of now.grid) light)))
     stood k lt off = elim (cases_Bool (change.turned (length (light_at (board_of now.grid) light)))) [
       | inl on ↦ omega (arith, lt, is.counts (length (light_at (board_of now.grid) light)) on)
       | inr still ↦
-          slice_get_within (row before.words (length (light_at (board_of now.grid) light))) k (get_or (row now.words (length (light_at (board_of now.grid) light))) k no_entry)
-          (sym (is.entries (length (light_at (board_of now.grid) light)) k still off) ∙ slice_get-get_or (row now.words (length (light_at (board_of now.grid) light))) k no_entry lt)
+          slice_get_within (known_words before.words (length (light_at (board_of now.grid) light))) k (get_or (known_words now.words (length (light_at (board_of now.grid) light))) k no_entry)
+          (sym (is.entries (length (light_at (board_of now.grid) light)) k still off) ∙ slice_get-get_or (known_words now.words (length (light_at (board_of now.grid) light))) k no_entry lt)
     ]
 
-    by_word : (word : Option (ℕ × ℕ)) → change.word ≡ word → held < length (row before.words (length (light_at (board_of now.grid) light)))
+    by_word : (word : Option (ℕ × ℕ)) → change.word ≡ word → held < length (known_words before.words (length (light_at (board_of now.grid) light)))
     by_word None none = stood held below (λ found. subst (λ w. IsIndexOf w (length (light_at (board_of now.grid) light)) held) none found)
     by_word (Some word) some = elim (cases_eq held word.1) [
       | inr differs ↦ stood held below (λ found. differs (sym (subst (λ w. IsIndexOf w (length (light_at (board_of now.grid) light)) held) some found).1))
@@ -141,7 +141,7 @@ module _ {cell : Option ℕ} (before now : State) (action : Action) (change : Fi
         | inl long ↦ elim (cases_lt (word.1 + 1) (known (board_of now.grid) now.words light)) [
           | inr last ↦ absurd (apart word some long last e)
           | inl more ↦
-              let next : held + 1 < length (row before.words (length (light_at (board_of now.grid) light))) =
+              let next : held + 1 < length (known_words before.words (length (light_at (board_of now.grid) light))) =
               stood (held + 1) (omega (arith, more, e)) (λ found. let there = subst (λ w. IsIndexOf w (length (light_at (board_of now.grid) light)) (held + 1)) some found in absurd (omega (arith, there.1, e))) in
               omega (arith, next)
         ]
@@ -149,16 +149,16 @@ module _ {cell : Option ℕ} (before now : State) (action : Action) (change : Fi
     ]
 
   -- its number denotes the same word as before
-  same_word : (light other held : ℕ) → light < length (board_of now.grid).lights → same_light before.grid now.grid light ≡ Some other → held < known (board_of now.grid) now.words light → held < length (row before.words (length (light_at (board_of now.grid) light)))
+  same_word : (light other held : ℕ) → light < length (board_of now.grid).lights → same_light before.grid now.grid light ≡ Some other → held < known (board_of now.grid) now.words light → held < length (known_words before.words (length (light_at (board_of now.grid) light)))
       → get_or (choices (board_of now.grid) now.words (light_at (board_of now.grid) light)) held [] ≡ get_or (choices (board_of before.grid) before.words (light_at (board_of before.grid) other)) held []
   same_word light other held in_board at below had =
-      get_or_append_left (map (λ (word : Entry). word.word) (row now.words (length (light_at (board_of now.grid) light)))) (spelled (board_of now.grid) (light_at (board_of now.grid) light) ∷ []) [] held
-      (omega (arith, below, length-map (row now.words (length (light_at (board_of now.grid) light))) (λ (word : Entry). word.word)))
-      ∙ get_or-map (λ (word : Entry). word.word) (row now.words (length (light_at (board_of now.grid) light))) held no_entry [] below
+      get_or_append_left (map (λ (word : Entry). word.word) (known_words now.words (length (light_at (board_of now.grid) light)))) (spelled (board_of now.grid) (light_at (board_of now.grid) light) ∷ []) [] held
+      (omega (arith, below, length-map (known_words now.words (length (light_at (board_of now.grid) light))) (λ (word : Entry). word.word)))
+      ∙ get_or-map (λ (word : Entry). word.word) (known_words now.words (length (light_at (board_of now.grid) light))) held no_entry [] below
       ∙ is.spelling (length (light_at (board_of now.grid) light)) held had
-      ∙ sym (get_or-map (λ (word : Entry). word.word) (row before.words (length (light_at (board_of now.grid) light))) held no_entry [] had)
-      ∙ sym (get_or_append_left (map (λ (word : Entry). word.word) (row before.words (length (light_at (board_of now.grid) light)))) (spelled (board_of before.grid) (light_at (board_of now.grid) light) ∷ []) [] held
-      (omega (arith, had, length-map (row before.words (length (light_at (board_of now.grid) light))) (λ (word : Entry). word.word))))
+      ∙ sym (get_or-map (λ (word : Entry). word.word) (known_words before.words (length (light_at (board_of now.grid) light))) held no_entry [] had)
+      ∙ sym (get_or_append_left (map (λ (word : Entry). word.word) (known_words before.words (length (light_at (board_of now.grid) light)))) (spelled (board_of before.grid) (light_at (board_of now.grid) light) ∷ []) [] held
+      (omega (arith, had, length-map (known_words before.words (length (light_at (board_of now.grid) light))) (λ (word : Entry). word.word))))
       ∙ ap (λ cs. get_or (choices (board_of before.grid) before.words cs) held []) (matching.cells light other in_board at)
 
   pub opened_hits : (light position letter : ℕ) → IsPositionIn (board_of now.grid) light position → is_capital letter ≡ true → held_in opened (slot_at (board_of now.grid) light position) letter < known (board_of now.grid) now.words light
@@ -188,7 +188,7 @@ module _ {cell : Option ℕ} (before now : State) (action : Action) (change : Fi
         ∙ ap (λ b. cond b word.1 nowhere) (and_from _ _ (eq-eqb word.0 (length (light_at (board_of now.grid) light)) long) (le-leb (known (board_of now.grid) now.words light) (word.1 + 1) last)) in
         absurd (omega (arith, first, still.1, e))) in
         let slot = same_slot light other position here.0 at in
-        let count : length (row before.words (length (light_at (board_of now.grid) light))) ≡ known (board_of before.grid) before.words other = ap (λ cs. length (row before.words (length cs))) (matching.cells light other here.0 at) in
+        let count : length (known_words before.words (length (light_at (board_of now.grid) light))) ≡ known (board_of before.grid) before.words other = ap (λ cs. length (known_words before.words (length cs))) (matching.cells light other here.0 at) in
         let there : held_in settled (slot_at (board_of now.grid) light position) letter ≡ held_in settled (slot_at (board_of before.grid) other position) letter = ap (λ s. held_in settled s letter) slot in
         ap (puts (board_of now.grid) now.words light position letter) is_held
         ∙ ap (λ w. eqb (get_or w position 0) letter) (same_word light other (held_in settled (slot_at (board_of now.grid) light position) letter) here.0 at below_now had)

@@ -3,9 +3,9 @@ use Rattle.std.proofs.Common.{◌≡◌, ℕ, zero, suc, ◌<◌, Bool, true, fa
 use Rattle.std.specs.Prelude.{Option, is_some}
 use Rattle.std.proofs.lemmas.Bool.{and_parts, and_from, cases_lt, cases_Bool, both_ways}
 use Rattle.std.proofs.lemmas.List.{get_or_append_left, get_or_push, length-map, get_or_default}
-use Rattle.xw_words.specs.Dictionary.{Entry, Dictionary, row}
+use Rattle.xw_words.specs.Dictionary.{Entry, Dictionary, known_words}
 use Rattle.xw_feas.specs.Known.{spellings, actives}
-use Rattle.xw_feas.specs.Board.{Board, entry, light_at, allows, agrees, is_wholly_entered, spelled as spelled_of}
+use Rattle.xw_feas.specs.Board.{Board, entry, light_at, allows, agrees, is_wholly_entered, spelled as board_spelled}
 use Rattle.xw_feas.specs.Choices.{choices, base_flags, choice_at, is_base_at, IsExact}
 use Rattle.xw_feas.proofs.ChoicesLemmas.{base_flag_known, base_flag_entered, length-base_flags}
 use Rattle.xw_feas.proofs.Support.{set_flag_within}
@@ -23,7 +23,7 @@ pub record IsNarrowedBut (before after : Board) (old new : Dictionary) (cells : 
   pub words : spellings new (length cells) ≡ spellings old (length cells)
   pub active : (k : ℕ) → get_or (base_flags after new cells) k false ≡ true → get_or (actives new (length cells)) k false ≡ true → get_or (actives old (length cells)) k false ≡ true
   pub entered : is_wholly_entered after cells ≡ is_wholly_entered before cells
-  pub word : is_wholly_entered after cells ≡ true → spelled_of after cells ≡ spelled_of before cells
+  pub word : is_wholly_entered after cells ≡ true → board_spelled after cells ≡ board_spelled before cells
 
 agrees_less : (before after : Board) (cells word : List ℕ) → AllowNoMore before after cells → agrees after cells word ≡ true → agrees before cells word ≡ true
 agrees_less before after [] [] less h = refl
@@ -39,9 +39,9 @@ WasOne before after old new cells choice = (get_or (base_flags before old cells)
 choices_same : (before after : Board) (old new : Dictionary) (cells : List ℕ) → IsNarrowedBut before after old new cells → (choice : ℕ) → choice < length (spellings new (length cells)) → get_or (choices before old cells) choice [] ≡ get_or (choices after new cells) choice []
 choices_same before after old new cells narrow choice below =
     let long = ap length narrow.words in
-    get_or_append_left (spellings old (length cells)) (spelled_of before cells ∷ []) [] choice (omega arith)
+    get_or_append_left (spellings old (length cells)) (board_spelled before cells ∷ []) [] choice (omega arith)
     ∙ ap (λ ws. get_or ws choice []) (sym narrow.words)
-    ∙ sym (get_or_append_left (spellings new (length cells)) (spelled_of after cells ∷ []) [] choice below)
+    ∙ sym (get_or_append_left (spellings new (length cells)) (board_spelled after cells ∷ []) [] choice below)
 
 narrowed_one : (before after : Board) (old new : Dictionary) (cells : List ℕ) → IsNarrowedBut before after old new cells → (choice : ℕ) → get_or (base_flags after new cells) choice false ≡ true → WasOne before after old new cells choice
 narrowed_one before after old new cells narrow choice h =
@@ -64,9 +64,9 @@ narrowed_one before after old new cells narrow choice h =
           let last_before : choice ≡ length (spellings old (length cells)) = omega arith in
           let entered : is_wholly_entered after cells ≡ true = sym (base_flag_entered after new cells choice last) ∙ h in (
             base_flag_entered before old cells choice last_before ∙ sym narrow.entered ∙ entered,
-            get_or_push (spellings old (length cells)) (spelled_of before cells) [] choice (sym last_before)
+            get_or_push (spellings old (length cells)) (board_spelled before cells) [] choice (sym last_before)
                 ∙ sym (narrow.word entered)
-                ∙ sym (get_or_push (spellings new (length cells)) (spelled_of after cells) [] choice (sym last)),
+                ∙ sym (get_or_push (spellings new (length cells)) (board_spelled after cells) [] choice (sym last)),
           )
     ]
 
@@ -135,8 +135,8 @@ module _ (before after : Board) (old new : Dictionary) (same : ℕ → Option �
         (ap (λ cs. get_or (base_flags before old cs) choice false) (sym cells_same) ∙ had.0)
         (ap (λ cs. get_or (choices before old cs) choice []) (sym cells_same) ∙ had.1)
 
-    as_many : known after new light ≡ length (row old (length (light_at after light)))
-    as_many = sym (length-map (row new (length (light_at after light))) (λ (word : Entry). word.word)) ∙ ap length (started.spelled light in_board no_seed) ∙ length-map (row old (length (light_at after light))) (λ (word : Entry). word.word)
+    as_many : known after new light ≡ length (known_words old (length (light_at after light)))
+    as_many = sym (length-map (known_words new (length (light_at after light))) (λ (word : Entry). word.word)) ∙ ap length (started.spelled light in_board no_seed) ∙ length-map (known_words old (length (light_at after light))) (λ (word : Entry). word.word)
 
     -- the number of an earlier base word denotes the same word
     same_choice : (other choice : ℕ) → same light ≡ Some other → is_base_at before old other choice ≡ true → choice_at before old other choice ≡ choice_at after new light choice
@@ -152,9 +152,9 @@ module _ (before after : Board) (old new : Dictionary) (same : ℕ → Option �
               let last_before : choice ≡ length (spellings old (length (light_at after light))) = omega (arith, length-base_flags before old (light_at after light)) in
               let last : choice ≡ length (spellings new (length (light_at after light))) = omega arith in
               let whole : is_wholly_entered before (light_at after light) ≡ true = sym (base_flag_entered before old (light_at after light) choice last_before) ∙ base in
-              get_or_push (spellings old (length (light_at after light))) (spelled_of before (light_at after light)) [] choice (sym last_before)
+              get_or_push (spellings old (length (light_at after light))) (board_spelled before (light_at after light)) [] choice (sym last_before)
               ∙ sym (spelled_same before after (light_at after light) (whole_same whole))
-              ∙ sym (get_or_push (spellings new (length (light_at after light))) (spelled_of after (light_at after light)) [] choice (sym last))
+              ∙ sym (get_or_push (spellings new (length (light_at after light))) (board_spelled after (light_at after light)) [] choice (sym last))
         ]
 
 module _ (before after : Board) (old new : Dictionary) (same : ℕ → Option ℕ) (settled start : Marks) (seed : ℕ → Bool)
@@ -202,7 +202,7 @@ module _ (before after : Board) (old new : Dictionary) (same : ℕ → Option �
     lights = started.lights;
     matched = started.matched;
     as_many = λ light other in_board no_seed at.
-        as_many before after old new same settled start seed matching started light in_board no_seed ∙ ap (λ cs. length (row old (length cs))) (matching.cells light other in_board at);
+        as_many before after old new same settled start seed matching started light in_board no_seed ∙ ap (λ cs. length (known_words old (length cs))) (matching.cells light other in_board at);
     choices = choice_same;
     calm = λ light choice in_board no_seed calm was_there.
         let found = was-gives before after old new same settled.words light choice was_there in

@@ -1,7 +1,7 @@
 -- A net to which words and letters came back, and from which stripping can start.
 use Rattle.std.proofs.Common.{◌≡◌, ℕ, ◌≤◌, Bool, false, [], sym, ap, ◌∙◌, subst, arith}
 use Rattle.std.specs.Prelude.{vec_items}
-use Rattle.xw_words.specs.Dictionary.{Dictionary, row}
+use Rattle.xw_words.specs.Dictionary.{Dictionary, known_words}
 use Rattle.xw_feas.specs.Board.{Board}
 use Rattle.xw_net.specs.Marks.{IsHolding, IsReady}
 use Rattle.xw_net.specs.Room.{row_at}
@@ -15,8 +15,8 @@ use Rattle.xw_net.proofs.Stripping.HeldWords.{same_holding}
 -- `old` is the net before words and letters come back, `back` the one after, and `new` is `back`
 -- with no light marked
 module _ (board : Board) (dictionary : Dictionary) (old back new : Net) where
-  pub brought_unstripped : IsWholeNet board (row dictionary) old → IsBase board dictionary old.base.items
-      → IsShaped board new → IsChained board new → HasBits board (row dictionary) back → back.base ≡ old.base → new.chain.lights ≡ []
+  pub brought_unstripped : IsWholeNet board (known_words dictionary) old → IsBase board dictionary old.base.items
+      → IsShaped board new → IsChained board new → HasBits board (known_words dictionary) back → back.base ≡ old.base → new.chain.lights ≡ []
       → ((light : ℕ) → (row_at old.rows.items light).room ≤ (row_at back.rows.items light).room)
       → (chain : ℕ → Bool) → IsBrought board dictionary (marks_of old) (marks_of back) chain
       → IsReady board dictionary (marks_of back) → IsHolding board dictionary (marks_of old) → ((slot letter : ℕ) → pending_in old slot letter ≡ false)
@@ -29,8 +29,8 @@ module _ (board : Board) (dictionary : Dictionary) (old back new : Net) where
         whole = record {
           shaped = shaped;
           chained = chained;
-          bits = subst (HasBits board (row dictionary)) (sym same) bits;
-          base = subst (HasBase board (row dictionary)) (sym new_base) whole.base;
+          bits = subst (HasBits board (known_words dictionary)) (sym same) bits;
+          base = subst (HasBase board (known_words dictionary)) (sym new_base) whole.base;
           room = λ light lt. omega (arith, whole.room light lt, room light, ap (λ (net : Net). (row_at net.rows.items light).room) same);
           base_room = λ light lt. omega (arith, whole.base_room light lt, ap (λ rows. (row_at rows light).room) new_base);
         };

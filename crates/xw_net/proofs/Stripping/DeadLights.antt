@@ -1,8 +1,7 @@
 -- A light of which a net has no word is dead, if the net has all that is feasible.
-use Rattle.std.proofs.Common.{◌≡◌, ℕ, Bool, true, false, List, [], sym, subst}
-use Rattle.std.specs.Prelude.{Option, Some, None, IfSome, IfNone, slice_index_or}
+use Rattle.std.proofs.Common.{◌≡◌, ℕ, Bool, true, false, List, sym, subst}
 use Rattle.std.proofs.Math.Logic.{∥∥₁_elim}
-use Rattle.std.proofs.lemmas.Bool.{both_ways, false≢true}
+use Rattle.std.proofs.lemmas.Bool.{both_ways}
 use mathlib.Core.HLevel.{⊥_prop}
 use Rattle.xw_words.specs.Dictionary.{Dictionary}
 use Rattle.xw_feas.specs.Board.{Board, light_at}
@@ -19,8 +18,3 @@ covered_dead board dictionary word_stands letter_stands light covers none word f
     let number = number_of_base board dictionary (light_at board light) word base.1 in
     both_ways (word_stands light number.0) (none number.0)
     ((covers found.0 found.1).words light number.0 base.0 number.1 (subst (λ w. found.0.words light w ≡ true) (sym number.2) found.2)))
-
--- stripping that watches no light does not stop
-pub never_stops : {X : Type 0} (result : Option ℕ) → IfSome result (λ light. slice_index_or [] light false ≡ true) → IfNone result X → X
-never_stops None watched settled = settled
-never_stops (Some light) watched settled = absurd (false≢true watched)

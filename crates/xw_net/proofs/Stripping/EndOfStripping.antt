@@ -5,7 +5,7 @@ use Rattle.std.proofs.lemmas.Bool.{cases_Bool, cases_eq, both_ways, and_parts, a
 use Rattle.std.proofs.lemmas.List.{get_or_push, length-map}
 use Rattle.std.proofs.lemmas.List.Folds.{list_all_at}
 use Rattle.xw_letters.specs.Letter.{is_capital}
-use Rattle.xw_words.specs.Dictionary.{Dictionary, Entry, row}
+use Rattle.xw_words.specs.Dictionary.{Dictionary, Entry, known_words}
 use Rattle.xw_feas.specs.Board.{Board, light_at, entry, is_open, allows, agrees, is_wholly_entered}
 use Rattle.xw_feas.specs.Choices.{SupportsItself, IsExact}
 use Rattle.xw_feas.proofs.Support.{exact_when_none_unsupported}
@@ -115,8 +115,8 @@ module _ (board : Board) (entries : ℕ → List Entry) (dictionary : Dictionary
   wholly_entered : (light : ℕ) → marks.words light (known board dictionary light) ≡ true → is_wholly_entered board (light_at board light) ≡ true
   wholly_entered light stands =
       let cells = light_at board light in
-      let flags = map (λ (word : Entry). not (is_wholly_entered board cells) && (word.active && agrees board cells word.word)) (row dictionary (length cells)) in
-      sym (get_or_push flags (is_wholly_entered board cells) false (known board dictionary light) (length-map (row dictionary (length cells)) (λ (word : Entry). not (is_wholly_entered board cells) && (word.active && agrees board cells word.word))))
+      let flags = map (λ (word : Entry). not (is_wholly_entered board cells) && (word.active && agrees board cells word.word)) (known_words dictionary (length cells)) in
+      sym (get_or_push flags (is_wholly_entered board cells) false (known board dictionary light) (length-map (known_words dictionary (length cells)) (λ (word : Entry). not (is_wholly_entered board cells) && (word.active && agrees board cells word.word))))
       ∙ settled.ready.sound.within.words light (known board dictionary light) stands
 
   -- the entered word has each letter in the net at its cells

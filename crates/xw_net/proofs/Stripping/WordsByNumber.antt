@@ -5,7 +5,7 @@ use Rattle.std.proofs.lemmas.Bool.{cases_lt, cases_eq, both_ways, and_parts, and
 use Rattle.std.proofs.lemmas.List.{get_or-map, get_or_append_left, get_or_push, length-map, get_or-set_same, get_or-set_other}
 use Rattle.std.proofs.lemmas.Option.{slice_get-get_or, slice_get_within}
 use Rattle.xw_bits.specs.Bits.{RowOfBits}
-use Rattle.xw_words.specs.Dictionary.{Dictionary, Entry, row, no_entry}
+use Rattle.xw_words.specs.Dictionary.{Dictionary, Entry, known_words, no_entry}
 use Rattle.xw_words.specs.Columns.{has_letter, letter_is}
 use Rattle.xw_letters.specs.LetterSet.{has}
 use Rattle.xw_letters.proofs.LetterSetLemmas.{has-none}
@@ -67,9 +67,9 @@ module _ (board : Board) (entries : ℕ → List Entry) (dictionary : Dictionary
   pub bits_known : (net : Net) → HasBits board entries net → (i : ℕ) → i < length board.lights → length (bits_for net i) ≡ known board dictionary i
   bits_known net bits i lt = bits i lt ∙ ap length (setting.read (length (light_at board i)))
 
-  pub choice_listed : (i k : ℕ) → k < known board dictionary i → choice_at board dictionary i k ≡ (get_or (row dictionary (length (light_at board i))) k no_entry).word
+  pub choice_listed : (i k : ℕ) → k < known board dictionary i → choice_at board dictionary i k ≡ (get_or (known_words dictionary (length (light_at board i))) k no_entry).word
   choice_listed i k lt =
-      let words = row dictionary (length (light_at board i)) in
+      let words = known_words dictionary (length (light_at board i)) in
       get_or_append_left (map (λ (word : Entry). word.word) words) (spelled board (light_at board i) ∷ []) [] k (omega (arith, length-map words (λ (word : Entry). word.word)))
       ∙ get_or-map (λ (word : Entry). word.word) words k no_entry [] lt
 
@@ -78,7 +78,7 @@ module _ (board : Board) (entries : ℕ → List Entry) (dictionary : Dictionary
 
   pub letter_listed : (i q k letter : ℕ) → IsPositionIn board i q → k < known board dictionary i → has_letter (entries (length (light_at board i))) q letter k ≡ eqb (letter_of board dictionary i k q) letter
   letter_listed i q k letter position lt =
-      let words = row dictionary (length (light_at board i)) in
+      let words = known_words dictionary (length (light_at board i)) in
       let word = (get_or words k no_entry).word in
       let long : length word ≡ length (light_at board i) = (setting.words.words (length (light_at board i))).long k no_entry lt in
       ap (λ es. has_letter es q letter k) (setting.read (length (light_at board i)))
@@ -87,7 +87,7 @@ module _ (board : Board) (entries : ℕ → List Entry) (dictionary : Dictionary
 
   pub letter_entered : (i q : ℕ) → IsPositionIn board i q → letter_of board dictionary i (known board dictionary i) q ≡ unwrap_or (entry board (cell_at board i q)) 65
   letter_entered i q position =
-      let words = row dictionary (length (light_at board i)) in
+      let words = known_words dictionary (length (light_at board i)) in
       ap (λ w. get_or w q 0) (get_or_push (map (λ (word : Entry). word.word) words) (spelled board (light_at board i)) [] (known board dictionary i) (length-map words (λ (word : Entry). word.word)))
       ∙ get_or-map (λ cell. unwrap_or (entry board cell) 65) (light_at board i) q 0 0 position.1
 

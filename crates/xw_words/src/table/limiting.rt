@@ -2,7 +2,7 @@
 ghost use Rattle.xw_bits.specs.Bits.{has_bit};
 ghost use Rattle.std.specs.Prelude.{◌≡◌, ℕ, ◌+◌, ◌*◌, ◌<◌, ◌≤◌, true, false, length, slice_index_or, map};
 ghost use Rattle.std.specs.List.{list_any};
-ghost use Rattle.xw_words.specs.Dictionary.{entry_at, all_limited, is_left as is_left_in, is_turned as is_turned_in};
+ghost use Rattle.xw_words.specs.Dictionary.{entry_at, all_limited, is_left as spec_is_left, is_turned as spec_is_turned};
 ghost use Rattle.xw_words.specs.Marks.{no_marks, are_left};
 
 use crate::marks::{Marks, left_bits};
@@ -37,7 +37,7 @@ impl Table {
     /// first word is the lowest bit.
     fn left_chunk(&self, chunk: usize, least: u8) -> u64
         requires { 64 * chunk < length self.now.entries }
-        ensures { (k : ℕ) → k < 64 → 64 * chunk + k < length self.now.entries → has_bit result k ≡ is_left_in least (entry_at self.now.entries (64 * chunk + k)) }
+        ensures { (k : ℕ) → k < 64 → 64 * chunk + k < length self.now.entries → has_bit result k ≡ spec_is_left least (entry_at self.now.entries (64 * chunk + k)) }
     {
         let known = self.len();
         let first = 64 * chunk;
@@ -47,7 +47,7 @@ impl Table {
     /// Whether word `index` is active but would be left out at this least grade, or the other way round.
     fn is_turned(&self, index: usize, least: u8) -> bool
         requires { index < length self.now.entries }
-        ensures { result ≡ is_turned_in least (entry_at self.now.entries index) }
+        ensures { result ≡ spec_is_turned least (entry_at self.now.entries index) }
     {
         let left = self.marks(index).is_left(least);
         if self.is_active(index) { !left } else { left }
@@ -57,8 +57,8 @@ impl Table {
     /// looks at single words only if there is one.
     fn turns_chunk(&self, chunk: usize, least: u8) -> bool
         requires { 64 * chunk < length self.now.entries }
-        ensures yes { result ≡ true → list_any (is_turned_in least) self.now.entries ≡ true }
-        ensures no { result ≡ false → (k : ℕ) → 64 * chunk ≤ k → k < 64 * chunk + 64 → k < length self.now.entries → is_turned_in least (entry_at self.now.entries k) ≡ false }
+        ensures yes { result ≡ true → list_any (spec_is_turned least) self.now.entries ≡ true }
+        ensures no { result ≡ false → (k : ℕ) → 64 * chunk ≤ k → k < 64 * chunk + 64 → k < length self.now.entries → spec_is_turned least (entry_at self.now.entries k) ≡ false }
     {
         if self.left_chunk(chunk, least) == self.active_chunk(chunk) {
             return false;
@@ -74,7 +74,7 @@ impl Table {
 
     /// Whether a word is active but would be left out at this least grade, or the other way round.
     pub fn turns(&self, least: u8) -> bool
-        ensures { result ≡ list_any (is_turned_in least) self.now.entries }
+        ensures { result ≡ list_any (spec_is_turned least) self.now.entries }
     {
         for chunk in 0..self.len().div_ceil(64) {
             if self.turns_chunk(chunk, least) {

@@ -3,7 +3,6 @@ use Rattle.xw_feas.specs.State.{State}
 use Rattle.xw_fill.specs.Position.{position_of, DiffersInEntries}
 use Rattle.xw_fill.specs.NamedFill.{flags, IsFillOf}
 use Rattle.xw_fill.specs.Inner.Progress.{entries_of, HasNone, IsOpen, IsPlan}
-use Rattle.xw_fill.specs.Inner.Stack.{IsReady}
 use Rattle.xw_fill.specs.declared.named_lights.run.Ending.{Ending}
 use Rattle.xw_fill.specs.declared.named_lights.run.Ending.TheVariants as endings
 use Rattle.xw_fill.proofs.AllowanceLemmas.{counted_same, counted-then}
@@ -20,16 +19,13 @@ is_memory endings.Memory = Unit {0}
 is_memory other = ⊥
 
 pub loop-effort-init : goal.loop-effort-init
-loop-effort-init g c = record { same = refl; made = omega arith; until = refl; limit = refl; count = refl; ready = c.requires.ready }
+loop-effort-init g c = record { same = refl; made = omega arith; until = refl; limit = refl; count = refl }
 
 pub run-requires-clause-plan : goal.run-requires-clause-plan
 run-requires-clause-plan g c = subst (λ (s : State). IsPlan (position_of s) c.args.plan.now) (sym c.loop-effort.invariant.same) c.requires.plan
 
 pub run-requires-clause-open : goal.run-requires-clause-open
 run-requires-clause-open g c = subst (λ (s : State). IsOpen (flags c.args.plan.now.named.items) (position_of s) (entries_of s)) (sym c.loop-effort.invariant.same) c.requires.open
-
-pub run-requires-clause-ready : goal.run-requires-clause-ready
-run-requires-clause-ready g c = c.loop-effort.invariant.ready
 
 pub returns-in-Filled-clause-ok : goal.returns-in-Filled-clause-ok
 returns-in-Filled-clause-ok g c =
@@ -63,7 +59,6 @@ loop-effort-preserved g c = record {
   until = c.run.ensures.until ∙ c.loop-effort.invariant.until;
   limit = c.run.ensures.counted.limit ∙ c.loop-effort.invariant.limit;
   count = omega (arith, c.loop-effort.invariant.count, c.in-Cut.ensures.placed (λ e. subst is_memory (sym e) tt));
-  ready = subst (IsReady g.E.Searchable.saved c.run.new.stack) (sym (c.in-Cut.ensures.same (λ e. subst is_filled (sym e) tt))) c.run.ensures.ready;
 }
 
 pub returns-in-Filled-clause-entered : goal.returns-in-Filled-clause-entered
@@ -94,18 +89,6 @@ pub returns-in-Memory-clause-counted : goal.returns-in-Memory-clause-counted
 returns-in-Memory-clause-counted g c =
     counted_same c.args.allowance.now c.run.new.allowance (g.E.Feasible.state c.args.engine.now) (g.E.Feasible.state c.run.new.engine) (omega (arith, c.loop-effort.invariant.made, c.run.ensures.counted.made)) (c.run.ensures.counted.limit ∙ c.loop-effort.invariant.limit)
     (c.in-Memory.ensures.same (λ e. subst is_filled (sym e) tt) ∙ c.loop-effort.invariant.same)
-
-pub returns-in-Filled-clause-ready : goal.returns-in-Filled-clause-ready
-returns-in-Filled-clause-ready g c = subst (IsReady g.E.Searchable.saved c.run.new.stack) c.loop-effort.invariant.same c.run.ensures.ready
-
-pub returns-in-NoFill-clause-ready : goal.returns-in-NoFill-clause-ready
-returns-in-NoFill-clause-ready g c = subst (IsReady g.E.Searchable.saved c.run.new.stack) c.loop-effort.invariant.same c.run.ensures.ready
-
-pub returns-in-Limit-clause-ready : goal.returns-in-Limit-clause-ready
-returns-in-Limit-clause-ready g c = subst (IsReady g.E.Searchable.saved c.run.new.stack) c.loop-effort.invariant.same c.run.ensures.ready
-
-pub returns-in-Memory-clause-ready : goal.returns-in-Memory-clause-ready
-returns-in-Memory-clause-ready g c = subst (IsReady g.E.Searchable.saved c.run.new.stack) c.loop-effort.invariant.same c.run.ensures.ready
 
 pub returns-in-Filled-clause-placed : goal.returns-in-Filled-clause-placed
 returns-in-Filled-clause-placed g c = omega (arith, c.loop-effort.invariant.count, c.in-Filled.ensures.placed (λ e. subst is_memory (sym e) tt))

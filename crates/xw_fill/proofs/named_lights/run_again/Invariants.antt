@@ -1,6 +1,5 @@
 use Rattle.std.proofs.Common.{◌≡◌, ◌-◌, ◌≤◌}
 use Rattle.xw_fill.specs.Allowance.{HasPlaced}
-use Rattle.xw_fill.specs.Inner.Stack.{IsReady}
 use Rattle.xw_fill.proofs.named_lights.run_again.Given as goal
 
 abbrev pub invariant-loop-effort : goal.invariant-loop-effort
@@ -10,7 +9,6 @@ invariant-loop-effort g l = record {
   until : l.allowance.until ≡ l.initial.allowance.until;
   limit : l.allowance.limit ≡ l.initial.allowance.limit;
   count : HasPlaced l.initial.allowance l.allowance (g.E.Feasible.placed l.initial.engine) (g.E.Feasible.placed l.engine);
-  ready : IsReady g.E.Searchable.saved l.stack (g.E.Feasible.state l.engine);
 }
 
 abbrev pub decreases-loop-effort : goal.decreases-loop-effort

@@ -1,15 +1,17 @@
-use Rattle.std.proofs.Common.{◌≡◌, suc, ◌+◌, ◌≤◌, sym, length, length-append, [], ◌∷◌, ◌++◌, ap, ◌∙◌, subst, arith}
+use Rattle.std.proofs.Common.{◌≡◌, suc, refl, ◌+◌, ◌≤◌, sym, length, length-append, [], ◌∷◌, ◌++◌, ap, ◌∙◌, subst, arith}
 use Rattle.std.specs.Option.{option_to_list}
-use Rattle.xw_feas.specs.Board.{light_at}
 use Rattle.xw_fill.specs.Position.{position_of}
 use Rattle.xw_fill.specs.Filling.{IsFilling}
 use Rattle.xw_fill.specs.Inner.Noted.{noted, AreEntered, StayNoted}
-use Rattle.xw_fill.specs.Inner.Tries.{AreBlanks, IsMade}
+use Rattle.xw_fill.specs.Inner.Stack.{first_or}
+use Rattle.xw_fill.specs.Inner.Stepping.{HasStepped}
+use Rattle.xw_fill.specs.Inner.Tries.{IsMade}
+use Rattle.xw_fill.specs.declared.tries.Try.{Try}
 use Rattle.xw_fill.specs.declared.search.Filling.TheVariants.{Filled, NoFill}
 use Rattle.xw_fill.specs.declared.search.Next.{Next}
 use Rattle.xw_fill.specs.declared.search.Next.TheVariants.{Done, Spent, Words}
-use Rattle.xw_fill.proofs.FeasibleWordsLemmas.{AreAnswers-along}
-use Rattle.xw_fill.proofs.Searching.{IsSearching, IsSound-formed, searching-start, searching-back, searching-spent, searching-open, searching-placed, searching-failed, searching-room, searching-done, searching-none, filling-fill, searching-popped, searching-empty, searching-alive, searching-count, outcome_filling, last-index, due-more}
+use Rattle.xw_fill.proofs.StackLemmas.{stands_empty}
+use Rattle.xw_fill.proofs.Searching.{IsSearching, IsSound-formed, searching-start, searching-returned, searching-spent, searching-open, searching-placed, searching-failed, searching-done, searching-none, filling-fill, searching-popped, searching-empty, searching-alive, searching-count, outcome_filling, last-index, due-more}
 use Rattle.xw_fill.proofs.StateLemmas.{DiffersInEntries-itself, DiffersInEntries-then}
 use Rattle.xw_fill.proofs.Trail.{after_try, AreNotedAlong, noted-last, noted-back, noted-more}
 use Rattle.xw_fill.proofs.search.fill_from.Invariants.{steps}
@@ -105,26 +107,14 @@ search-preserved-in-None-next_word_index g c =
     let sound = IsSound-formed before (g.met.E.Feasible.well_formed c.args.engine.now) in
     record {
       entries = c.search.invariant.entries;
-      root = c.search.invariant.root;
+      began = c.search.invariant.began;
       stands = c.search.invariant.stands;
       long = c.search.invariant.long;
       noted = c.search.invariant.noted;
       searching = searching-spent start current c.search.stack.placements.items c.search.used c.in-Words.light c.in-Words.from sound searching c.in-None-next_word_index.ensures;
-      room = c.search.invariant.room;
       few = c.search.invariant.few;
       count = c.search.invariant.count;
     }
-
-pub returns-in-None-clause-answers : goal.returns-in-None-clause-answers
-returns-in-None-clause-answers g c =
-    let before = g.E.Feasible.state c.args.engine.now in
-    let start = position_of before in
-    let now = g.E.Feasible.state c.search.engine in
-    let current = position_of now in
-    let long : length c.search.stack.placements.items ≡ 0 = ap length c.in-None.ensures.none in
-    let searching = searching-empty start current c.search.stack.placements.items c.back.new.self.placements.items c.back.result c.search.used c.search.next c.search.invariant.searching c.in-Spent.is c.back.ensures.placements c.in-None.is long in
-    ap g.E.Feasible.answers c.in-None.ensures.same
-    ∙ AreAnswers-along current start (g.E.Feasible.answers c.search.engine) (g.E.Feasible.answers c.args.engine.now) (g.met.E.Feasible.exact c.search.engine) (g.met.E.Feasible.exact c.args.engine.now) (searching-none start current c.search.used c.args.limit searching c.search.invariant.few).2
 
 pub search-init : goal.search-init
 search-init g c =
@@ -132,9 +122,8 @@ search-init g c =
     record {
       searching = rw (c.requires.empty, c.requires.first) (searching-start (position_of before));
       entries = DiffersInEntries-itself before;
-      root = c.requires.start;
-      stands = c.requires.stands;
-      room = c.requires.room;
+      began = ap (λ levels. first_or levels before) c.requires.levels;
+      stands = stands_empty IsMade c.args.stack.now.placements.items (g.E.Searchable.levels c.args.engine.now) before c.requires.empty c.requires.levels;
       few = omega arith;
       count = omega arith;
       noted = rw c.requires.empty c.requires.entered;
@@ -153,16 +142,14 @@ search-preserved-in-Some g c =
     let after = g.E.Feasible.state c.back.new.engine in
     let left = c.back.new.self.placements.items in
     let tried = c.in-Some.tried in
-    let sound = IsSound-formed before (g.met.E.Feasible.well_formed c.args.engine.now) in
     let popped = searching-popped start current c.search.stack.placements.items left c.back.result tried c.search.used c.search.next c.search.invariant.searching c.in-Spent.is c.back.ensures.placements c.in-Some.is in
     let items : c.search.stack.placements.items ≡ left ++ tried ∷ [] = c.back.ensures.placements ∙ ap (λ o. left ++ option_to_list o) c.in-Some.is in
-    let made : IsMade tried after now = c.in-Some.ensures.back in
+    let began = c.back.ensures.start ∙ c.search.invariant.began in
     record {
-      searching = subst (λ position. IsSearching start left c.search.used position (Words tried.light (tried.index + 1))) made.back (searching-back start current left tried c.search.used sound popped);
+      searching = searching-returned start current left tried c.search.used before after (g.E.Searchable.levels c.back.new.engine) popped c.back.ensures.stands began refl;
       entries = DiffersInEntries-then before now after c.search.invariant.entries c.back.ensures.entries;
-      root = c.back.ensures.start ∙ c.search.invariant.root;
+      began = began;
       stands = c.back.ensures.stands;
-      room = rw c.back.ensures.capacity c.search.invariant.room;
       few = c.search.invariant.few;
       count = c.back.ensures.count ∙ c.search.invariant.count;
       long = c.search.invariant.long;
@@ -170,7 +157,7 @@ search-preserved-in-Some g c =
     }
 
 pub reset-requires : goal.reset-requires
-reset-requires g c = record { twin = c.search.invariant.stands.root; marks = c.search.invariant.stands.marks.can_mark }
+reset-requires g c = record { stands = c.search.invariant.stands }
 
 pub returns-then-used-limit-clause-found : goal.returns-then-used-limit-clause-found
 returns-then-used-limit-clause-found g c =
@@ -180,15 +167,10 @@ returns-then-used-limit-clause-found g c =
     let searching = subst (IsSearching start c.search.stack.placements.items c.search.used current) c.in-Words.is c.search.invariant.searching in
     let sound = IsSound-formed before (g.met.E.Feasible.well_formed c.args.engine.now) in
     let more = due-more start current c.search.stack.placements.items c.search.used c.in-Words.light c.in-Words.from c.in-Some-next_word_index.index sound searching c.in-Some-next_word_index.ensures in
-    (rw (← c.if-used-limit.true) more, c.reset.ensures.back ∙ c.search.invariant.root)
+    (rw (← c.if-used-limit.true) more, c.reset.ensures.back ∙ c.search.invariant.began)
 
-pub returns-then-used-limit-clause-answers : goal.returns-then-used-limit-clause-answers
-returns-then-used-limit-clause-answers g c =
-    let start = position_of (g.E.Feasible.state c.args.engine.now) in
-    AreAnswers-along (position_of (g.E.Feasible.state c.reset.new.engine)) start (g.E.Feasible.answers c.reset.new.engine) (g.E.Feasible.answers c.args.engine.now) (g.met.E.Feasible.exact c.reset.new.engine) (g.met.E.Feasible.exact c.args.engine.now) (ap position_of (c.reset.ensures.back ∙ c.search.invariant.root))
-
-pub make_try-tried-requires : goal.make_try-tried-requires
-make_try-tried-requires g c =
+pub try_word-requires-clause-may : goal.try_word-requires-clause-may
+try_word-requires-clause-may g c =
     let start = position_of (g.E.Feasible.state c.args.engine.now) in
     let current = position_of (g.E.Feasible.state c.search.engine) in
     let searching = subst (IsSearching start c.search.stack.placements.items c.search.used current) c.in-Words.is c.search.invariant.searching in
@@ -210,29 +192,19 @@ try_word-requires-clause-entered g c =
     let same : length tries + 0 ≡ length tries = omega arith in
     subst (λ n. AreEntered current (noted c.search.since (suc n))) same last
 
-pub try_word-requires-clause-room : goal.try_word-requires-clause-room
-try_word-requires-clause-room g c =
-    let start = position_of (g.E.Feasible.state c.args.engine.now) in
-    let current = position_of (g.E.Feasible.state c.search.engine) in
-    let searching = subst (IsSearching start c.search.stack.placements.items c.search.used current) c.in-Words.is c.search.invariant.searching in
-    let room = searching-room start current c.search.stack.placements.items c.search.used c.in-Words.light c.in-Words.from searching in
-    omega (arith, room, c.search.invariant.room)
-
-pub search-preserved-in-Some-try_word : goal.search-preserved-in-Some-try_word
-search-preserved-in-Some-try_word g c =
+pub search-preserved-in-Some-led : goal.search-preserved-in-Some-led
+search-preserved-in-Some-led g c =
     let before = g.E.Feasible.state c.args.engine.now in
     let start = position_of before in
     let now = g.E.Feasible.state c.search.engine in
     let current = position_of now in
     let after = g.E.Feasible.state c.try_word.new.engine in
     let tries = c.search.stack.placements.items in
-    let tried = c.make_try-tried.result in
-    let is = c.make_try-tried.ensures in
+    let tried : Try = record { light = c.in-Words.light; index = c.in-Some-next_word_index.index } in
     let searching = subst (IsSearching start tries c.search.used current) c.in-Words.is c.search.invariant.searching in
     let sound = IsSound-formed before (g.met.E.Feasible.well_formed c.args.engine.now) in
-    let blanks = subst (λ light. AreBlanks current.board (light_at current.board light) tried.blanks) is.light is.can.blanks in
-    let placed_now = searching-placed start current tries c.search.used c.in-Words.light c.in-Words.from c.in-Some-next_word_index.index tried sound searching c.in-Some-next_word_index.ensures is.light is.index blanks in
-    let placed = c.in-Some-try_word.ensures.placed in
+    let placed_now = searching-placed start current tries c.search.used c.in-Words.light c.in-Words.from c.in-Some-next_word_index.index tried sound searching c.in-Some-next_word_index.ensures refl refl in
+    let placed = subst (HasStepped tried now tries c.search.since after c.try_word.new.stack.placements.items c.try_word.new.since) c.in-Some-led.is c.in-Ok.ensures.led in
     let there : position_of after ≡ after_try current tried = placed.made.placed in
     let items = placed.pushed in
     let count : length tries ≡ length tries + 0 = omega arith in
@@ -241,11 +213,10 @@ search-preserved-in-Some-try_word g c =
     record {
       searching = rw (items, placed.step, there) placed_now;
       entries = DiffersInEntries-then before now after c.search.invariant.entries c.try_word.ensures.entries;
-      root = c.try_word.ensures.start ∙ c.search.invariant.root;
+      began = c.try_word.ensures.start ∙ c.search.invariant.began;
       stands = c.try_word.ensures.stands;
-      room = omega (arith, c.try_word.ensures.capacity, c.search.invariant.room);
       few = omega (arith, c.if-used-limit.false, c.search.invariant.few);
-      count = omega (arith, c.try_word.ensures.count, c.search.invariant.count);
+      count = omega (arith, c.in-Ok.ensures.count, c.search.invariant.count);
       noted = rw items (noted-more tries _ start _ _ current tried c.search.since c.try_word.new.since 0 c.search.invariant.searching.trail c.search.invariant.noted stay last);
       long = c.try_word.ensures.long ∙ c.search.invariant.long;
     }
@@ -258,27 +229,21 @@ search-preserved g c =
     let current = position_of now in
     let after = g.E.Feasible.state c.try_word.new.engine in
     let tries = c.search.stack.placements.items in
-    let tried = c.make_try-tried.result in
-    let is = c.make_try-tried.ensures in
+    let tried : Try = record { light = c.in-Words.light; index = c.in-Some-next_word_index.index } in
     let searching = subst (IsSearching start tries c.search.used current) c.in-Words.is c.search.invariant.searching in
     let sound = IsSound-formed before (g.met.E.Feasible.well_formed c.args.engine.now) in
-    let blanks = subst (λ light. AreBlanks current.board (light_at current.board light) tried.blanks) is.light is.can.blanks in
-    let died = c.in-None-try_word.ensures.died in
-    let failed = searching-failed start current tries c.search.used c.in-Words.light c.in-Words.from c.in-Some-next_word_index.index tried (position_of died.there) sound searching c.in-Some-next_word_index.ensures is.light is.index blanks died.made.placed died.made.back died.dead in
+    let died = subst (HasStepped tried now tries c.search.since after c.try_word.new.stack.placements.items c.try_word.new.since) c.in-None-led.is c.in-Ok.ensures.led in
+    let failed = searching-failed start current tries c.search.used c.in-Words.light c.in-Words.from c.in-Some-next_word_index.index tried (position_of died.there) sound searching c.in-Some-next_word_index.ensures refl refl died.made.placed died.dead in
     record {
       searching = rw (died.kept, ap position_of died.same) failed;
       entries = DiffersInEntries-then before now after c.search.invariant.entries c.try_word.ensures.entries;
-      root = c.try_word.ensures.start ∙ c.search.invariant.root;
+      began = c.try_word.ensures.start ∙ c.search.invariant.began;
       stands = c.try_word.ensures.stands;
-      room = omega (arith, c.try_word.ensures.capacity, c.search.invariant.room);
       few = omega (arith, c.if-used-limit.false, c.search.invariant.few);
-      count = omega (arith, c.try_word.ensures.count, c.search.invariant.count);
+      count = omega (arith, c.in-Ok.ensures.count, c.search.invariant.count);
       noted = rw (died.kept, died.notes) c.search.invariant.noted;
       long = ap length died.notes ∙ c.search.invariant.long;
     }
-
-pub try_word-requires-clause-may : goal.try_word-requires-clause-may
-try_word-requires-clause-may g c = c.make_try-tried.ensures.can
 
 pub try_word-requires-clause-stands : goal.try_word-requires-clause-stands
 try_word-requires-clause-stands g c = c.search.invariant.stands
@@ -297,14 +262,18 @@ steps-few Done = omega arith
 steps-few Spent = omega arith
 steps-few (Words light from) = omega arith
 
-pub search-smaller-in-Some-try_word : goal.search-smaller-in-Some-try_word
-search-smaller-in-Some-try_word g c =
+pub search-smaller-in-Some-led : goal.search-smaller-in-Some-led
+search-smaller-in-Some-led g c =
     let tries = c.search.stack.placements.items in
-    let pushed = c.in-Some-try_word.ensures.placed.pushed in
-    omega (arith, ap steps c.in-Words.is, steps-few c.in-Some-try_word.placed, ap length pushed, length-append tries (c.make_try-tried.result ∷ []), c.if-used-limit.false, c.search.invariant.few)
+    let tried : Try = record { light = c.in-Words.light; index = c.in-Some-next_word_index.index } in
+    let placed = subst (HasStepped tried (g.E.Feasible.state c.search.engine) tries c.search.since (g.E.Feasible.state c.try_word.new.engine) c.try_word.new.stack.placements.items c.try_word.new.since) c.in-Some-led.is c.in-Ok.ensures.led in
+    omega (arith, ap steps c.in-Words.is, steps-few c.in-Some-led.placed, ap length placed.pushed, length-append tries (tried ∷ []), c.if-used-limit.false, c.search.invariant.few)
 
 pub search-smaller : goal.search-smaller
-search-smaller g c = omega (arith, ap length c.in-None-try_word.ensures.died.kept, c.if-used-limit.false, c.search.invariant.few)
+search-smaller g c =
+    let tried : Try = record { light = c.in-Words.light; index = c.in-Some-next_word_index.index } in
+    let died = subst (HasStepped tried (g.E.Feasible.state c.search.engine) c.search.stack.placements.items c.search.since (g.E.Feasible.state c.try_word.new.engine) c.try_word.new.stack.placements.items c.try_word.new.since) c.in-None-led.is c.in-Ok.ensures.led in
+    omega (arith, ap length died.kept, c.if-used-limit.false, c.search.invariant.few)
 
 pub returns-in-Done-clause-within : goal.returns-in-Done-clause-within
 returns-in-Done-clause-within g c = omega (arith, c.search.invariant.count, c.search.invariant.few)

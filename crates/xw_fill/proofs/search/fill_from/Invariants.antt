@@ -1,11 +1,10 @@
 use Rattle.std.proofs.Common.{◌≡◌, length, ◌+◌, ◌-◌, ◌*◌, ◌≤◌, ℕ}
-use Rattle.std.specs.Vec.{vec_capacity}
 use Rattle.xw_fill.specs.Position.{position_of, DiffersInEntries}
 use Rattle.xw_fill.specs.declared.search.Next.{Next}
 use Rattle.xw_fill.specs.declared.search.Next.TheVariants.{Done, Spent, Words}
 use Rattle.xw_fill.specs.Search.{light_count}
-use Rattle.xw_fill.specs.Inner.Stack.{start_of, StandsAt}
-use Rattle.xw_fill.specs.Inner.Tries.{IsMade, is_forced}
+use Rattle.xw_fill.specs.Inner.Stack.{first_or, LeadThrough}
+use Rattle.xw_fill.specs.Inner.Tries.{IsMade}
 use Rattle.xw_fill.proofs.Trail.{AreNotedAlong}
 use Rattle.xw_fill.proofs.Searching.{IsSearching}
 use Rattle.xw_fill.proofs.search.fill_from.Given as goal
@@ -18,9 +17,8 @@ invariant-search g l =
     record {
       searching : IsSearching (position_of start) tries l.used (position_of now) l.next;
       entries : DiffersInEntries start now;
-      root : start_of g.E.Searchable.saved l.stack ≡ start;
-      stands : StandsAt g.E.Searchable.saved IsMade is_forced l.stack now;
-      room : light_count (position_of start) ≤ vec_capacity l.stack.placements;
+      began : first_or (g.E.Searchable.levels l.engine) now ≡ start;
+      stands : LeadThrough IsMade tries (g.E.Searchable.levels l.engine) now;
       few : l.used ≤ l.limit;
       count : g.E.Feasible.placed l.engine ≡ l.used + g.E.Feasible.placed l.initial.engine;
       long : length l.since ≡ light_count (position_of start);

@@ -1,6 +1,6 @@
 use Rattle.std.proofs.Common.{◌≡◌, ℕ, ◌≤◌, List, length, refl, sym, ◌∙◌, ap, subst}
 use Rattle.std.specs.Prelude.{Ok, Some, ◌+◌, if◌then◌else◌}
-use Rattle.xw_words.specs.Dictionary.{Dictionary, row}
+use Rattle.xw_words.specs.Dictionary.{Dictionary, known_words}
 use Rattle.xw_grid.specs.declared.lights.Light.{Light}
 use Rattle.xw_grid.specs.Grid.{Grid}
 use Rattle.xw_feas.specs.declared.told.Told.{Told}
@@ -40,7 +40,7 @@ returns-in_ok-reserve-in-Shape-clause-follow c = λ some.
     let ready = settled_alike (state_of was) c.args.net.now net c.reserve.ensures.same c.requires.kept.settled in
     can_follow was now action c.args.net.now c.requires.kept c.reshape.ensures.made (told_by now c.reshape.result) net (something_told (state_of was) now action c.reshape.result some c.reshape.ensures.told) c.reserve.ensures.same
     (ap (λ (s : State). length s.grid.squares) c.reshape.ensures.state ∙ c.in_ok-grid-in-Shape.ensures.cells)
-    (near_same was.bank.words now.bank.words _ (λ len. ap (λ (s : State). length (row s.words len)) c.reshape.ensures.state))
+    (near_same was.bank.words now.bank.words _ (λ len. ap (λ (s : State). length (known_words s.words len)) c.reshape.ensures.state))
     (subst (λ (s : State). HasRoomBetween c.args.position.now.lights c.reshape.new.self.lights (known_counts s.words) c.reserve.new.self c.reserve.new.self.spare) (sym c.reshape.ensures.state)
     (subst (λ (lights : List Light). HasRoomBetween c.args.position.now.lights lights (known_counts c.args.position.now.bank.words) c.reserve.new.self c.reserve.new.self.spare) (sym c.reshape.ensures.lights)
     (room_waiting was.lights c.in_ok-grid-in-Shape.lights (known_counts was.bank.words) net net.spare (c.in_ok-reserve-in-Shape.ensures.waits refl) (room_of_lights (state_of was) net was.lights was.light_list ready)

@@ -3,7 +3,7 @@ use Rattle.std.specs.Prelude.{is_some}
 use Rattle.std.specs.Coded.{le_prop}
 use Rattle.std.proofs.Math.Logic.{∥∥₁_elim}
 use mathlib.Core.Logic.{∥∥₁_prop}
-use Rattle.xw_words.specs.Dictionary.{Dictionary, row}
+use Rattle.xw_words.specs.Dictionary.{Dictionary, known_words}
 use Rattle.xw_feas.specs.State.{State}
 use Rattle.xw_net.specs.Change.{before_of, word_of}
 use Rattle.xw_net.specs.Net.{StoodFor, known_counts, sets_of}
@@ -26,12 +26,12 @@ returns-clause-kept c before action change known =
     let now : State = record { grid = c.args.position.now.grid; words = c.args.position.now.bank.words } in
     let net = c.settle.new.self in
     kept_from now net
-    (∥∥₁_elim known ∥∥₁_prop (λ settled. ∣ c.settle.ensures.settled before now.words action (λ len. ap (λ (words : Dictionary). row words len) c.new-rows.ensures.words) change settled ∣₁))
+    (∥∥₁_elim known ∥∥₁_prop (λ settled. ∣ c.settle.ensures.settled before now.words action (λ len. ap (λ (words : Dictionary). known_words words len) c.new-rows.ensures.words) change settled ∣₁))
     (ap is_some c.settle.ensures.spare)
 
 pub returns-clause-cost : goal.returns-clause-cost
 returns-clause-cost c before action change known member region =
     let now : State = record { grid = c.args.position.now.grid; words = c.args.position.now.bank.words } in
     ∥∥₁_elim known le_prop (λ settled.
-    let rise = c.settle.ensures.cost before now.words action member (λ len. ap (λ (words : Dictionary). row words len) c.new-rows.ensures.words) change settled region in
+    let rise = c.settle.ensures.cost before now.words action member (λ len. ap (λ (words : Dictionary). known_words words len) c.new-rows.ensures.words) change settled region in
     omega (arith, rise, c.spent.ensures, c.new-rows.ensures.spent))

@@ -4,7 +4,7 @@ use Rattle.std.proofs.lemmas.List.{get_or_past}
 use Rattle.xw_letters.specs.LetterSet.{has}
 use Rattle.xw_letters.proofs.LetterSetLemmas.{has-none}
 use Rattle.xw_words.specs.Columns.{letter_is, has_letter}
-use Rattle.xw_words.specs.Dictionary.{row as words_of}
+use Rattle.xw_words.specs.Dictionary.{known_words}
 use Rattle.xw_feas.specs.Flags.{set_has}
 use Rattle.xw_net.proofs.Stripping.FoundSupports.{supports-parts, supports-from}
 use Rattle.xw_net.proofs.pass.letters_of.Goals as goal
@@ -34,11 +34,11 @@ pub loop-index-preserved : goal.loop-index-preserved
 loop-index-preserved c =
     let inv = c.loop-index.invariant in
     let bits = c.args.row.now.bits in
-    let words = words_of c.args.bank.now.words c.args.len in
+    let words = known_words c.args.bank.now.words c.args.len in
     let index = c.in-Some.index in
-    let is_of : (position letter : ℕ) → letter_is (slice_get c.word.result.now position) letter ≡ has_letter (words_of c.args.bank.now.words c.args.len) position letter c.in-Some.index = λ position letter.
+    let is_of : (position letter : ℕ) → letter_is (slice_get c.word.result.now position) letter ≡ has_letter (known_words c.args.bank.now.words c.args.len) position letter c.in-Some.index = λ position letter.
     ap (λ w. letter_is (slice_get w position) letter) c.word.ensures.word in
-    let added : (position letter : ℕ) → set_has c.add_letters.new.sets position letter ≡ (set_has c.loop-index.sets position letter || has_letter (words_of c.args.bank.now.words c.args.len) position letter c.in-Some.index) = λ position letter.
+    let added : (position letter : ℕ) → set_has c.add_letters.new.sets position letter ≡ (set_has c.loop-index.sets position letter || has_letter (known_words c.args.bank.now.words c.args.len) position letter c.in-Some.index) = λ position letter.
     c.add_letters.ensures.added position letter ∙ ap (λ b. set_has c.loop-index.sets position letter || b) (is_of position letter) in
     record {
       long = c.add_letters.ensures.len ∙ inv.long;
@@ -63,7 +63,7 @@ returns-clause-letters c = record {
   some_has = c.loop-index.invariant.some_has;
   all_of = λ position letter word sup.
       let bits = c.args.row.now.bits in
-      let parts = supports-parts bits (words_of c.args.bank.now.words c.args.len) position letter word sup in
+      let parts = supports-parts bits (known_words c.args.bank.now.words c.args.len) position letter word sup in
       elim (cases_lt word c.loop-index.from) [
         | inl before ↦ c.loop-index.invariant.all_of position letter word before sup
         | inr from ↦ absurd (both_ways (get_or bits word false) (c.in_default.ensures.none word from) parts.0)

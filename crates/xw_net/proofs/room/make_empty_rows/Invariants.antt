@@ -1,5 +1,5 @@
 use Rattle.std.proofs.Common.{◌≡◌, ℕ, ◌<◌, ◌≤◌, [], length}
-use Rattle.xw_words.specs.Dictionary.{row}
+use Rattle.xw_words.specs.Dictionary.{known_words}
 use Rattle.xw_net.specs.Room.{counts_of, size_at, row_at}
 use Rattle.xw_net.proofs.room.make_empty_rows.Given as goal
 
@@ -7,5 +7,5 @@ abbrev pub invariant-loop-light : goal.invariant-loop-light
 invariant-loop-light l = record {
   long : length l.rows.items ≡ l.light;
   bits : (light : ℕ) → light < l.light → (row_at l.rows.items light).bits ≡ [];
-  room : (light : ℕ) → light < l.light → counts_of (row l.bank.words) (size_at l.lights light) ≤ (row_at l.rows.items light).room;
+  room : (light : ℕ) → light < l.light → counts_of (known_words l.bank.words) (size_at l.lights light) ≤ (row_at l.rows.items light).room;
 }

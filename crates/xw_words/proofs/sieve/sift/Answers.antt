@@ -1,6 +1,8 @@
-use Rattle.std.proofs.Common.{◌*◌, ◌&&◌, false, get_or, sym, ap, ◌∙◌, inl, inr, arith}
+use Rattle.std.proofs.Common.{◌*◌, ◌&&◌, false, get_or, take, sym, ap, ◌∙◌, inl, inr, arith}
+use Rattle.std.specs.Prelude.{slice_get}
 use Rattle.std.proofs.lemmas.Bool.{cases_lt}
-use Rattle.xw_words.specs.Columns.{has_one_of, stays}
+use Rattle.xw_words.specs.Columns.{has_listed, stays}
+use Rattle.xw_words.specs.Dictionary.{entry_at}
 use Rattle.xw_words.proofs.Sieving.{none_stays}
 use Rattle.xw_words.proofs.sieve.sift.Goals as goal
 
@@ -14,7 +16,7 @@ loop-chunk-preserved c =
       long = c.sift_at-from.ensures.len ∙ inv.long;
       room = c.sift_at-from.ensures.room ∙ inv.room;
       inside = λ i lt entries position are.
-          let stays_there = stays c.args.keep (has_one_of entries position c.args.letters i) in
+          let stays_there = stays c.args.keep (has_listed entries position (take c.list_letters-count.result c.list_letters-count.new.list) i) in
           elim (cases_lt i (64 * c.in-Some.chunk)) [
             | inl before ↦
                 c.sift_at-from.ensures.below i before
@@ -34,9 +36,11 @@ loop-chunk-preserved c =
 pub returns-clause-bits : goal.returns-clause-bits
 returns-clause-bits c i entries position are =
     let inv = c.loop-chunk.invariant in
+    let old = get_or c.args.row.now.bits i false in
     elim (cases_lt i (64 * c.loop-chunk.from)) [
       | inl done ↦ inv.inside i done entries position are
       | inr from ↦
           let clear = c.in_default.ensures.none i from in
-          none_stays (get_or c.loop-chunk.row.bits i false) (get_or c.args.row.now.bits i false) (stays c.args.keep (has_one_of entries position c.args.letters i)) (inv.above i from) (sym (inv.above i from) ∙ clear)
+          none_stays (get_or c.loop-chunk.row.bits i false) old (stays c.args.keep (has_listed entries position (take c.list_letters-count.result c.list_letters-count.new.list) i)) (inv.above i from) (sym (inv.above i from) ∙ clear)
     ]
+    ∙ ap (λ b. old && stays c.args.keep b) (c.list_letters-count.ensures.lists (slice_get (entry_at entries i).word position))

@@ -1,13 +1,23 @@
-use Rattle.std.proofs.Common.{ℕ, ◌+◌, ◌*◌, ◌&&◌, false, get_or, sym, subst, ap, ◌∙◌, arith}
+use Rattle.std.proofs.Common.{ℕ, ◌≡◌, ◌≤◌, ◌+◌, ◌*◌, ◌&&◌, false, length, get_or, vec_len, IfSome, count_by, sym, subst, ap, ◌∙◌, arith}
 use Rattle.std.proofs.lemmas.List.{with_items_is}
-use Rattle.xw_bits.specs.Bits.{bits_of, words_have, has_bit}
+use Rattle.xw_bits.specs.Bits.{bits_of, words_have, has_bit, block_kept}
 use Rattle.xw_bits.specs.Summary.{IsSummary}
 use Rattle.xw_bits.proofs.BitLemmas.{length-bits_of}
-use Rattle.xw_bits.proofs.Summaries.{written, fewer_words}
-use Rattle.xw_bits.proofs.BitRowLemmas.{view_len, bit_is}
-use Rattle.xw_bits.proofs.ChunkLemmas.{chunk_bit}
+use Rattle.xw_bits.proofs.Summaries.{written, fewer_words, if_some}
+use Rattle.xw_bits.proofs.BitRowLemmas.{view_len, bit_is, counted_whole}
+use Rattle.xw_bits.proofs.KeptBlocks.{is_kept}
 use Rattle.xw_bits.proofs.RowBlocks.{row_bit, block_zero, block_below, block_inside, block_above, block_none}
 use Rattle.xw_bits.proofs.bit_row.BitRow.keep_block.Goals as goal
+
+pub count_kept-self-inside-requires-clause-within : goal.count_kept-self-inside-requires-clause-within
+count_kept-self-inside-requires-clause-within c = omega (arith, c.deref.ensures.len, c.requires, view_len c.self.inside c.self.view_is, c.self.invariant.words_len)
+
+pub count_kept-self-inside-requires-clause-counted : goal.count_kept-self-inside-requires-clause-counted
+count_kept-self-inside-requires-clause-counted c =
+    let r = c.self.inside in
+    subst (λ n. IfSome r.counted (λ count. count ≡ n))
+    (sym (ap (λ ws. count_by (λ b. b) (bits_of ws (64 * length ws))) c.deref.ensures.value ∙ counted_whole r.words.items r.len (omega (arith, c.self.invariant.words_len)) c.self.invariant.nothing_past))
+    c.self.invariant.counted
 
 pub keep_at-requires : goal.keep_at-requires
 keep_at-requires c = omega (arith, c.deref_mut.ensures.len, c.requires, view_len c.self.inside c.self.view_is, c.self.invariant.words_len)
@@ -38,7 +48,22 @@ invariant_of-self c = record {
   within = c.self.invariant.within;
   words_room = c.self.invariant.words_room;
   summary_room = c.self.invariant.summary_room;
-  counted = tt;
+  counted =
+      let r = c.self.inside in
+      let old = c.deref_mut.result.now in
+      let new = c.keep_at.new.words in
+      let at = c.args.at in
+      let block = c.args.block in
+      let long : length c.keep_at.new.words ≡ vec_len c.self.inside.words = omega (arith, c.keep_at.auto.words, c.deref_mut.ensures.len) in
+      let none : (i : ℕ) → c.self.inside.len ≤ i → words_have c.keep_at.new.words i ≡ false = λ i le. block_none old new block at c.keep_at.ensures.below c.keep_at.ensures.inside c.keep_at.ensures.above i (ap (λ ws. words_have ws i) c.deref_mut.ensures.value ∙ c.self.invariant.nothing_past i le) in
+      let room : at + 8 ≤ length c.deref_mut.result.now = omega (arith, c.deref_mut.ensures.len, c.requires, view_len c.self.inside c.self.view_is, c.self.invariant.words_len) in
+      let kept = is_kept old block at room c.fits-block.0 new c.keep_at.auto.words c.keep_at.ensures.below c.keep_at.ensures.inside c.keep_at.ensures.above ∙ ap (λ ws. block_kept ws at block) c.deref_mut.ensures.value in
+      if_some c.count_kept-self-inside.result (λ count is.
+      is ∙ ap (λ ws. count_by (λ b. b) (bits_of (block_kept ws at block) (64 * length ws))) c.deref.ensures.value
+      ∙ ap (λ n. count_by (λ b. b) (bits_of (block_kept r.words.items at block) (64 * n))) (sym (c.keep_at.auto.words ∙ ap length c.deref_mut.ensures.value))
+      ∙ ap (λ ws. count_by (λ b. b) (bits_of ws (64 * length new))) (sym kept)
+      ∙ counted_whole new r.len (omega (arith, long, c.self.invariant.words_len)) none
+      ∙ sym (ap (λ ws. count_by (λ b. b) (bits_of ws r.len)) (with_items_is r.words new long))) c.count_kept-self-inside.ensures;
 }
 
 pub returns-clause-len : goal.returns-clause-len
@@ -76,16 +101,3 @@ returns-clause-above c i le =
     ∙ block_above old new c.args.block c.args.at c.keep_at.ensures.below c.keep_at.ensures.inside c.keep_at.ensures.above i le
     ∙ ap (λ ws. words_have ws i) c.deref_mut.ensures.value
     ∙ sym (bit_is r c.self.view_is c.self.invariant i)
-
-pub is_within-requires : goal.is_within-requires
-is_within-requires c = omega (arith, c.deref.ensures.len, c.requires, view_len c.self.inside c.self.view_is, c.self.invariant.words_len)
-
-pub returns-then-is_within-clause-inside : goal.returns-then-is_within-clause-inside
-returns-then-is_within-clause-inside c chunk k in_block lt =
-    let r = c.self.inside in
-    let bit = chunk_bit r c.self.view_is c.self.invariant (c.args.at + chunk) k lt in
-    let value = ap (λ ws. get_or ws (c.args.at + chunk) 0) c.deref.ensures.value in
-    bit
-    ∙ ap (λ w. has_bit w k) (sym value)
-    ∙ c.is_within.ensures c.if-is_within.true chunk k in_block lt
-    ∙ ap (λ b. b && has_bit (get_or c.args.block chunk 0) k) (ap (λ w. has_bit w k) value ∙ sym bit)

@@ -2,8 +2,8 @@ use Rattle.std.proofs.Common.{ℕ, ◌≡◌, ◌+◌, ◌-◌, ◌*◌, ◌/◌
 use Rattle.std.proofs.lemmas.List.{get_or_default}
 use Rattle.xw_bits.specs.Bits.{has_bit, words_have, bits_of}
 use Rattle.xw_bits.proofs.Summaries.{written}
-use Rattle.xw_bits.proofs.BitLemmas.{length-bits_of, put_in_chunk}
-use Rattle.xw_bits.proofs.BitRowLemmas.{is_written, view_len, chunk_within, counted_whole, replaced_none_past, replaced_inside, replaced_other, put_low, own_bit, bit_is}
+use Rattle.xw_bits.proofs.BitLemmas.{word_bit, length-bits_of, put_in_chunk}
+use Rattle.xw_bits.proofs.BitRowLemmas.{is_written, view_len, chunk_within, counted_whole, replaced_none_past, replaced_inside, replaced_other, put_low, bit_is}
 use Rattle.xw_bits.proofs.bit_row.BitRow.put.Goals as goal
 
 pub index-requires : goal.index-requires
@@ -70,7 +70,7 @@ returns-clause-bits c =
     ap (λ ws. bits_of ws r.len) is_new
     ∙ put_in_chunk c.args.self.now.bits (bits_of (set r.words.items chunk word) r.len) c.args.i c.args.bit (get_or r.words.items chunk 0) word c.requires
     (length-bits_of (set r.words.items chunk word) r.len ∙ view_len r c.self.view_is)
-    (λ k lt. sym (bit_is r c.self.view_is c.self.invariant (64 * chunk + k) ∙ own_bit r c.self.view_is c.self.invariant chunk word within k lt))
+    (λ k lt. sym (bit_is r c.self.view_is c.self.invariant (64 * chunk + k) ∙ word_bit r.words.items chunk k lt))
     (λ k lt. c.with_bit-word.ensures k lt ∙ ap (λ w. cond (eqb k (c.args.i % 64)) c.args.bit (has_bit w k)) own)
     (λ k lt inside. replaced_inside r c.self.view_is c.self.invariant chunk word word within is_low k lt inside)
     (λ j elsewhere. replaced_other r c.self.view_is c.self.invariant chunk word word within is_low j elsewhere)

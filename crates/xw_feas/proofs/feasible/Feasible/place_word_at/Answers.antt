@@ -1,5 +1,5 @@
 use Rattle.std.proofs.Common.{◌≡◌, get_or, take, arith, refl, sym, ap, ◌∙◌, subst}
-use Rattle.xw_words.specs.Dictionary.{Dictionary, IsDictionary, row, entry_at}
+use Rattle.xw_words.specs.Dictionary.{Dictionary, IsDictionary, known_words, entry_at}
 use Rattle.xw_grid.specs.declared.lights.Light.{Light}
 use Rattle.xw_grid.specs.Light.{no_light}
 use Rattle.xw_feas.specs.Engine.{IsEdited}
@@ -18,12 +18,12 @@ returns-clause-made g c =
     let bytes = take light.size c.spell_bytes.new.bytes in
     let is : IsDictionary before.words = subst (λ (words : Dictionary). IsDictionary words) c.bank.ensures c.well_formed-3.ensures in
     let found : light ≡ light_of before c.args.light = c.at-light.ensures ∙ ap (λ lights. get_or lights c.args.light no_light) c.lights.ensures in
-    let word : bytes ≡ (entry_at (row before.words (light_of before c.args.light).size) c.args.index).word =
+    let word : bytes ≡ (entry_at (known_words before.words (light_of before c.args.light).size) c.args.index).word =
     ap (λ n. take n c.spell_bytes.new.bytes) (sym c.word.ensures.long)
     ∙ c.spell_bytes.ensures
     ∙ c.word.ensures.word
-    ∙ ap (λ (words : Dictionary). (entry_at (row words light.size) c.args.index).word) c.bank-2.ensures
-    ∙ ap (λ (l : Light). (entry_at (row before.words l.size) c.args.index).word) found in
+    ∙ ap (λ (words : Dictionary). (entry_at (known_words words light.size) c.args.index).word) c.bank-2.ensures
+    ∙ ap (λ (l : Light). (entry_at (known_words before.words l.size) c.args.index).word) found in
     let action : word_placed light.name bytes ≡ known_placed before c.args.light c.args.index =
     ap (λ (l : Light). word_placed l.name bytes) found ∙ ap (word_placed (light_of before c.args.light).name) word in
     known_edited before now answers_before answers_now c.args.light c.args.index c.edit.result is c.requires.light c.requires.index
@@ -39,12 +39,12 @@ returns-clause-placed g c =
     let bytes = take light.size c.spell_bytes.new.bytes in
     let is : IsDictionary before.words = subst (λ (words : Dictionary). IsDictionary words) c.bank.ensures c.well_formed-3.ensures in
     let found : light ≡ light_of before c.args.light = c.at-light.ensures ∙ ap (λ lights. get_or lights c.args.light no_light) c.lights.ensures in
-    let word : bytes ≡ (entry_at (row before.words (light_of before c.args.light).size) c.args.index).word =
+    let word : bytes ≡ (entry_at (known_words before.words (light_of before c.args.light).size) c.args.index).word =
     ap (λ n. take n c.spell_bytes.new.bytes) (sym c.word.ensures.long)
     ∙ c.spell_bytes.ensures
     ∙ c.word.ensures.word
-    ∙ ap (λ (words : Dictionary). (entry_at (row words light.size) c.args.index).word) c.bank-2.ensures
-    ∙ ap (λ (l : Light). (entry_at (row before.words l.size) c.args.index).word) found in
+    ∙ ap (λ (words : Dictionary). (entry_at (known_words words light.size) c.args.index).word) c.bank-2.ensures
+    ∙ ap (λ (l : Light). (entry_at (known_words before.words l.size) c.args.index).word) found in
     let action : word_placed light.name bytes ≡ known_placed before c.args.light c.args.index =
     ap (λ (l : Light). word_placed l.name bytes) found ∙ ap (word_placed (light_of before c.args.light).name) word in
     let made = ap (with_grid before) (known_accepted before c.args.light c.args.index is c.requires.light c.requires.index) in

@@ -1,5 +1,5 @@
 use Rattle.std.proofs.Common.{refl, ◌∙◌}
-use Rattle.xw_words.specs.Dictionary.{row, entry_at}
+use Rattle.xw_words.specs.Dictionary.{known_words, entry_at}
 use Rattle.xw_feas.specs.Position.{state_of}
 use Rattle.xw_feas.specs.State.{light_of}
 use Rattle.xw_feas.proofs.ToldLemmas.{light_written}
@@ -8,5 +8,5 @@ use Rattle.xw_feas.proofs.position.Position.place_known.Goals as goal
 pub returns-clause-told : goal.returns-clause-told
 returns-clause-told c =
     let old = c.args.self.now in
-    let word = (entry_at (row old.bank.words (light_of (state_of old) c.args.light).size) c.args.index).word in
+    let word = (entry_at (known_words old.bank.words (light_of (state_of old) c.args.light).size) c.args.index).word in
     record { cells = c.note_index.ensures ∙ light_written old.grid c.args.light word c.requires.light; lights = old.light_list; word = refl; turned = λ len. refl; back = refl; altered = refl }

@@ -1,4 +1,4 @@
-use Rattle.std.proofs.Common.{◌∙◌, sym, arith}
+use Rattle.std.proofs.Common.{arith}
 use Rattle.xw_fill.proofs.Entering.{open_within}
 use Rattle.xw_fill.proofs.LetterLemmas.{letters_are}
 use Rattle.xw_fill.proofs.named_lights.choice.letters_at.Goals as goal

@@ -2,16 +2,17 @@ use Rattle.std.proofs.Common.{◌∷◌, ◌++◌, [], length, refl, sym, ap, �
 use Rattle.std.proofs.lemmas.List.{length-append, nil_from_length}
 use Rattle.xw_letters.proofs.LetterSetLemmas.{has-none}
 use Rattle.xw_feas.specs.Board.{board_of}
-use Rattle.xw_fill.specs.Position.{Position, position_of}
-use Rattle.xw_fill.specs.Search.{light_count}
+use Rattle.xw_fill.specs.Position.{position_of}
 use Rattle.xw_fill.specs.NamedFill.{flags, entry_in}
-use Rattle.xw_fill.specs.Inner.Progress.{entries_of, IsOpen, IsTried}
+use Rattle.xw_fill.specs.Inner.Progress.{entries_of, IsOpen, IsLetterEntered, IsTried}
+use Rattle.xw_fill.specs.Inner.Stack.{first_or}
 use Rattle.xw_fill.specs.declared.named_lights.frame.Frame.{Frame}
 use Rattle.xw_fill.proofs.AllowanceLemmas.{counted-none, counted_letters, counted_some}
+use Rattle.xw_fill.proofs.StackLemmas.{stands_empty}
 use Rattle.xw_fill.proofs.Shaped.{shaped}
 use Rattle.xw_fill.proofs.StateLemmas.{DiffersInEntries-itself, DiffersInEntries-then}
 use Rattle.xw_fill.proofs.NamedFills.{open_is_fill}
-use Rattle.xw_fill.proofs.LetterSearch.{IsUnderway, position_at, may_try, underway_tried, underway_on, underway_at, underway_back, underway_end, target_open, open_there, targets_open, chosen_target, none_left}
+use Rattle.xw_fill.proofs.LetterSearch.{IsUnderway, may_try, underway_alive, underway_tried, underway_on, underway_at, underway_back, underway_end, target_open, open_there, targets_open, chosen_target, none_left}
 use Rattle.xw_fill.proofs.named_lights.run.search.Goals as goal
 
 pub next_cell-requires : goal.next_cell-requires
@@ -37,8 +38,8 @@ loop-letter-init g c =
     let chosen = c.in-Some.ensures.some in
     let target = chosen_target named (position_of start) c.args.plan.now.targets.items c.deref.result.now c.in-Some.first c.requires.plan.targets.sound c.deref.ensures.value chosen.0 in
     record {
-      stands = c.requires.stands;
-      root = refl;
+      stands = stands_empty IsLetterEntered c.args.stack.now.placements.items (g.E.Searchable.levels c.args.engine.now) start c.requires.empty c.requires.levels;
+      began = ap (λ levels. first_or levels start) c.requires.levels;
       underway = subst (λ items. IsUnderway named start items c.in-Some.first c.new-tried.result start) (sym c.requires.empty) (underway_at named start is [] c.in-Some.first c.new-tried.result start tt c.requires.open (DiffersInEntries-itself start, refl) target chosen.1 c.new-tried.ensures has-none);
       stand = omega (arith, ap length c.requires.empty);
       until = refl;
@@ -64,7 +65,7 @@ pub retreat-requires : goal.retreat-requires
 retreat-requires g c = record { stands = c.loop-letter.invariant.stands }
 
 pub returns-in_default-retreat-clause-start : goal.returns-in_default-retreat-clause-start
-returns-in_default-retreat-clause-start g c = c.retreat.ensures.start ∙ c.loop-letter.invariant.root
+returns-in_default-retreat-clause-start g c = c.retreat.ensures.start ∙ c.loop-letter.invariant.began
 
 pub returns-in_default-retreat-clause-entries : goal.returns-in_default-retreat-clause-entries
 returns-in_default-retreat-clause-entries g c =
@@ -90,7 +91,7 @@ loop-letter-preserved-in_default-next_letter g c =
     let taken = c.in-Some-retreat.ensures.back in
     record {
       stands = c.retreat.ensures.stands;
-      root = c.retreat.ensures.start ∙ inv.root;
+      began = c.retreat.ensures.start ∙ inv.began;
       underway = underway_back named start is c.loop-letter.stack.placements.items c.retreat.new.self.placements.items c.in-Some-retreat.below c.loop-letter.cell c.loop-letter.tried c.with_letter-tried.result
           (g.E.Feasible.state c.loop-letter.engine) (g.E.Feasible.state c.retreat.new.engine) inv.underway c.in_default-next_letter.ensures.none c.with_letter-tried.ensures taken;
       stand = omega (arith, inv.stand, ap length taken.placements_are, length-append c.retreat.new.self.placements.items (c.in-Some-retreat.below ∷ taken.after));
@@ -99,14 +100,8 @@ loop-letter-preserved-in_default-next_letter g c =
       count = omega (arith, inv.count, c.retreat.ensures.count);
     }
 
-pub returns-then-is_spent-clause-twin : goal.returns-then-is_spent-clause-twin
-returns-then-is_spent-clause-twin g c = c.loop-letter.invariant.stands.root
-
-pub returns-then-is_spent-clause-marks : goal.returns-then-is_spent-clause-marks
-returns-then-is_spent-clause-marks g c = c.loop-letter.invariant.stands.marks.can_mark
-
 pub returns-then-is_spent-clause-start : goal.returns-then-is_spent-clause-start
-returns-then-is_spent-clause-start g c = c.loop-letter.invariant.root
+returns-then-is_spent-clause-start g c = c.loop-letter.invariant.began
 
 pub returns-then-is_spent-clause-entries : goal.returns-then-is_spent-clause-entries
 returns-then-is_spent-clause-entries g c = c.loop-letter.invariant.underway.at.0
@@ -119,24 +114,27 @@ try_letter-requires-clause-can g c =
     record {
       opens = open_there start (g.E.Feasible.state c.loop-letter.engine) c.loop-letter.cell underway.at.0 (target_open (flags c.args.plan.now.named.items) (position_of start) c.loop-letter.cell is underway.here.target);
       empty = ap (λ e. entry_in e c.loop-letter.cell) underway.at.1 ∙ underway.here.empty;
+      feasible = c.in-Some-next_letter.ensures.some.0;
     }
 
-pub try_letter-requires-clause-long : goal.try_letter-requires-clause-long
-try_letter-requires-clause-long g c =
-    c.requires.plan.watched.long ∙ sym (ap (λ (p : Position). light_count p) (position_at (g.E.Feasible.state c.args.engine.now) (g.E.Feasible.state c.loop-letter.engine) c.loop-letter.invariant.underway.at.0))
+pub try_letter-requires-clause-alive : goal.try_letter-requires-clause-alive
+try_letter-requires-clause-alive g c =
+    let start = g.E.Feasible.state c.args.engine.now in
+    let is = shaped (board_of start.grid) (g.met.E.Feasible.well_formed c.args.engine.now).board in
+    underway_alive (flags c.args.plan.now.named.items) start is c.loop-letter.stack.placements.items c.loop-letter.cell c.loop-letter.tried (g.E.Feasible.state c.loop-letter.engine) c.args.plan.now.watched.items c.loop-letter.invariant.underway c.requires.plan.watched.are
 
 pub try_letter-requires-clause-stands : goal.try_letter-requires-clause-stands
 try_letter-requires-clause-stands g c = c.loop-letter.invariant.stands
 
 pub returns-in_default-try_letter-clause-start : goal.returns-in_default-try_letter-clause-start
-returns-in_default-try_letter-clause-start g c = c.try_letter.ensures.start ∙ c.loop-letter.invariant.root
+returns-in_default-try_letter-clause-start g c = c.try_letter.ensures.start ∙ c.loop-letter.invariant.began
 
 pub returns-in_default-try_letter-clause-entries : goal.returns-in_default-try_letter-clause-entries
 returns-in_default-try_letter-clause-entries g c =
     DiffersInEntries-then (g.E.Feasible.state c.args.engine.now) (g.E.Feasible.state c.loop-letter.engine) (g.E.Feasible.state c.try_letter.new.engine) c.loop-letter.invariant.underway.at.0 c.try_letter.ensures.entries
 
 pub returns-then-fails-cut-clause-start : goal.returns-then-fails-cut-clause-start
-returns-then-fails-cut-clause-start g c = c.try_letter.ensures.start ∙ c.loop-letter.invariant.root
+returns-then-fails-cut-clause-start g c = c.try_letter.ensures.start ∙ c.loop-letter.invariant.began
 
 pub returns-then-fails-cut-clause-entries : goal.returns-then-fails-cut-clause-entries
 returns-then-fails-cut-clause-entries g c =
@@ -163,7 +161,7 @@ loop-letter-preserved-then-not-stands g c =
     let led = subst (λ b. IsTried (flags c.args.plan.now.watched.items) frame b now stack after c.try_letter.new.stack.placements.items) c.if-not-stands.true c.in-Ok.ensures.tried in
     record {
       stands = c.try_letter.ensures.stands;
-      root = c.try_letter.ensures.start ∙ c.loop-letter.invariant.root;
+      began = c.try_letter.ensures.start ∙ c.loop-letter.invariant.began;
       underway = subst (λ items. IsUnderway named start items c.loop-letter.cell c.with_letter-tried-then-not-stands.result after) (sym led.0)
           (underway_tried named start is stack frame c.with_letter-tried-then-not-stands.result now led.2.0 after c.args.plan.now.watched.items underway may c.requires.plan.watched.are led.2.1 led.2.2 led.1 c.with_letter-tried-then-not-stands.ensures);
       stand = omega (arith, c.loop-letter.invariant.stand, c.try_letter.ensures.made, ap length led.0);
@@ -181,7 +179,7 @@ next_cell-requires-in-loop-letter g c =
     targets_open (flags c.args.plan.now.named.items) start now c.args.plan.now.targets.items c.deref-in-loop-letter.result.now differs is c.requires.plan.targets.sound c.deref-in-loop-letter.ensures.value
 
 pub returns-in_default-next_cell-clause-start : goal.returns-in_default-next_cell-clause-start
-returns-in_default-next_cell-clause-start g c = c.try_letter.ensures.start ∙ c.loop-letter.invariant.root
+returns-in_default-next_cell-clause-start g c = c.try_letter.ensures.start ∙ c.loop-letter.invariant.began
 
 pub returns-in_default-next_cell-clause-entries : goal.returns-in_default-next_cell-clause-entries
 returns-in_default-next_cell-clause-entries g c =
@@ -228,7 +226,7 @@ loop-letter-preserved g c =
     let target = chosen_target named (position_of start) c.args.plan.now.targets.items c.deref-in-loop-letter.result.now cell c.requires.plan.targets.sound c.deref-in-loop-letter.ensures.value chosen.0 in
     record {
       stands = c.try_letter.ensures.stands;
-      root = c.try_letter.ensures.start ∙ c.loop-letter.invariant.root;
+      began = c.try_letter.ensures.start ∙ c.loop-letter.invariant.began;
       underway = subst (λ items. IsUnderway named start items cell c.new-tried-in-loop-letter.result after) (sym led.0)
           (underway_at named start is (stack ++ frame ∷ []) cell c.new-tried-in-loop-letter.result after on.1 on.0 on.2 target chosen.1 c.new-tried-in-loop-letter.ensures has-none);
       stand = omega (arith, c.loop-letter.invariant.stand, c.try_letter.ensures.made, ap length led.0, length-append stack (frame ∷ []));

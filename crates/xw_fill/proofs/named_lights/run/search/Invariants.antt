@@ -1,8 +1,8 @@
 use Rattle.std.proofs.Common.{◌≡◌, ◌≤◌, ◌+◌, ◌-◌, ◌*◌, length}
 use Rattle.xw_fill.specs.Allowance.{HasPlaced}
 use Rattle.xw_fill.specs.NamedFill.{flags}
-use Rattle.xw_fill.specs.Inner.Progress.{is_forced, IsLetterEntered}
-use Rattle.xw_fill.specs.Inner.Stack.{start_of, StandsAt}
+use Rattle.xw_fill.specs.Inner.Progress.{IsLetterEntered}
+use Rattle.xw_fill.specs.Inner.Stack.{first_or, LeadThrough}
 use Rattle.xw_fill.proofs.LetterSearch.{IsUnderway}
 use Rattle.xw_fill.proofs.named_lights.run.search.Given as goal
 
@@ -11,8 +11,8 @@ invariant-loop-letter g l =
     let start = g.E.Feasible.state l.initial.engine in
     let now = g.E.Feasible.state l.engine in
     record {
-      stands : StandsAt g.E.Searchable.saved IsLetterEntered is_forced l.stack now;
-      root : start_of g.E.Searchable.saved l.stack ≡ start_of g.E.Searchable.saved l.initial.stack;
+      stands : LeadThrough IsLetterEntered l.stack.placements.items (g.E.Searchable.levels l.engine) now;
+      began : first_or (g.E.Searchable.levels l.engine) now ≡ start;
       underway : IsUnderway (flags l.plan.named.items) start l.stack.placements.items l.cell l.tried now;
       stand : l.initial.allowance.made + length l.stack.placements.items ≤ l.allowance.made;
       until : l.allowance.until ≡ l.initial.allowance.until;

@@ -3,7 +3,7 @@ use Rattle.std.specs.Prelude.{is_some}
 use Rattle.std.proofs.lemmas.Bool.{false≢true}
 use Rattle.xw_feas.specs.declared.told.Told.TheVariants.{Nothing}
 use Rattle.xw_feas.specs.Pending.{pending_action}
-use Rattle.xw_feas.specs.Position.{state_of as position_state}
+use Rattle.xw_feas.specs.Position.{state_of as position_state_of}
 use Rattle.xw_feas.specs.State.{State}
 use Rattle.xw_feas.specs.Told.{Tells, told_by}
 use Rattle.xw_feas.specs.Written.{Fields}
@@ -12,6 +12,7 @@ use Rattle.xw_live.specs.Engine.{CanFollow, IsKept}
 use Rattle.xw_live.specs.Live.{state_of}
 use Rattle.xw_live.proofs.Following.{list_noted, something_told, nothing_told, change_told, kept_unchanged, same_cells_kept}
 use Rattle.xw_live.proofs.Keeping.{kept_alike, settled_alike}
+use Rattle.xw_live.proofs.Placements.{levels_none, spare_cleared}
 use Rattle.xw_live.proofs.Trying.{some_gives, none_gives}
 use Rattle.xw_live.proofs.live.Live.make.Goals as goal
 
@@ -21,6 +22,7 @@ invariant_of-self c =
     let old = c.args.self.now in
     record {
       kept = subst (λ (s : State). IsKept s c.apply.new.net) (sym c.in_err-told.ensures.same) (kept_alike (state_of old) old.net c.apply.new.net c.apply.ensures.alike (ap is_some c.in_err-told.ensures.spare ∙ old.kept.none_waits) old.kept);
+      levels_kept = levels_none (position_state_of c.apply.new.position) c.clear_before.new.self c.apply.new.net c.clear_before.ensures.made (spare_cleared (state_of old) old.levels c.clear_before.new.self old.net c.apply.new.position.grid old.levels_kept c.clear_before.ensures.spare (ap (λ (s : State). length s.grid.squares) (sym c.in_err-told.ensures.same)));
       same_cells = old.same_cells ∙ ap length (sym c.apply.ensures.alike.sets);
     }
 
@@ -36,9 +38,10 @@ invariant_of-self-in_default c =
     let action = pending_action c.args.edit.now in
     let none : c.in_ok-told.told ≡ Nothing = none_gives c.change_of.result c.in_default.is c.change_of.ensures.none in
     let keeps = nothing_told (state_of old) now action told none c.in_ok-told.ensures.told in
-    let kept : IsKept (position_state c.apply.new.position) c.apply.new.net = kept_unchanged old.position now action old.net old.kept c.in_ok-told.ensures.made c.apply.new.net c.apply.ensures.alike (c.in_ok-told.ensures.waits none) keeps in
+    let kept : IsKept (position_state_of c.apply.new.position) c.apply.new.net = kept_unchanged old.position now action old.net old.kept c.in_ok-told.ensures.made c.apply.new.net c.apply.ensures.alike (c.in_ok-told.ensures.waits none) keeps in
     record {
       kept = kept;
+      levels_kept = levels_none (position_state_of c.apply.new.position) c.clear_before.new.self c.apply.new.net c.clear_before.ensures.made (spare_cleared (state_of old) old.levels c.clear_before.new.self old.net now.grid old.levels_kept c.clear_before.ensures.spare (sym c.in_ok-told.ensures.cells));
       same_cells = same_cells_kept old.position now action old.net old.kept c.in_ok-told.ensures.made c.apply.new.net c.apply.new.net c.keep_letters.new.before.items c.apply.ensures.alike c.keep_letters.ensures c.in_ok-told.ensures.cells kept;
     }
 
@@ -58,11 +61,12 @@ invariant_of-self-2 c =
     let made = c.in_ok-told.ensures.made in
     let some = some_gives _ c.change_of.result c.in-Some.change c.in-Some.is c.change_of.ensures.something in
     let tells = something_told (state_of old) now action told some c.in_ok-told.ensures.told in
-    let change : IsChange (state_of c.args.self.now) (position_state c.apply.new.position) (pending_action c.args.edit.now) (fields_of c.apply.new.position.lights c.in-Some.change) =
+    let change : IsChange (state_of c.args.self.now) (position_state_of c.apply.new.position) (pending_action c.args.edit.now) (fields_of c.apply.new.position.lights c.in-Some.change) =
     change_told old.position now action old.net old.kept made (told_by now told) _ (some_gives _ c.change_of.result c.in-Some.change c.in-Some.is c.change_of.ensures.some) tells in
-    let kept : IsKept (position_state c.apply.new.position) c.settle-self.new.net = c.settle-self.ensures.kept (state_of old) action change (settled_alike (state_of old) old.net c.apply.new.net c.apply.ensures.alike old.kept.settled) in
+    let kept : IsKept (position_state_of c.apply.new.position) c.settle-self.new.net = c.settle-self.ensures.kept (state_of old) action change (settled_alike (state_of old) old.net c.apply.new.net c.apply.ensures.alike old.kept.settled) in
     record {
       kept = kept;
+      levels_kept = levels_none (position_state_of c.apply.new.position) c.clear_before.new.self c.settle-self.new.net c.clear_before.ensures.made (spare_cleared (state_of old) old.levels c.clear_before.new.self old.net now.grid old.levels_kept c.clear_before.ensures.spare (sym c.in_ok-told.ensures.cells));
       same_cells = same_cells_kept old.position now action old.net old.kept made c.apply.new.net c.settle-self.new.net c.keep_letters.new.before.items c.apply.ensures.alike c.keep_letters.ensures c.in_ok-told.ensures.cells kept;
     }
 
@@ -75,7 +79,7 @@ returns-clause-done c =
     let made = c.in_ok-told.ensures.made in
     let some = some_gives _ c.change_of.result c.in-Some.change c.in-Some.is c.change_of.ensures.something in
     let tells = something_told (state_of old) now action told some c.in_ok-told.ensures.told in
-    let change : IsChange (state_of c.args.self.now) (position_state c.apply.new.position) (pending_action c.args.edit.now) (fields_of c.apply.new.position.lights c.in-Some.change) =
+    let change : IsChange (state_of c.args.self.now) (position_state_of c.apply.new.position) (pending_action c.args.edit.now) (fields_of c.apply.new.position.lights c.in-Some.change) =
     change_told old.position now action old.net old.kept made (told_by now told) _ (some_gives _ c.change_of.result c.in-Some.change c.in-Some.is c.change_of.ensures.some) tells in
     record {
       made = made;

@@ -1,9 +1,11 @@
-use Rattle.xw_feas.specs.Position.{state_of as position_state}
+use Rattle.std.proofs.Common.{sym}
+use Rattle.xw_feas.specs.Position.{state_of as position_state_of}
 use Rattle.xw_feas.specs.State.{known_placed}
 use Rattle.xw_net.specs.Change.{IsChange}
 use Rattle.xw_live.specs.Engine.{IsKept}
 use Rattle.xw_live.specs.Live.{state_of}
 use Rattle.xw_live.proofs.Following.{entries_follow, entries_change, entries_cells}
+use Rattle.xw_live.proofs.Placements.{levels_none, spare_cleared}
 use Rattle.xw_live.proofs.live.Live.place_known.Goals as goal
 
 pub settle-self-requires : goal.settle-self-requires
@@ -16,10 +18,11 @@ invariant_of-self c =
     let old = c.args.self.now in
     let now = c.place_known.new.self in
     let action = known_placed (state_of old) c.args.light c.args.index in
-    let change : IsChange (state_of old) (position_state now) action _ = entries_change old.position now action old.net old.kept c.place_known.ensures.made c.place_known.ensures.told _ c.as_slice.ensures in
-    let kept : IsKept (position_state now) c.settle-self.new.net = c.settle-self.ensures.kept (state_of old) action change old.kept.settled in
+    let change : IsChange (state_of old) (position_state_of now) action _ = entries_change old.position now action old.net old.kept c.place_known.ensures.made c.place_known.ensures.told _ c.as_slice.ensures in
+    let kept : IsKept (position_state_of now) c.settle-self.new.net = c.settle-self.ensures.kept (state_of old) action change old.kept.settled in
     record {
       kept = kept;
+      levels_kept = levels_none (position_state_of c.place_known.new.self) c.clear.new.self c.settle-self.new.net c.clear.ensures.made (spare_cleared (state_of old) old.levels c.clear.new.self old.net now.grid old.levels_kept c.clear.ensures.spare (sym c.place_known.ensures.shape.cells));
       same_cells = entries_cells old.position now action old.net old.kept c.place_known.ensures.made c.place_known.ensures.shape c.settle-self.new.net c.keep_letters.new.before.items c.keep_letters.ensures kept;
     }
 
@@ -28,7 +31,7 @@ returns-clause-done c =
     let old = c.args.self.now in
     let now = c.place_known.new.self in
     let action = known_placed (state_of old) c.args.light c.args.index in
-    let change : IsChange (state_of old) (position_state now) action _ = entries_change old.position now action old.net old.kept c.place_known.ensures.made c.place_known.ensures.told _ c.as_slice.ensures in
+    let change : IsChange (state_of old) (position_state_of now) action _ = entries_change old.position now action old.net old.kept c.place_known.ensures.made c.place_known.ensures.told _ c.as_slice.ensures in
     record {
       made = c.place_known.ensures.made;
       letters = c.keep_letters.ensures;

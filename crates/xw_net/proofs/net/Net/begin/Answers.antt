@@ -2,7 +2,7 @@ use Rattle.std.specs.Prelude.{Option}
 use Rattle.std.proofs.Common.{◌≡◌, ℕ, List, length, sym, ap, subst, ◌∙◌, arith}
 use Rattle.std.proofs.lemmas.Bool.{false_from_ne_true, both_ways}
 use Rattle.std.proofs.lemmas.List.{with_items_is}
-use Rattle.xw_words.specs.Dictionary.{Entry, row}
+use Rattle.xw_words.specs.Dictionary.{Entry, known_words}
 use Rattle.xw_grid.specs.declared.lights.Light.{Light}
 use Rattle.xw_grid.specs.Grid.{Grid}
 use Rattle.xw_grid.specs.Light.{lights_of}
@@ -70,13 +70,13 @@ forget_lights-requires-clause-pending g c = c.deref_mut-2.ensures.len ∙ c.requ
 
 pub returns-clause-opened : goal.returns-clause-opened
 returns-clause-opened g c before words action settled read is filled moved =
-    let entries : g.R.Rows.entries c.args.rows.now ≡ row words = λ t. λ len. read len t in
+    let entries : g.R.Rows.entries c.args.rows.now ≡ known_words words = λ t. λ len. read len t in
     let rest = c.open.ensures.rest in
     let held = ap (λ (net : Net). net.held.items) rest ∙ with_items_is c.args.self.now.held c.forget_lights.new.held (omega (arith, c.forget_lights.auto.held, c.deref_mut.ensures.len)) in
     let pending = ap (λ (net : Net). net.pending.items) rest ∙ with_items_is c.args.self.now.pending c.forget_lights.new.pending (omega (arith, c.forget_lights.auto.pending, c.deref_mut-2.ensures.len)) in
-    let opening = opening_of c.args.grid.now (fields_of c.args.lights.now c.args.change.now) (filled_of c.args.grid.now c.args.board.now c.args.change.now) _ _ c.args.board.now (board_of c.args.grid.now) c.args.lights.now (lights_of c.args.grid.now) (g.R.Rows.entries c.args.rows.now) (row words) c.requires.boards c.requires.are_lights entries
+    let opening = opening_of c.args.grid.now (fields_of c.args.lights.now c.args.change.now) (filled_of c.args.grid.now c.args.board.now c.args.change.now) _ _ c.args.board.now (board_of c.args.grid.now) c.args.lights.now (lights_of c.args.grid.now) (g.R.Rows.entries c.args.rows.now) (known_words words) c.requires.boards c.requires.are_lights entries
     c.open.ensures.opening in
-    let lost = lost_of (fields_of c.args.lights.now c.args.change.now) _ _ _ _ c.args.board.now (board_of c.args.grid.now) c.args.lights.now (lights_of c.args.grid.now) (g.R.Rows.entries c.args.rows.now) (row words) c.requires.boards c.requires.are_lights entries
+    let lost = lost_of (fields_of c.args.lights.now c.args.change.now) _ _ _ _ c.args.board.now (board_of c.args.grid.now) c.args.lights.now (lights_of c.args.grid.now) (g.R.Rows.entries c.args.rows.now) (known_words words) c.requires.boards c.requires.are_lights entries
     (lost_by (fields_of c.args.lights.now c.args.change.now) c.args.board.now c.args.lights.now (g.R.Rows.entries c.args.rows.now) c.deref_mut.result.now c.args.self.now.held.items c.forget_lights.new.held _ c.deref_mut-2.result.now c.args.self.now.pending.items c.forget_lights.new.pending _
     c.deref_mut.ensures.value (sym held) c.deref_mut-2.ensures.value (sym pending) c.forget_lights.ensures) in
     opens before (record { grid = c.args.grid.now; words = words }) action (fields_of c.args.lights.now c.args.change.now) is settled c.args.self.now c.open.new.self filled filled.holding moved opening lost

@@ -3,7 +3,7 @@ use Rattle.std.proofs.lemmas.Bool.{or_left}
 use Rattle.std.proofs.lemmas.List.{with_items_is}
 use Rattle.std.specs.Vec.{with_items}
 use Rattle.xw_bits.specs.Bits.{RowOfBits}
-use Rattle.xw_words.specs.Dictionary.{Entry, row}
+use Rattle.xw_words.specs.Dictionary.{Entry, known_words}
 use Rattle.xw_letters.specs.Letter.{is_capital}
 use Rattle.xw_feas.specs.Board.{light_at}
 use Rattle.xw_feas.specs.Flags.{set_has}
@@ -55,7 +55,7 @@ returns-clause-unstripped g c dictionary setting =
     ∙ ap (base_bits board (light_at board light)) (setting.read (length (light_at board light))) in
     let held_far : (light position letter : ℕ) → IsPositionIn c.args.board.now light position → is_capital letter ≡ true → known c.args.board.now dictionary light ≤ held_in c.args.self.now (slot_at c.args.board.now light position) letter =
     λ light position letter here capital. omega (arith, fresh.held light position letter here capital, known_few dictionary (length (light_at board light)) setting.words) in
-    let words_read : (light : ℕ) → length (g.R.Rows.entries c.args.rows.now (length (light_at c.args.board.now light))) ≡ length (row dictionary (length (light_at c.args.board.now light))) =
+    let words_read : (light : ℕ) → length (g.R.Rows.entries c.args.rows.now (length (light_at c.args.board.now light))) ≡ length (known_words dictionary (length (light_at c.args.board.now light))) =
     λ light. ap (λ (words : List Entry). length words) (setting.read (length (light_at board light))) in
     let ready : IsReady board dictionary (marks_of back.new.self) =
     brought_ready_all board entries dictionary setting (marks_of start) (marks_of back.new.self) (is_marked back.new.self.chain.marks) (back.ensures.brought dictionary is_base)
@@ -64,11 +64,11 @@ returns-clause-unstripped g c dictionary setting =
     (λ cell letter. ap (λ s. set_has s cell letter) letters_is ∙ c.fill_letters.ensures.letters cell letter)
     held_far
     fresh.pending in
-    let whole : IsWholeNet c.args.board.now (row dictionary) start = record {
+    let whole : IsWholeNet c.args.board.now (known_words dictionary) start = record {
       shaped = search rules;
       chained = search rules;
       bits = λ light lt. fresh.whole.bits light lt ∙ words_read light;
-      base = base_read board entries (row dictionary) start.base.items setting.read (subst (HasBase c.args.board.now (g.R.Rows.entries c.args.rows.now)) (sym base_is) c.read_marked.ensures.base);
+      base = base_read board entries (known_words dictionary) start.base.items setting.read (subst (HasBase c.args.board.now (g.R.Rows.entries c.args.rows.now)) (sym base_is) c.read_marked.ensures.base);
       room = λ light lt. omega (arith, fresh.whole.room light lt, words_read light);
       base_room = λ light lt. omega (
         arith,
@@ -81,7 +81,7 @@ returns-clause-unstripped g c dictionary setting =
     } in
     brought_unstripped board dictionary start back.new.self c.unmark.new.self whole is_base
     (c.unmark.ensures.shaped board back.ensures.shaped) (c.unmark.ensures.chained board back.ensures.chained)
-    (back.ensures.bits (row dictionary) whole.bits) back.ensures.base c.unmark.ensures.empty back.ensures.row_room (is_marked back.new.self.chain.marks) (back.ensures.brought dictionary is_base)
+    (back.ensures.bits (known_words dictionary) whole.bits) back.ensures.base c.unmark.ensures.empty back.ensures.row_room (is_marked back.new.self.chain.marks) (back.ensures.brought dictionary is_base)
     ready (λ light position letter here capital lt. absurd (omega (arith, lt, held_far light position letter here capital))) fresh.pending c.unmark.ensures.rest c.unmark.ensures.marked
 
 pub bring_back-requires-clause-chained : goal.bring_back-requires-clause-chained

@@ -1,5 +1,5 @@
 use Rattle.std.proofs.Common.{length, sym, subst}
-use Rattle.xw_words.specs.Dictionary.{row}
+use Rattle.xw_words.specs.Dictionary.{known_words}
 use Rattle.xw_net.specs.Inner.Blank.{IsBlank}
 use Rattle.xw_net.specs.Copy.{IsReusable}
 use Rattle.xw_net.specs.Net.{known_counts}
@@ -12,8 +12,8 @@ copy_arrays-requires-clause-can c =
     let net = c.in_ok-net.net in
     let words = c.args.bank.now.words in
     let grid = c.args.grid.now in
-    let is_blank = subst (λ l. IsBlank l (counts_of (row c.args.bank.now.words)) (length c.args.grid.now.squares) c.in_ok-net.net) c.requires.lights c.in_ok-net.ensures.blank in
-    let room = subst (λ l. HasRoom l (counts_of (row c.args.bank.now.words)) c.in_ok-net.net) c.requires.lights c.in_ok-net.ensures.room in
+    let is_blank = subst (λ l. IsBlank l (counts_of (known_words c.args.bank.now.words)) (length c.args.grid.now.squares) c.in_ok-net.net) c.requires.lights c.in_ok-net.ensures.blank in
+    let room = subst (λ l. HasRoom l (counts_of (known_words c.args.bank.now.words)) c.in_ok-net.net) c.requires.lights c.in_ok-net.ensures.room in
     record {
       counts = known_counts words;
       cells = length grid.squares;

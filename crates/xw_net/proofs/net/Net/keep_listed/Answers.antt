@@ -99,7 +99,7 @@ loop-number-preserved c =
       kept = λ dictionary measure ticks apart in_set has_it under.
           let is_letter : IsLetter c.at.result = set_letter (get_or old.letters.items at 0) b (sym (stood_there old at b) ∙ stood) in
           unlisted_under board dictionary apart old new c.args.light c.args.position b c.requires.position is_letter d.same stood drops
-          (λ k stands has_letter. both_ways (has c.args.listed b) (ap (has c.args.listed) c.at.ensures ∙ c.in-Some.ensures.unlisted) (has_it b k (sym (words_struck c.args.self.now old inv.same c.args.light k) ∙ stands) has_letter))
+          (λ k stands has_letter. both_ways (has c.args.listed b) (ap (has c.args.listed) c.at.ensures ∙ c.in-Some.ensures.unlisted) (has_it b k (inv.alive at b stood) (sym (words_struck c.args.self.now old inv.same c.args.light k) ∙ stands) has_letter))
           measure ticks in_set (inv.kept dictionary measure ticks apart in_set has_it under);
     }
 

@@ -3,7 +3,7 @@ use Rattle.std.specs.Prelude.{Option, is_some, vec_len}
 use Rattle.std.proofs.lemmas.Bool.{true≢false}
 use Rattle.std.proofs.lemmas.List.{with_items_is}
 use Rattle.xw_bits.specs.Bits.{RowOfBits}
-use Rattle.xw_words.specs.Dictionary.{Entry, row}
+use Rattle.xw_words.specs.Dictionary.{Entry, known_words}
 use Rattle.xw_grid.specs.declared.lights.Light.{Light}
 use Rattle.xw_grid.specs.Light.{lights_of}
 use Rattle.xw_net.specs.Room.{counts_of, row_at, HaveBits}
@@ -29,12 +29,12 @@ no_word (Some word) none = absurd (true≢false none)
 
 pub returns-then-is_none-clause-moved : goal.returns-then-is_none-clause-moved
 returns-then-is_none-clause-moved g c was now before lights read filled =
-    let entries : g.R.Rows.entries c.args.words.now ≡ row now.words = λ t. λ len. read len t in
+    let entries : g.R.Rows.entries c.args.words.now ≡ known_words now.words = λ t. λ len. read len t in
     let none : word_of c.args.change.now ≡ None = sym c.word.ensures ∙ no_word c.word.result c.if-is_none.ensures in
     let follows = c.follow.ensures in
     let turned = subst (λ ls. IsTurned ls (lights_of now.grid) c.args.self.now c.follow.new.self) before (subst (λ ls. IsTurned (before_of c.args.lights.now c.args.change.now) ls c.args.self.now c.follow.new.self) lights follows.turned) in
-    let whole : (rows : List RowOfBits) → AreNear c.args.lights.now (counts_of (g.R.Rows.entries c.args.words.now)) (word_of c.args.change.now) rows → AreFitted (lights_of now.grid) (counts_of (row now.words)) rows rows =
-    λ rows near. fitted_of c.args.lights.now (lights_of now.grid) (g.R.Rows.entries c.args.words.now) (row now.words) rows rows rows rows lights entries refl refl
+    let whole : (rows : List RowOfBits) → AreNear c.args.lights.now (counts_of (g.R.Rows.entries c.args.words.now)) (word_of c.args.change.now) rows → AreFitted (lights_of now.grid) (counts_of (known_words now.words)) rows rows =
+    λ rows near. fitted_of c.args.lights.now (lights_of now.grid) (g.R.Rows.entries c.args.words.now) (known_words now.words) rows rows rows rows lights entries refl refl
     (near_fitted c.args.lights.now (counts_of (g.R.Rows.entries c.args.words.now)) rows (subst (λ word. AreNear c.args.lights.now (counts_of (g.R.Rows.entries c.args.words.now)) word rows) none near)) in
     moved_net was now (vec_len c.args.self.now.letters) c.args.self.now c.follow.new.self c.follow.new.self turned
     (whole c.follow.new.self.rows.items follows.rows) (λ light past. refl) (whole c.follow.new.self.base.items follows.base) refl
@@ -50,16 +50,16 @@ returns-then-is_none-clause-whole g c =
 
 pub returns-clause-moved : goal.returns-clause-moved
 returns-clause-moved g c was now before lights read filled =
-    let entries : g.R.Rows.entries c.args.words.now ≡ row now.words = λ t. λ len. read len t in
+    let entries : g.R.Rows.entries c.args.words.now ≡ known_words now.words = λ t. λ len. read len t in
     let rows = with_items_is c.follow.new.self.rows c.fit_rows.new.rows (omega (arith, c.fit_rows.auto.rows, c.deref_mut.ensures.len)) in
     let base = with_items_is c.follow.new.self.base c.fit_rows-2.new.rows (omega (arith, c.fit_rows-2.auto.rows, c.deref_mut-2.ensures.len)) in
     let rest = c.follow.ensures.rest in
     let turned = subst (λ ls. IsTurned ls (lights_of now.grid) c.args.self.now c.follow.new.self) before (subst (λ ls. IsTurned (before_of c.args.lights.now c.args.change.now) ls c.args.self.now c.follow.new.self) lights c.follow.ensures.turned) in
     let many = ap (λ (ls : List Light). length ls) lights in
     moved_net was now (vec_len c.args.self.now.letters) c.args.self.now c.follow.new.self _ turned
-    (fitted_of c.args.lights.now (lights_of now.grid) (g.R.Rows.entries c.args.words.now) (row now.words) c.deref_mut.result.now c.follow.new.self.rows.items c.fit_rows.new.rows _ lights entries c.deref_mut.ensures.value (sym rows) c.fit_rows.ensures.fitted)
+    (fitted_of c.args.lights.now (lights_of now.grid) (g.R.Rows.entries c.args.words.now) (known_words now.words) c.deref_mut.result.now c.follow.new.self.rows.items c.fit_rows.new.rows _ lights entries c.deref_mut.ensures.value (sym rows) c.fit_rows.ensures.fitted)
     (others_of c.args.lights.now (lights_of now.grid) c.deref_mut.result.now c.follow.new.self.rows.items c.fit_rows.new.rows _ lights c.deref_mut.ensures.value (sym rows) c.fit_rows.ensures.others)
-    (fitted_of c.args.lights.now (lights_of now.grid) (g.R.Rows.entries c.args.words.now) (row now.words) c.deref_mut-2.result.now c.follow.new.self.base.items c.fit_rows-2.new.rows _ lights entries c.deref_mut-2.ensures.value (sym base) c.fit_rows-2.ensures.fitted)
+    (fitted_of c.args.lights.now (lights_of now.grid) (g.R.Rows.entries c.args.words.now) (known_words now.words) c.deref_mut-2.result.now c.follow.new.self.base.items c.fit_rows-2.new.rows _ lights entries c.deref_mut-2.ensures.value (sym base) c.fit_rows-2.ensures.fitted)
     refl
     (record {
       few_cells = rest.few_cells;

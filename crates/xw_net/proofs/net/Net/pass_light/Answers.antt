@@ -3,7 +3,7 @@ use Rattle.std.proofs.lemmas.Bool.{cases_lt}
 use Rattle.std.proofs.lemmas.List.{get_or_default}
 use Rattle.std.proofs.lemmas.Option.{slice_get_read}
 use Rattle.xw_letters.specs.LetterSet.{has}
-use Rattle.xw_words.specs.Dictionary.{row as words_of}
+use Rattle.xw_words.specs.Dictionary.{known_words}
 use Rattle.xw_feas.specs.Board.{light_at}
 use Rattle.xw_feas.specs.Flags.{set_has}
 use Rattle.xw_net.specs.Marks.{cell_at}
@@ -22,12 +22,12 @@ loop-position-preserved c =
     let k = c.keep_listed.ensures in
     let board = c.args.board.now in
     let light = c.args.light in
-    let entries = words_of c.args.bank.now.words in
+    let entries = known_words c.args.bank.now.words in
     let at = c.loop-position.position in
     let sets = c.letters_of-listed.result in
     let row_is = slice_get_read c.args.self.now.rows.items (length c.args.self.now.rows.items) c.args.light c.index.result.now refl (omega (arith, c.requires.light, c.requires.net.shaped.rows)) c.index.ensures in
     let len_is : c.len-len.result ≡ length (light_at c.args.board.now c.args.light) = c.len-len.ensures ∙ ap length c.light.ensures.cells in
-    let letters = letters_at c.args.self.now (words_of c.args.bank.now.words) c.args.light (length (light_at c.args.board.now c.args.light)) c.len-len.result c.index.result.now c.letters_of-listed.result row_is len_is c.letters_of-listed.ensures.letters in
+    let letters = letters_at c.args.self.now (known_words c.args.bank.now.words) c.args.light (length (light_at c.args.board.now c.args.light)) c.len-len.result c.index.result.now c.letters_of-listed.result row_is len_is c.letters_of-listed.ensures.letters in
     let below : c.loop-position.position < length (light_at c.args.board.now c.args.light) = omega (arith, c.loop-position-test.true, len_is) in
     let set_at : get_or c.letters_of-listed.result c.loop-position.position c.index-listed-position.result ≡ get_or c.letters_of-listed.result c.loop-position.position 0 =
     get_or_default sets at c.index-listed-position.result 0 (omega (arith, below, c.requires.short, c.letters_of-listed.ensures.long)) in
@@ -46,7 +46,7 @@ loop-position-preserved c =
       ];
       kept = λ ticks dictionary measure setting in_set under.
           k.kept dictionary measure ticks setting.apart in_set
-          (λ letter choice stands has_letter. ap (λ s. has s letter) set_at ∙ has_word board entries dictionary setting c.args.self.now c.requires.net.bits light at (c.requires.light, below) sets letters c.requires.open letter choice (sym (words_struck c.args.self.now c.loop-position.self inv.same light choice) ∙ stands) has_letter)
+          (λ letter choice _ stands has_letter. ap (λ s. has s letter) set_at ∙ has_word board entries dictionary setting c.args.self.now c.requires.net.bits light at (c.requires.light, below) sets letters c.requires.open letter choice (sym (words_struck c.args.self.now c.loop-position.self inv.same light choice) ∙ stands) has_letter)
           (inv.kept ticks dictionary measure setting in_set under);
     }
 
@@ -55,7 +55,7 @@ returns-clause-step c =
     let inv = c.loop-position.invariant in
     record {
       shaped = inv.shaped;
-      bits = subst (λ (n : Net). HasBits c.args.board.now (words_of c.args.bank.now.words) n) (sym inv.same) c.requires.net.bits;
+      bits = subst (λ (n : Net). HasBits c.args.board.now (known_words c.args.bank.now.words) n) (sym inv.same) c.requires.net.bits;
       rest = inv.rest;
     }
 
@@ -74,7 +74,7 @@ returns-clause-held c dictionary setting position letter here alive =
     let inv = c.loop-position.invariant in
     let row_is = slice_get_read c.args.self.now.rows.items (length c.args.self.now.rows.items) c.args.light c.index.result.now refl (omega (arith, c.requires.light, c.requires.net.shaped.rows)) c.index.ensures in
     let len_is : c.len-len.result ≡ length (light_at c.args.board.now c.args.light) = c.len-len.ensures ∙ ap length c.light.ensures.cells in
-    let letters = letters_at c.args.self.now (words_of c.args.bank.now.words) c.args.light (length (light_at c.args.board.now c.args.light)) c.len-len.result c.index.result.now c.letters_of-listed.result row_is len_is c.letters_of-listed.ensures.letters in
+    let letters = letters_at c.args.self.now (known_words c.args.bank.now.words) c.args.light (length (light_at c.args.board.now c.args.light)) c.len-len.result c.index.result.now c.letters_of-listed.result row_is len_is c.letters_of-listed.ensures.letters in
     same_stays c.args.board.now dictionary setting.apart (marks_of c.args.self.now) (marks_of c.loop-position.self) (words_struck c.args.self.now c.loop-position.self inv.same) (held_struck c.args.self.now c.loop-position.self inv.same) c.args.light position letter
-    (is_supported c.args.board.now (words_of c.args.bank.now.words) dictionary setting c.args.self.now c.requires.net.bits c.args.light position here c.letters_of-listed.result letters letter
+    (is_supported c.args.board.now (known_words c.args.bank.now.words) dictionary setting c.args.self.now c.requires.net.bits c.args.light position here c.letters_of-listed.result letters letter
     (inv.listed position letter (omega (arith, here.1, c.loop-position-test.false, len_is)) alive))

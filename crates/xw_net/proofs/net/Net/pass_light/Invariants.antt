@@ -1,5 +1,5 @@
 use Rattle.std.proofs.Common.{◌≡◌, ◌<◌, ◌≤◌, ℕ, true}
-use Rattle.xw_words.specs.Dictionary.{Dictionary, row as words_of}
+use Rattle.xw_words.specs.Dictionary.{Dictionary, known_words}
 use Rattle.xw_feas.specs.Flags.{set_has}
 use Rattle.xw_net.specs.Marks.{IsSetting, cell_at}
 use Rattle.xw_net.specs.Due.{Measure, IsUnderway, and_light}
@@ -16,6 +16,6 @@ invariant-loop-position l = record {
   waits : WaitMore l.fn.self l.self;
   pending : PendAtSlots l.board l.fn.self l.self;
   listed : (position letter : ℕ) → position < l.position → letter_stands l.self (cell_at l.board l.light position) letter ≡ true → set_has l.listed position letter ≡ true;
-  kept : (ticks : ℕ) (dictionary : Dictionary) (measure : Measure) → IsSetting l.board (words_of l.bank.words) dictionary → measure.member l.light ≡ true
+  kept : (ticks : ℕ) (dictionary : Dictionary) (measure : Measure) → IsSetting l.board (known_words l.bank.words) dictionary → measure.member l.light ≡ true
       → IsUnderway l.board dictionary measure (marks_of l.fn.self) (and_light (queued_in l.fn.self) l.light) ticks → IsUnderway l.board dictionary measure (marks_of l.self) (and_light (queued_in l.self) l.light) ticks;
 }

@@ -1,6 +1,6 @@
 use Rattle.std.proofs.Common.{◌≡◌, ◌<◌, ℕ, Bool, true, false, List, length, sym, ap, subst, ◌∙◌, inl, inr, arith}
 use Rattle.std.proofs.lemmas.Bool.{cases_Bool, or_cases}
-use Rattle.xw_words.specs.Dictionary.{Entry, row}
+use Rattle.xw_words.specs.Dictionary.{Entry, known_words}
 use Rattle.xw_feas.specs.Board.{Board, board_of, light_at}
 use Rattle.xw_feas.specs.Flags.{set_has}
 use Rattle.xw_feas.specs.State.{State, Action}
@@ -41,8 +41,8 @@ base_of before now action settled net board same opened = subst (λ b. IsBase b 
 ready_of : (before now : State) (action : Action) (settled net : Net) (board : Board) → board ≡ board_of now.grid → IsOpened before now action settled net → IsReadyBut board now.words (marks_of net) (is_marked net.chain.marks)
 ready_of before now action settled net board same opened = subst (λ b. IsReadyBut b now.words (marks_of net) (is_marked net.chain.marks)) (sym same) opened.ready
 
-cost_of : (now : State) (member : List ℕ → Bool) (board : Board) (entries : ℕ → List Entry) → board ≡ board_of now.grid → entries ≡ row now.words
-    → base_cost board entries (λ light. member (light_at board light)) ≡ base_cost (board_of now.grid) (row now.words) (λ light. member (light_at (board_of now.grid) light))
+cost_of : (now : State) (member : List ℕ → Bool) (board : Board) (entries : ℕ → List Entry) → board ≡ board_of now.grid → entries ≡ known_words now.words
+    → base_cost board entries (λ light. member (light_at board light)) ≡ base_cost (board_of now.grid) (known_words now.words) (λ light. member (light_at (board_of now.grid) light))
 cost_of now member board entries same read =
     ap (λ b. base_cost b entries (λ light. member (light_at b light))) same ∙ ap (λ es. base_cost (board_of now.grid) es (λ light. member (light_at (board_of now.grid) light))) read
 
@@ -62,13 +62,13 @@ returns-clause-revived g c before words action settled read is filled moved room
     (matching_of before (record { grid = c.args.grid.now; words = words }) c.args.board.now c.requires.boards is.width) filled.exact begun in
     let start = ready_of before (record { grid = c.args.grid.now; words = words }) action settled c.begin.new.self c.args.board.now c.requires.boards opened in
     let ready = c.bring_back.ensures.ready (g.R.Rows.entries c.args.rows.now) words setting is_base start covers in
-    let words_read : (light : ℕ) → length (g.R.Rows.entries c.args.rows.now (length (light_at c.args.board.now light))) ≡ length (row words (length (light_at c.args.board.now light))) =
+    let words_read : (light : ℕ) → length (g.R.Rows.entries c.args.rows.now (length (light_at c.args.board.now light))) ≡ length (known_words words (length (light_at c.args.board.now light))) =
     λ light. ap (λ (entries : List Entry). length entries) (read (length (light_at board light))) in
-    let whole : IsWholeNet c.args.board.now (row words) c.begin.new.self = record {
+    let whole : IsWholeNet c.args.board.now (known_words words) c.begin.new.self = record {
       shaped = c.begin.ensures.begun.sized.shaped;
       chained = c.begin.ensures.begun.sized.chained;
       bits = λ light lt. c.begin.ensures.begun.sized.bits light lt ∙ words_read light;
-      base = base_read board (g.R.Rows.entries c.args.rows.now) (row words) c.begin.new.self.base.items read c.begin.ensures.begun.sized.base;
+      base = base_read board (g.R.Rows.entries c.args.rows.now) (known_words words) c.begin.new.self.base.items read c.begin.ensures.begun.sized.base;
       room = λ light lt. omega (arith, room light lt, c.begin.ensures.begun.room.rows light, words_read light);
       base_room = λ light lt. omega (arith, base_room light lt, c.begin.ensures.begun.room.base light, words_read light);
     } in
@@ -77,7 +77,7 @@ returns-clause-revived g c before words action settled read is filled moved room
     let brought = c.bring_back.ensures.brought words is_base in
     let unstripped = brought_unstripped board words c.begin.new.self c.bring_back.new.self c.unmark.new.self whole is_base
     (c.unmark.ensures.shaped board c.bring_back.ensures.shaped) (c.unmark.ensures.chained board c.bring_back.ensures.chained)
-    (c.bring_back.ensures.bits (row words) whole.bits) c.bring_back.ensures.base c.unmark.ensures.empty c.bring_back.ensures.row_room (is_marked c.bring_back.new.self.chain.marks) brought
+    (c.bring_back.ensures.bits (known_words words) whole.bits) c.bring_back.ensures.base c.unmark.ensures.empty c.bring_back.ensures.row_room (is_marked c.bring_back.new.self.chain.marks) brought
     ready start.hits none_pending c.unmark.ensures.rest c.unmark.ensures.marked in
     record {
       unstripped = subst (λ b. IsUnstripped b words c.unmark.new.self) c.requires.boards unstripped;
@@ -95,7 +95,7 @@ returns-clause-revived g c before words action settled read is filled moved room
 pub returns-clause-cost : goal.returns-clause-cost
 returns-clause-cost g c before words action settled member read is filled moved region =
     let opened = c.begin.ensures.opened before words action settled read is filled moved in
-    let entries : g.R.Rows.entries c.args.rows.now ≡ row words = λ t. λ len. read len t in
+    let entries : g.R.Rows.entries c.args.rows.now ≡ known_words words = λ t. λ len. read len t in
     let read_within : (light : ℕ) → light < length c.args.board.now.lights → is_read c.args.board.now (word_of c.args.change.now) (is_marked c.begin.new.self.queue.marks) light ≡ true → member (light_at c.args.board.now light) ≡ true =
     λ light in_board is_in. elim (or_cases (is_marked c.begin.new.self.queue.marks light) (is_long (word_of c.args.change.now) (length (light_at c.args.board.now light))) is_in) [
       | inl on ↦ ap (λ b. member (light_at b light)) c.requires.boards ∙ opened.queued_within member region light on

@@ -3,6 +3,7 @@ use Rattle.std.proofs.lemmas.Bool.{cases_lt}
 use Rattle.xw_net.specs.Marks.{IsSetting, slot_at}
 use Rattle.xw_net.specs.Nets.{HasBits, pending_in, queued_in}
 use Rattle.xw_net.proofs.Stripping.LeftByStripping.{left_left}
+use Rattle.xw_net.proofs.Levels.StruckLights.{struck_twice}
 use Rattle.xw_net.proofs.net.Net.strike_light.Goals as goal
 
 pub strike_position-requires-clause-net : goal.strike_position-requires-clause-net
@@ -35,6 +36,7 @@ loop-position-preserved g c =
                 ap (λ n. pending_in c.strike_position.new.self (slot_at board c.args.light n) letter) is ∙ k.ensures.cleared letter
           ];
       less = λ slot letter gone. k.ensures.less slot letter (inv.less slot letter gone);
+      only = struck_twice c.args.light c.args.self.now c.loop-position.self c.strike_position.new.self inv.only k.ensures.only;
       kept = λ dictionary measure setting queued in_set under.
           k.ensures.kept dictionary measure (subst (λ e. IsSetting c.args.board.now e dictionary) (sym inv.same) setting)
           (ap (λ list. get_or list.marks c.args.light false) inv.queue ∙ queued) in_set (inv.kept dictionary measure setting queued in_set under);

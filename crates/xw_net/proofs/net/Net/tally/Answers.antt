@@ -2,7 +2,7 @@ use Rattle.std.proofs.Common.{◌≡◌, ℕ, ◌+◌, ◌<◌, Bool, false, con
 use Rattle.std.specs.Prelude.{unwrap_or}
 use Rattle.std.proofs.lemmas.List.{get_or_read}
 use Rattle.xw_bits.specs.Bits.{RowOfBits}
-use Rattle.xw_words.specs.Dictionary.{Entry, row as known_words}
+use Rattle.xw_words.specs.Dictionary.{Entry, known_words}
 use Rattle.xw_feas.specs.Board.{Board, board_of, light_at, entry}
 use Rattle.xw_feas.specs.State.{State}
 use Rattle.xw_net.specs.Net.{StandsFor}

@@ -2,7 +2,7 @@ use Rattle.std.proofs.Common.{◌≡◌, ℕ, ◌<◌, length, get_or, [], true,
 use Rattle.std.proofs.lemmas.List.{get_or_read, length-map}
 use Rattle.xw_feas.proofs.BoardLemmas.{length-lights}
 use Rattle.xw_feas.specs.Board.{board_of, light_at, is_wholly_entered}
-use Rattle.xw_words.specs.Dictionary.{Entry, row as known_words}
+use Rattle.xw_words.specs.Dictionary.{Entry, known_words}
 use Rattle.xw_feas.specs.Known.{spellings}
 use Rattle.xw_feas.specs.Flags.{flag_at}
 use Rattle.xw_feas.specs.AnswersOf.{answers_of}

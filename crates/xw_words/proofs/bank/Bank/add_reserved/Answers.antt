@@ -1,6 +1,6 @@
 use Rattle.std.proofs.Common.{◌≡◌, ◌<◌, length, sym, ap, refl, ◌∙◌, false}
 use Rattle.std.specs.Prelude.{None, slice_index_or, [], ◌∷◌, ◌++◌}
-use Rattle.xw_words.specs.Dictionary.{row, index_in, most_words, new_entry}
+use Rattle.xw_words.specs.Dictionary.{known_words, index_in, most_words, new_entry}
 use Rattle.xw_words.proofs.DictionaryLemmas.{row_kept, IsKept-set, AreWords-new, AreLeft-new, words_of-changed, row-words_of, room_within}
 use Rattle.xw_words.proofs.RoomLemmas.{KeepsOtherRoom-set}
 use Rattle.xw_words.proofs.bank.Bank.add_reserved.Goals as goal
@@ -23,7 +23,7 @@ invariant_of-self c =
     let len = length word in
     let small = room_within rows least len c.self.invariant (ap (λ bank. slice_index_or bank.room len false) c.self.view_is ∙ c.requires.room) in
     let at = row_kept rows least len old c.self.invariant small c.index_mut-row.ensures.value in
-    let was : row c.args.self.now.words len ≡ old.entries = ap (λ bank. row bank.words len) (sym c.self.view_is) ∙ row-words_of rows least len old at.within c.index_mut-row.ensures.value in
+    let was : known_words c.args.self.now.words len ≡ old.entries = ap (λ bank. known_words bank.words len) (sym c.self.view_is) ∙ row-words_of rows least len old at.within c.index_mut-row.ensures.value in
     let unknown : index_in old.entries word ≡ None = ap (λ es. index_in es word) (sym was) ∙ c.requires.unknown in
     let few : length old.entries < most_words = c.add_reserved.ensures.few in
     IsKept-set rows least len c.add_reserved.new.self c.self.invariant c.add_reserved.ensures.long (c.add_reserved.ensures.word_len ∙ at.len_is)
@@ -38,7 +38,7 @@ returns-clause-index c =
     let len = length c.args.word.now in
     let small = room_within rows least len c.self.invariant (ap (λ bank. slice_index_or bank.room len false) c.self.view_is ∙ c.requires.room) in
     let at = row_kept rows least len old c.self.invariant small c.index_mut-row.ensures.value in
-    let was : row c.args.self.now.words len ≡ old.entries = ap (λ bank. row bank.words len) (sym c.self.view_is) ∙ row-words_of rows least len old at.within c.index_mut-row.ensures.value in
+    let was : known_words c.args.self.now.words len ≡ old.entries = ap (λ bank. known_words bank.words len) (sym c.self.view_is) ∙ row-words_of rows least len old at.within c.index_mut-row.ensures.value in
     c.len-index.ensures.value ∙ ap (λ entries. length entries) (sym was)
 
 pub returns-clause-words : goal.returns-clause-words

@@ -1,12 +1,12 @@
 use Rattle.std.proofs.Common.{sym, subst, ◌∙◌}
-use Rattle.xw_feas.specs.Snapshot.{IsTwin}
+use Rattle.xw_feas.specs.Snapshot.{CanSave}
 use Rattle.xw_fill.specs.Inner.Climbing.{IsClimbing}
 use Rattle.xw_fill.proofs.ClimbLemmas.{probed}
 use Rattle.xw_fill.proofs.best.climb.Climb.fill_part.Goals as goal
 
 pub go_back-requires : goal.go_back-requires
 go_back-requires g c =
-    record { twin = subst (λ s. IsTwin s (g.E.Feasible.state c.fill_part-filling.new.engine)) (sym c.requires.climbing.began) c.fill_part-filling.ensures.twin }
+    subst (λ s. CanSave s (g.E.Feasible.state c.fill_part-filling.new.engine)) (sym c.requires.climbing.began) c.fill_part-filling.ensures.saved
 
 pub returns-clause-climbing : goal.returns-clause-climbing
 returns-clause-climbing g c =

@@ -15,7 +15,7 @@ save-requires g c =
 pub go_back-requires : goal.go_back-requires
 go_back-requires g c =
     let climb = c.args.self.now in
-    record { twin = filled_at_twin (flags climb.prober.plan.named.items) (g.E.Searchable.saved climb.start) (g.E.Feasible.state c.args.engine.now) c.args.grade c.requires.filled }
+    CanSave-twin (g.E.Searchable.saved climb.start) (g.E.Feasible.state c.args.engine.now) (filled_at_twin (flags climb.prober.plan.named.items) (g.E.Searchable.saved climb.start) (g.E.Feasible.state c.args.engine.now) c.args.grade c.requires.filled)
 
 pub returns-clause-climbing : goal.returns-clause-climbing
 returns-clause-climbing g c =

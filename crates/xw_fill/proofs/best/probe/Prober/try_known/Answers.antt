@@ -1,4 +1,4 @@
-use Rattle.std.proofs.Common.{◌≡◌, ◌<◌, ◌≤◌, ℕ, length, arith, refl, sym, ap, ◌∙◌, subst}
+use Rattle.std.proofs.Common.{◌≡◌, ◌<◌, ◌≤◌, ℕ, length, arith, sym, ap, ◌∙◌, subst}
 use Rattle.std.specs.Prelude.{Ok}
 use Rattle.xw_fill.specs.Position.{Position, position_of}
 use Rattle.xw_fill.specs.Search.{light_count}
@@ -7,7 +7,8 @@ use Rattle.xw_fill.specs.Best.{at_least}
 use Rattle.xw_fill.specs.Inner.Climbing.{AreFresh, AreActiveAt, AreAliveAt}
 use Rattle.xw_fill.specs.Inner.Progress.{is_watched}
 use Rattle.xw_fill.proofs.LetterSearch.{position_at}
-use Rattle.xw_fill.proofs.GradeLemmas.{served_more, active_now, alive_now, filled_now}
+use Rattle.xw_fill.proofs.GradeLemmas.{saved_found, active_now, alive_now, filled_now}
+use Rattle.xw_fill.proofs.StateLemmas.{CanSave-entries}
 use Rattle.xw_fill.proofs.CandidateLemmas.{known_fill}
 use Rattle.xw_fill.proofs.best.probe.Prober.try_known.Goals as goal
 
@@ -52,11 +53,18 @@ greatest_grade-grade-requires-clause-alive g c =
     subst (AreAliveAt (flags c.as_slice-watched.result.now) now) (sym c.requires.prober.least)
     (alive_now plan.named.items c.as_slice-fresh.result.now c.as_slice-watched.result.now before now before.words.least fresh are found.0 found.1 before.words.least found.0)
 
-pub returns-clause-prober : goal.returns-clause-prober
-returns-clause-prober g c = served_more g.E.Searchable.saved c.args.self.now (record c.args.self.now { stack = c.enter.new.stack; last = c.of-2.result; tries = c.raise.new.self }) (g.E.Feasible.state c.args.engine.now) c.requires.prober refl refl refl c.enter.ensures.ready
+pub returns-clause-saved : goal.returns-clause-saved
+returns-clause-saved g c =
+    let before = g.E.Feasible.state c.args.engine.now in
+    let now = g.E.Feasible.state c.enter.new.engine in
+    let rest = g.E.Feasible.state c.greatest_grade-grade.new.engine in
+    saved_found before now rest (g.E.Feasible.state c.choose_least.new.engine) c.args.self.now.least (CanSave-entries before now c.enter.ensures.entries) c.greatest_grade-grade.ensures.state c.choose_least.ensures.state
 
-pub returns-then-not-is_fill-clause-prober : goal.returns-then-not-is_fill-clause-prober
-returns-then-not-is_fill-clause-prober g c = served_more g.E.Searchable.saved c.args.self.now (record c.args.self.now { stack = c.enter.new.stack; last = c.of.result; tries = c.raise.new.self }) (g.E.Feasible.state c.args.engine.now) c.requires.prober refl refl refl c.enter.ensures.ready
+pub returns-then-not-is_fill-clause-saved : goal.returns-then-not-is_fill-clause-saved
+returns-then-not-is_fill-clause-saved g c = CanSave-entries (g.E.Feasible.state c.args.engine.now) (g.E.Feasible.state c.enter.new.engine) c.enter.ensures.entries
+
+pub returns-in_err-is_fill-clause-saved : goal.returns-in_err-is_fill-clause-saved
+returns-in_err-is_fill-clause-saved g c = CanSave-entries (g.E.Feasible.state c.args.engine.now) (g.E.Feasible.state c.enter.new.engine) c.enter.ensures.entries
 
 pub returns-clause-ok : goal.returns-clause-ok
 returns-clause-ok g c =

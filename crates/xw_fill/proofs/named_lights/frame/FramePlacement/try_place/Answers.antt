@@ -1,19 +1,35 @@
-use Rattle.std.proofs.lemmas.Option.{IfSome_then}
-use Rattle.xw_feas.specs.State.{State}
+use Rattle.std.proofs.Common.{◌<◌, ◌*◌, sym, ap, ◌∙◌, subst}
+use Rattle.xw_grid.specs.Grid.{Grid, cell_at}
+use Rattle.xw_feas.specs.State.{State, letter_set}
+use Rattle.xw_fill.specs.Position.{Position}
+use Rattle.xw_fill.specs.Search.{light_count}
 use Rattle.xw_fill.specs.Inner.Progress.{IsLetterSet, CanBeEntered, IsLetterEntered}
 use Rattle.xw_fill.specs.declared.named_lights.frame.Frame.{Frame}
-use Rattle.xw_fill.proofs.LetterSearch.{open_there}
-use Rattle.xw_fill.proofs.TryingLemmas.{none_then}
+use Rattle.xw_fill.proofs.Entering.{open_within, letter_entered, letter_may}
+use Rattle.xw_fill.proofs.LetterSearch.{open_there, position_at}
+use Rattle.xw_fill.proofs.TryingLemmas.{tried_ok}
 use Rattle.xw_fill.proofs.named_lights.frame.FramePlacement.try_place.Goals as goal
 
 entered_in : (frame : Frame) (before after : State) → CanBeEntered frame before → IsLetterSet frame.cell frame.letter before after → IsLetterEntered frame before after
 entered_in frame before after can is = record { opens = open_there before after frame.cell is.rest can.opens; empty = can.empty; entered = is.entries; entries = is.rest }
 
-pub returns-clause-placed : goal.returns-clause-placed
-returns-clause-placed g c = none_then c.try_letter.result c.try_letter.ensures.entered (entered_in c.args.self.now (g.E.Feasible.state c.args.engine.now) (g.E.Feasible.state c.try_letter.new.engine) c.requires.may)
+pub cell_at-cell-requires : goal.cell_at-cell-requires
+cell_at-cell-requires g c =
+    let state = g.E.Feasible.state c.args.engine.now in
+    subst (λ (grid : Grid). c.args.self.now.cell < grid.width * grid.height) (sym c.grid.ensures) (open_within state.grid c.args.self.now.cell (g.met.E.Feasible.well_formed c.args.engine.now).grid c.requires.opens)
 
-pub returns-clause-dead : goal.returns-clause-dead
-returns-clause-dead g c = IfSome_then c.try_letter.result c.try_letter.ensures.dead (λ light is. (is.0, entered_in c.args.self.now (g.E.Feasible.state c.args.engine.now) is.0 c.requires.may is.1, is.2))
+pub try_letter-requires : goal.try_letter-requires
+try_letter-requires g c =
+    let state = g.E.Feasible.state c.args.engine.now in
+    let frame = c.args.self.now in
+    let spot = c.cell_at-cell.ensures.cell ∙ ap (λ (grid : Grid). cell_at grid frame.cell) c.grid.ensures in
+    letter_may state frame.cell c.cell_at-cell.result frame.letter (g.met.E.Feasible.well_formed c.args.engine.now).grid c.requires.opens spot c.requires.empty c.requires.feasible
 
-pub returns-clause-count : goal.returns-clause-count
-returns-clause-count g c = c.try_letter.ensures.count
+pub returns-clause-led : goal.returns-clause-led
+returns-clause-led g c =
+    let before = g.E.Feasible.state c.args.engine.now in
+    let frame = c.args.self.now in
+    let spot = c.cell_at-cell.ensures.cell ∙ ap (λ (grid : Grid). cell_at grid frame.cell) c.grid.ensures in
+    tried_ok before (g.E.Feasible.state c.try_letter.new.self) (letter_set c.cell_at-cell.result frame.letter) c.args.watched.now (IsLetterEntered frame before)
+    (λ there made. entered_in frame before there c.requires (letter_entered before there frame.cell c.cell_at-cell.result frame.letter (g.met.E.Feasible.well_formed c.args.engine.now).grid c.requires.opens spot made))
+    (λ there entered. ap (λ (p : Position). light_count p) (position_at before there entered.entries)) c.try_letter.result c.try_letter.ensures.tried

@@ -1,0 +1,13 @@
+use Rattle.xw_live.specs.Live.{state_of}
+use Rattle.xw_live.proofs.Placements.{levels_either}
+use Rattle.xw_live.proofs.live.Live.keep_level.Goals as goal
+
+pub invariant_of-self-2 : goal.invariant_of-self-2
+invariant_of-self-2 c =
+    let live = c.args.self.now in
+    let begun = c.begin.ensures in
+    record {
+      kept = live.kept;
+      levels_kept = levels_either (state_of live) live.levels c.begin.new.self live.net c.begin.result live.position.formed live.kept live.levels_kept begun.last begun.none begun.spare begun.first begun.seen;
+      same_cells = live.same_cells;
+    }
