@@ -19,11 +19,12 @@
  *     session *opened = calloc(1, sizeof(struct xw));   in the file that opens sessions
  *     xw_close(opened), free(opened);                   in the file that closes them
  *
- * POINTERS. No pointer may be null, even if the length is 0: pass the address of any byte. The ranges of bytes given to one call do not
- * overlap each other or the struct. A call reads or writes only the bytes that it is given, and keeps no pointer to them. A range may
+ * POINTERS. A range of bytes whose length is 0 may be at a null pointer. No other pointer may be null. The ranges of bytes given to one call
+ * do not overlap each other or the struct. A call reads or writes only the bytes that it is given, and keeps no pointer to them. A range may
  * have any bytes and needs no NUL at its end.
  *
- * THREADS. A session is used by one thread at a time. Different sessions may be used by different threads at once.
+ * THREADS. A session is used by one thread at a time. Different sessions may be used by different threads at once: they share nothing.
+ * xw_stop of xw_lines.h ends a search from another thread.
  *
  * MEMORY. The library calls malloc, realloc and free. It opens no file and prints nothing. If an allocation fails, the call returns
  * XW_MEMORY. A session that was open is still open: free some memory and repeat the call, or save by xw_record and close.
@@ -44,8 +45,8 @@
 extern "C" {
 #endif
 
-/* The version of this header: 1,000,000 for each major version, 1,000 for each minor one, and 1 for each patch. 0.2.0 is 2000. */
-#define XW_LIBRARY_VERSION 2000
+/* The version of this header: 1,000,000 for each major version, 1,000 for each minor one, and 1 for each patch. 0.3.0 is 3000. */
+#define XW_LIBRARY_VERSION 3000
 
 /* An open session, or none if all bytes are zero. The fields are private. */
 struct xw {
@@ -159,8 +160,8 @@ uint32_t xw_resume(struct xw *xw, const void *record, size_t record_length);
  *
  * Time, in a grid of 15 by 15 with 280,000 words: an edit of a letter takes some hundredths of a millisecond, and a query at most some
  * milliseconds. But `choices` takes 0.1 to 1 ms for each word that it lists, and `suggest` and `why` take up to 0.2 s. A search takes as long as
- * its number of placements allows, and cannot be stopped while it runs: send `autofill` with 1,000 to 3,000 placements, 0.1 to 0.3 s, again and
- * again (docs/embedding.md, "Searches").
+ * its number of placements allows, and cannot be stopped while it runs: call xw_autofill or xw_best of xw_lines.h, which search in slices, or send
+ * `autofill` with 1,000 to 3,000 placements, 0.1 to 0.3 s, again and again (docs/embedding.md, "Searches").
  */
 uint32_t xw_line(struct xw *xw, const void *line, size_t line_length);
 
@@ -216,7 +217,7 @@ void xw_close(struct xw *xw);
 
 /*
  * Copies the version of the library into `out`, as much of it as there is room for, and returns its whole length. The text is that of
- * `xw --version`, such as "xw 0.2.0 (protocol 1)", without a line feed or a NUL. It needs no session. It takes the time of copying the text.
+ * `xw --version`, such as "xw 0.3.0 (protocol 1)", without a line feed or a NUL. It needs no session. It takes the time of copying the text.
  *
  * This is the version of the library that is loaded. XW_LIBRARY_VERSION is that of the header.
  */
@@ -229,6 +230,26 @@ size_t xw_version(void *out, size_t out_length);
  * Time: some nanoseconds.
  */
 const char *xw_status_name(uint32_t status);
+
+/*
+ * The functions of the library take no null pointer. In C and C++ these macros give them the address of a byte in place of one. Other languages, and
+ * calls by the address of a function, pass the address of any byte for an empty range. Names that begin with xw_own_ are private.
+ */
+static inline const void *xw_own_range(const void *at) {
+    return at ? at : "";
+}
+
+static inline void *xw_own_room(void *at) {
+    static char none;
+    return at ? at : &none;
+}
+
+#define xw_open(xw, list, list_length, puzzle, puzzle_length) \
+    xw_open(xw, xw_own_range(list), list_length, xw_own_range(puzzle), puzzle_length)
+#define xw_resume(xw, record, record_length) xw_resume(xw, xw_own_range(record), record_length)
+#define xw_line(xw, line, line_length) xw_line(xw, xw_own_range(line), line_length)
+#define xw_answer(xw, out, out_length) xw_answer(xw, xw_own_room(out), out_length)
+#define xw_version(out, out_length) xw_version(xw_own_room(out), out_length)
 
 #ifdef __cplusplus
 }

@@ -22,6 +22,15 @@
  *     search.told = told;
  *     uint32_t status = xw_best(&xw, &search, &found);
  *
+ * STOPPING. A search also ends after a number of milliseconds, or by a flag that another thread sets:
+ *
+ *     static struct xw_flag flag = XW_FLAG;
+ *
+ *     search.milliseconds = 10000;
+ *     search.flag = &flag;
+ *     uint32_t status = xw_best(&xw, &search, &found);   in one thread
+ *     xw_stop(&flag);                                    in another one
+ *
  * Names that begin with xw_own_ are private. A program has the code of this header in it, so no name here is part of the binary interface.
  */
 #ifndef XW_LINES_H
@@ -39,7 +48,7 @@ extern "C" {
 
 /* ---- reading */
 
-/* Some bytes, which have no NUL at their end. */
+/* Some bytes, which have no NUL at their end. If there are none, the pointer may be null. */
 struct xw_span {
     const char *at;
     size_t length;
@@ -54,7 +63,7 @@ static inline struct xw_span xw_span_of(const char *string) {
 }
 
 static inline bool xw_is(struct xw_span text, const char *string) {
-    return text.length == strlen(string) && !memcmp(text.at, string, text.length);
+    return text.length == strlen(string) && (!text.length || !memcmp(text.at, string, text.length));
 }
 
 /* Takes what stands before the first byte of this kind off a text, and the byte with it. A text without one is taken whole. */
@@ -194,11 +203,36 @@ static inline uint32_t xw_ask(struct xw *xw, const char *line, struct xw_asked *
     return status == XW_REFUSED && xw_is(asked->answer, "Memory") ? (uint32_t)XW_MEMORY : status;
 }
 
+/* ---- stopping */
+
+/*
+ * Ends searches from another thread. Begin with XW_FLAG, and keep it as long as a search or a thread has its address. A flag that is set stays set, so the next
+ * search needs another one. Several searches may have the same flag.
+ */
+struct xw_flag {
+    /* private: all threads read and write it by the atomic calls of the compiler */
+    int is_set;
+};
+
+#define XW_FLAG {0}
+
+/*
+ * Ends each search that has this flag after the slice that runs, and each one that begins later. It may be called in any thread, in a handler of signals, before,
+ * during and after a search, and again. A search sees what the thread wrote before.
+ */
+static inline void xw_stop(struct xw_flag *flag) {
+    __atomic_store_n(&flag->is_set, 1, __ATOMIC_RELEASE);
+}
+
+static inline bool xw_is_stopped(const struct xw_flag *flag) {
+    return __atomic_load_n(&flag->is_set, __ATOMIC_ACQUIRE) != 0;
+}
+
 /* ---- searching */
 
 /* How a search ends. */
 enum xw_found {
-    /* the search did not decide it, or your function ended it: the grid is as it was */
+    /* the search did not decide it, or was ended: the grid is as it was */
     XW_LIMIT,
     /* a fill stands in the grid */
     XW_FILLED,
@@ -234,18 +268,22 @@ struct xw_search {
     uint32_t seed;
     /* xw_best: the least grade of new words. It is the least grade of the session afterwards */
     uint32_t least;
-    /* the names of the lights to fill, as in "1 across 2 down", or "" for all lights */
+    /* the names of the lights to fill, as in "1 across 2 down"; "" or null for all lights */
     const char *lights;
-    /* is called between two slices, unless it is null, with `data`. Without it the slices get longer, up to a tenth of the time so far */
+    /* is called between two slices, unless it is null, with `data`. Without it and a flag the slices get longer, up to a tenth of the time so far */
     xw_told *told;
     void *data;
-    /* about so many milliseconds pass between two calls of `told`; 0 for 100 */
+    /* a slice takes about so many milliseconds where `told` or `flag` may end the search after it; 0 for 100 */
     uint32_t every;
     /* the clock by which slices are measured, or null for that of the system */
     xw_clock *clock;
+    /* the search ends when its slices have taken so many milliseconds; 0 for no limit. The last slice ends about then. What `told` takes does not count */
+    uint32_t milliseconds;
+    /* ends the search after a slice once xw_stop has set it, unless it is null */
+    const struct xw_flag *flag;
 };
 
-#define XW_SEARCH {0, 0, 0, "", NULL, NULL, 0, NULL}
+#define XW_SEARCH {0, 0, 0, "", NULL, NULL, 0, NULL, 0, NULL}
 
 /* The placements of the first slice, and the fewest of a later one. */
 #define XW_OWN_FIRST 1000
@@ -274,18 +312,26 @@ struct xw_own_work {
     double spent;
 };
 
-/* The time by the clock of the search, or of the system. In C99 that is the time of the processor. */
+/* The time by the clock of the search, or of the system. In strict C99 that is the time of the processors, which counts all threads of the program. */
 static inline double xw_own_time(const struct xw_search *search) {
+#if defined(CLOCK_MONOTONIC) || defined(TIME_UTC)
+    struct timespec now;
+#endif
     if (search->clock)
         return search->clock();
-#ifdef TIME_UTC
-    {
-        struct timespec now;
-        if (timespec_get(&now, TIME_UTC) == TIME_UTC)
-            return (double)now.tv_sec + (double)now.tv_nsec / 1e9;
-    }
+#if defined(CLOCK_MONOTONIC)
+    if (!clock_gettime(CLOCK_MONOTONIC, &now))
+        return (double)now.tv_sec + (double)now.tv_nsec / 1e9;
+#elif defined(TIME_UTC)
+    if (timespec_get(&now, TIME_UTC) == TIME_UTC)
+        return (double)now.tv_sec + (double)now.tv_nsec / 1e9;
 #endif
     return (double)clock() / (double)CLOCKS_PER_SEC;
+}
+
+/* The names of the lights to fill. */
+static inline const char *xw_own_lights(const struct xw_search *search) {
+    return search->lights ? search->lights : "";
 }
 
 static inline bool xw_own_begin(struct xw_own_work *work, struct xw *xw, const struct xw_search *search) {
@@ -293,7 +339,7 @@ static inline bool xw_own_begin(struct xw_own_work *work, struct xw *xw, const s
     *work = none;
     work->xw = xw;
     work->search = search;
-    work->size = strlen(search->lights) + 64;
+    work->size = strlen(xw_own_lights(search)) + 64;
     work->line = (char *)malloc(work->size);
     return work->line != NULL;
 }
@@ -330,11 +376,20 @@ static inline uint32_t xw_own_send(struct xw_own_work *work, const char *command
     return xw_ask(work->xw, work->line, &work->asked);
 }
 
+/* How long the next slice may take, in seconds. */
+static inline double xw_own_span(const struct xw_own_work *work) {
+    const struct xw_search *search = work->search;
+    double span = search->every ? (double)search->every / 1000 : XW_OWN_SPAN, left = (double)search->milliseconds / 1000 - work->spent;
+    if (!search->told && !search->flag && work->spent * XW_OWN_PART > span)
+        span = work->spent * XW_OWN_PART;
+    if (search->milliseconds && left < span)
+        span = left > 0 ? left : 0;
+    return span;
+}
+
 /* The placements of the slice after one that took so many seconds: as many as it made in the time of a slice, and at most twice as many as it had. */
 static inline uint64_t xw_own_after(const struct xw_own_work *work, uint64_t placements, double taken) {
-    double span = work->search->every ? (double)work->search->every / 1000 : XW_OWN_SPAN, due = (double)placements * 2;
-    if (!work->search->told && work->spent * XW_OWN_PART > span)
-        span = work->spent * XW_OWN_PART;
+    double span = xw_own_span(work), due = (double)placements * 2;
     if (taken > 0 && span / taken < 2)
         due = (double)placements * (span / taken);
     if (due > span * XW_OWN_FASTEST)
@@ -342,25 +397,35 @@ static inline uint64_t xw_own_after(const struct xw_own_work *work, uint64_t pla
     return due < XW_OWN_FEWEST ? XW_OWN_FEWEST : (uint64_t)due;
 }
 
-/* Sends a slice of a search, and measures it. */
+/* Whether another thread ends the search. */
+static inline bool xw_own_is_stopped(const struct xw_search *search) {
+    return search->flag && xw_is_stopped(search->flag);
+}
+
+/* Sends a slice of a search, and measures it. Once the search is stopped the slice has no placements, and only tells what is wrong with the session or the lights. */
 static inline uint32_t xw_own_slice(struct xw_own_work *work, const char *command) {
-    uint64_t rest = work->search->limit - work->progress.placements, numbers[2];
-    double began = xw_own_time(work->search), taken;
+    const struct xw_search *search = work->search;
+    uint64_t rest = search->limit - work->progress.placements, numbers[2];
+    double began = xw_own_time(search), taken;
     uint32_t status;
-    numbers[0] = work->search->limit && rest < work->due ? rest : work->due;
-    numbers[1] = work->search->seed;
+    numbers[0] = search->limit && rest < work->due ? rest : work->due;
+    if (xw_own_is_stopped(search))
+        numbers[0] = 0;
+    numbers[1] = search->seed;
     work->progress.placements += numbers[0];
-    status = xw_own_send(work, command, numbers, 2, work->search->lights);
-    taken = xw_own_time(work->search) - began;
+    status = xw_own_send(work, command, numbers, 2, xw_own_lights(search));
+    taken = xw_own_time(search) - began;
     work->spent += taken;
     work->due = xw_own_after(work, numbers[0], taken);
     return status;
 }
 
-/* Whether a search that has decided nothing ends after a slice: its placements are used up, or the caller ends it. */
+/* Whether a search that has decided nothing ends after a slice: its placements or its time are used up, or the caller or another thread ends it. */
 static inline bool xw_own_is_over(const struct xw_own_work *work) {
     const struct xw_search *search = work->search;
     if (search->told && search->told(search->data, &work->progress))
+        return true;
+    if (xw_own_is_stopped(search) || (search->milliseconds && work->spent >= (double)search->milliseconds / 1000))
         return true;
     return search->limit && work->progress.placements >= search->limit;
 }
@@ -494,7 +559,7 @@ static inline uint32_t xw_own_climb(struct xw_own_work *work, const struct xw_ow
 
 /*
  * Looks for the fill whose worst new word has the best grade, as the command `best` does, in slices. `progress` has how it ended: `found`, `worst` and
- * `bound`. Your function is told each fill that is found. If it ends the search, the best fill so far stands in the grid.
+ * `bound`. Your function is told each fill that is found. If the search is ended, the best fill so far stands in the grid.
  *
  * Returns XW_ACCEPTED; XW_REFUSED if there is no such light; XW_CLOSED; or XW_MEMORY. In all cases but a fill the grid is as it was. Only after XW_MEMORY
  * some letters of a fill may be in it: free some memory, and enter the letters that you want.
@@ -524,8 +589,8 @@ static inline uint32_t xw_best(struct xw *xw, const struct xw_search *search, st
 /* ---- copying */
 
 /*
- * Opens a second session in the state of the first, over the same word list: it replays the record of the first. The two share nothing. The answer of the
- * first is then its record.
+ * Opens a second session in the state of the first, over the same word list: it replays the record of the first. The two share nothing, so another thread may
+ * use the second. The answer of the first is then its record.
  *
  * Returns XW_ACCEPTED; XW_CLOSED if the first is not open; XW_OPEN if the second is; XW_MEMORY; XW_FULL; or XW_REFUSED if the list is another one. In all
  * cases but the first the second is as it was.

@@ -20,7 +20,7 @@ use Rattle.xw_grid.proofs.GridLemmas.{IsInside-is_inside, length-cells, get_or-m
 use Rattle.xw_grid.proofs.LightLemmas.{length-line, get_or-line, size_of_light, step-zero}
 use Rattle.xw_grid.proofs.OrderLemmas.{lights_are_made, made_number}
 use Rattle.xw_grid.proofs.LightTableLemmas.{light_inside}
-use Rattle.xw_feas.specs.Board.{board_of, light_at, entry as entry_at}
+use Rattle.xw_feas.specs.Board.{board_of, light_at, entry as board_entry}
 use Rattle.xw_feas.proofs.BoardLemmas.{entry-square, light_at-board}
 use Rattle.xw_answers.specs.Text.{letter_or_dot, letters_at, pattern}
 
@@ -98,7 +98,7 @@ cell_in_order grid k d below = ap (λ xs. get_or xs k d) (sym (map_itself (cells
 
 -- the letters of a light, from the cells of the board
 module _ (grid : Grid) where
-  letter_on_board : (cell : Cell) → is_inside grid cell ≡ true → letter_or_dot (entry_at (board_of grid) (index_of grid cell)) ≡ letter_or_dot (entry grid cell)
+  letter_on_board : (cell : Cell) → is_inside grid cell ≡ true → letter_or_dot (board_entry (board_of grid) (index_of grid cell)) ≡ letter_or_dot (entry grid cell)
   letter_on_board cell inside =
       ap letter_or_dot (entry-square grid (index_of grid cell) ∙ sym (ap (λ b. letter_in (if b then slice_get grid.squares (index_of grid cell) else None)) inside))
 

@@ -7,7 +7,7 @@ use Rattle.std.proofs.lemmas.List.{take_min, take_more_set, take_all, length-dro
 use Rattle.std.proofs.Math.Nat.{min_comm}
 use Rattle.std.proofs.lemmas.List.Folds.{flat_map-map}
 use Rattle.std.proofs.lemmas.Grind.{flat_map-append}
-use Rattle.xw_words.specs.Dictionary.{Dictionary, Entry, row}
+use Rattle.xw_words.specs.Dictionary.{Dictionary, Entry, known_words}
 use Rattle.xw_lines.specs.Device.{Begins, HasFailed}
 use Rattle.xw_lines.specs.Sends.{Sends}
 use Rattle.xw_commands.specs.declared.change.Change.{Change}
@@ -70,18 +70,18 @@ piece_of_rest text before count is =
 
 -- the counts of the first lengths, after one more length
 pub one_more_count : (words : Dictionary) (counts : List ℕ) (count known : ℕ) → count < length counts
-    → take count counts ≡ map (λ n. length (row words n)) (range_with_len 0 count) → known ≡ length (row words count)
-    → take (count + 1) (slice_set counts count known) ≡ map (λ n. length (row words n)) (range_with_len 0 (count + 1))
+    → take count counts ≡ map (λ n. length (known_words words n)) (range_with_len 0 count) → known ≡ length (known_words words count)
+    → take (count + 1) (slice_set counts count known) ≡ map (λ n. length (known_words words n)) (range_with_len 0 (count + 1))
 one_more_count words counts count known within first is =
-    take_more_set counts count known within ∙ ap (λ xs. xs ++ known ∷ []) first ∙ ap (λ n. map (λ n. length (row words n)) (range_with_len 0 count) ++ n ∷ []) is
-    ∙ sym (map-range_with_len_more (λ n. length (row words n)) 0 count count (zero-add count))
+    take_more_set counts count known within ∙ ap (λ xs. xs ++ known ∷ []) first ∙ ap (λ n. map (λ n. length (known_words words n)) (range_with_len 0 count) ++ n ∷ []) is
+    ∙ sym (map-range_with_len_more (λ n. length (known_words words n)) 0 count count (zero-add count))
 
 pub all_counts : (words : Dictionary) (counts : List ℕ) (count : ℕ) → 256 ≤ count → count ≤ 256
-    → take count counts ≡ map (λ n. length (row words n)) (range_with_len 0 count) → length counts ≡ 256 → counts ≡ known_counts words
+    → take count counts ≡ map (λ n. length (known_words words n)) (range_with_len 0 count) → length counts ≡ 256 → counts ≡ known_counts words
 all_counts words counts count least most first long =
     let is : count ≡ 256 = omega (arith, least, most) in
     let past : length counts ≤ count = omega (arith, least, long) in
-    sym (take_all count counts past) ∙ first ∙ ap (λ n. map (λ n. length (row words n)) (range_with_len 0 n)) is
+    sym (take_all count counts past) ∙ first ∙ ap (λ n. map (λ n. length (known_words words n)) (range_with_len 0 n)) is
 
 module _ {S : Type 0} (transcript : S → List ℕ) (failures : S → ℕ) where
   -- writing a text, given in another form

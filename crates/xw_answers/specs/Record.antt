@@ -1,7 +1,7 @@
 -- The commands of a record, which rebuild the words, the texts and the contents of cells of a session.
 use Rattle.std.specs.Prelude.{ℕ, ◌+◌, ◌-◌, ◌*◌, ◌/◌, ◌==◌, List, [], ◌∷◌, ◌++◌, map, take, drop, length, flat_map, Option, Some, None, slice_index_or, if◌then◌else◌}
 use Rattle.std.specs.List.{range_with_len}
-use Rattle.xw_words.specs.Dictionary.{Dictionary, Entry, row, best_grade}
+use Rattle.xw_words.specs.Dictionary.{Dictionary, Entry, known_words, best_grade}
 use Rattle.xw_grid.specs.declared.cell.Cell.{Cell}
 use Rattle.xw_grid.specs.declared.cell.Direction.{Direction}
 use Rattle.xw_grid.specs.declared.cell.Side.{Side}
@@ -22,7 +22,7 @@ use Rattle.xw_answers.specs.Spelling.{command_line}
 
 -- for each length, how many words are known
 abbrev pub known_counts : Dictionary → List ℕ
-known_counts words = map (λ count. length (row words count)) (range_with_len 0 256)
+known_counts words = map (λ count. length (known_words words count)) (range_with_len 0 256)
 
 -- the grade that the addition of a new word names; none for the greatest grade, which a new word gets anyway
 abbrev pub named_grade : ℕ → Option ℕ
@@ -44,7 +44,7 @@ abbrev pub row_commands : List Entry → ℕ → List Change
 row_commands entries begun = map add_command (drop begun entries) ++ (flat_map regrade_commands entries ++ flat_map strike_commands entries)
 
 abbrev pub length_commands : List ℕ → Dictionary → ℕ → List Change
-length_commands begun words count = row_commands (row words count) (slice_index_or begun count 0)
+length_commands begun words count = row_commands (known_words words count) (slice_index_or begun count 0)
 
 -- a session starts with the least grade 0
 abbrev pub least_commands : ℕ → List Change

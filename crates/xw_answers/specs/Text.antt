@@ -14,7 +14,7 @@ use Rattle.xw_words.specs.declared.fault.WordFault.TheVariants as words
 use Rattle.xw_commands.specs.Names.{direction_name}
 use Rattle.xw_commands.specs.declared.command.SyntaxFault.{SyntaxFault}
 use Rattle.xw_commands.specs.declared.command.SyntaxFault.TheVariants as syntax
-use Rattle.xw_feas.specs.Board.{Board, entry as entry_at}
+use Rattle.xw_feas.specs.Board.{Board, entry as board_entry}
 use Rattle.xw_feas.specs.declared.edit.Refusal.{Refusal}
 use Rattle.xw_feas.specs.declared.edit.Refusal.TheVariants as edits
 use Rattle.xw_answers.specs.declared.refusal.CommandRefusal.{CommandRefusal}
@@ -118,7 +118,7 @@ pattern grid light = map (λ cell. letter_or_dot (entry grid cell)) (cells_of li
 
 -- the same for cells of a board
 abbrev pub letters_at : Board → List ℕ → List ℕ
-letters_at board cells = map (λ cell. letter_or_dot (entry_at board cell)) cells
+letters_at board cells = map (λ cell. letter_or_dot (board_entry board cell)) cells
 
 -- a light's name, its start cell and letters
 abbrev pub light_words : Light → List ℕ → List ℕ

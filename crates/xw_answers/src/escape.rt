@@ -1,13 +1,13 @@
 //! Escapes in texts: LF, CR, tab, space and backslash as a backslash and a letter.
 ghost use Rattle.std.specs.Prelude.{◌≡◌, ℕ, ◌<◌, ◌++◌, [], ◌∷◌, List, Some, length, not, IfOk, OnOk, OnErr, MatchOption};
 ghost use Rattle.std.specs.Option.{is_some};
-ghost use Rattle.xw_answers.specs.Escape.{meaning as meaning_of, added as added_so, begins_escape as begins_escape_so, text_spelled, letter_for as letter_for_byte, is_end as is_end_of};
+ghost use Rattle.xw_answers.specs.Escape.{meaning as spec_meaning, added as spec_added, begins_escape as spec_begins_escape, text_spelled, letter_for as spec_letter_for, is_end as spec_is_end};
 
 use std::alloc::{AllocError, Global};
 
 /// Returns the byte of an escape, from the letter after its backslash.
 fn meaning(letter: u8) -> Option<u8>
-    ensures { result ≡ meaning_of letter }
+    ensures { result ≡ spec_meaning letter }
 {
     match letter {
         b'n' => Some(b'\n'),
@@ -20,14 +20,14 @@ fn meaning(letter: u8) -> Option<u8>
 }
 
 fn begins_escape(is_within: bool, byte: u8) -> bool
-    ensures { result ≡ begins_escape_so is_within byte }
+    ensures { result ≡ spec_begins_escape is_within byte }
 {
     !is_within && byte == b'\\'
 }
 
 /// Returns whether a byte ends an invalid escape.
 fn is_fault(is_within: bool, byte: u8) -> bool
-    ensures { result ≡ not (is_some (added_so is_within byte)) }
+    ensures { result ≡ not (is_some (spec_added is_within byte)) }
 {
     is_within && meaning(byte).is_none()
 }
@@ -50,8 +50,8 @@ pub fn is_spelling(spelling: &[u8]) -> bool
 /// precedes it. A backslash that begins an escape adds nothing.
 fn added(is_within: bool, byte: u8) -> Option<u8>
     ensures { MatchOption result
-        ((front : List ℕ) → added_so is_within byte ≡ Some front → front ≡ [])
-        (λ added. added_so is_within byte ≡ Some (added ∷ [])) }
+        ((front : List ℕ) → spec_added is_within byte ≡ Some front → front ≡ [])
+        (λ added. spec_added is_within byte ≡ Some (added ∷ [])) }
 {
     if is_within {
         return meaning(byte);
@@ -92,7 +92,7 @@ pub fn behind(alloc: Global, front: &[u8], spelling: &[u8]) -> Result<Vec<u8>, A
 
 /// Returns the escape letter of a byte, if it needs one. Spaces and tabs need one only at an end of the text.
 pub(crate) fn letter_for(is_end: bool, byte: u8) -> Option<u8>
-    ensures { result ≡ letter_for_byte is_end byte }
+    ensures { result ≡ spec_letter_for is_end byte }
 {
     match byte {
         b'\n' => Some(b'n'),
@@ -107,7 +107,7 @@ pub(crate) fn letter_for(is_end: bool, byte: u8) -> Option<u8>
 /// Returns whether an index is that of the first or the last byte.
 pub(crate) fn is_end(text: &[u8], index: usize) -> bool
     requires { index < length text.now }
-    ensures { result ≡ is_end_of text.now index }
+    ensures { result ≡ spec_is_end text.now index }
 {
     index == 0 || index + 1 == text.len()
 }

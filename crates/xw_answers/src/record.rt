@@ -1,9 +1,9 @@
 //! Writes the commands of a record, section by section.
 ghost use Rattle.std.specs.Prelude.{◌≡◌, ℕ, ◌+◌, ◌*◌, ◌<◌, ◌≤◌, ◌++◌, [], ◌∷◌, map, flat_map, drop, length, codes, decimal};
 ghost use Rattle.std.specs.List.{range_with_len};
-ghost use Rattle.xw_words.specs.Dictionary.{row as words_of, entry_at};
+ghost use Rattle.xw_words.specs.Dictionary.{known_words as spec_known_words, entry_at};
 ghost use Rattle.xw_grid.specs.Clue.{clue_at};
-ghost use Rattle.xw_grid.specs.Grid.{entry as entry_of};
+ghost use Rattle.xw_grid.specs.Grid.{entry as spec_entry};
 ghost use Rattle.xw_commands.specs.declared.change.Change.TheVariants as changes;
 ghost use Rattle.xw_commands.specs.declared.change.ChangeName.TheVariants as names;
 ghost use Rattle.xw_commands.specs.Change.{change_word};
@@ -12,7 +12,7 @@ ghost use Rattle.xw_answers.specs.Escape.{escaped_text};
 ghost use Rattle.xw_commands.specs.Names.{direction_name, clue_name};
 ghost use Rattle.xw_answers.specs.Spelling.{at_spot, command_line};
 ghost use Rattle.xw_answers.specs.Text.{line_of};
-ghost use Rattle.xw_answers.specs.Record.{command_lines, known_counts, named_grade as named_grade_of, add_command, regrade_commands, strike_commands, row_commands, length_commands, least_commands, word_commands, piece_at, further_pieces, more_command, text_commands, spot_of, circle_commands, bar_commands, block_commands, letter_commands, clue_commands, cell_commands, part_commands};
+ghost use Rattle.xw_answers.specs.Record.{command_lines, known_counts, named_grade as spec_named_grade, add_command, regrade_commands, strike_commands, row_commands, length_commands, least_commands, word_commands, piece_at, further_pieces, more_command, text_commands, spot_of, circle_commands, bar_commands, block_commands, letter_commands, clue_commands, cell_commands, part_commands};
 
 use crate::answer_line::{Token, write_line};
 use xw_commands::change::ChangeName;
@@ -80,7 +80,7 @@ fn write_add<W: Sink>(sink: &mut W, word: &[Letter], grade: Option<u8>) -> Resul
 /// Returns the grade to name in the `add` command of a new word. Returns `None` for the greatest grade, which a new
 /// word gets anyway.
 fn named_grade(grade: u8) -> Option<u8>
-    ensures { result ≡ named_grade_of grade }
+    ensures { result ≡ spec_named_grade grade }
 {
     if grade == BEST_GRADE {
         None
@@ -96,7 +96,7 @@ fn write_added<W: Sink>(
     count: usize,
     begun: usize,
 ) -> Result<(), WriteFailed>
-    ensures { Sends W.transcript W.failures sink.old sink.new result (command_lines (map add_command (drop begun (words_of bank.now.words count)))) }
+    ensures { Sends W.transcript W.failures sink.old sink.new result (command_lines (map add_command (drop begun (spec_known_words bank.now.words count)))) }
 {
     for index in begun..bank.known(count) {
         let grade = named_grade(bank.grade(count, index));
@@ -112,8 +112,8 @@ fn write_regraded_at<W: Sink>(
     count: usize,
     index: usize,
 ) -> Result<(), WriteFailed>
-    requires { index < length (words_of bank.now.words count) }
-    ensures { Sends W.transcript W.failures sink.old sink.new result (command_lines (regrade_commands (entry_at (words_of bank.now.words count) index))) }
+    requires { index < length (spec_known_words bank.now.words count) }
+    ensures { Sends W.transcript W.failures sink.old sink.new result (command_lines (regrade_commands (entry_at (spec_known_words bank.now.words count) index))) }
 {
     if !bank.is_regraded(count, index) {
         return Ok(());
@@ -125,7 +125,7 @@ fn write_regraded_at<W: Sink>(
 
 /// Writes the commands that restore the grades of the words of a length.
 fn write_regraded<W: Sink>(sink: &mut W, bank: &Bank, count: usize) -> Result<(), WriteFailed>
-    ensures { Sends W.transcript W.failures sink.old sink.new result (command_lines (flat_map regrade_commands (words_of bank.now.words count))) }
+    ensures { Sends W.transcript W.failures sink.old sink.new result (command_lines (flat_map regrade_commands (spec_known_words bank.now.words count))) }
 {
     for index in 0..bank.known(count) {
         write_regraded_at(sink, bank, count, index)?;
@@ -140,8 +140,8 @@ fn write_struck_at<W: Sink>(
     count: usize,
     index: usize,
 ) -> Result<(), WriteFailed>
-    requires { index < length (words_of bank.now.words count) }
-    ensures { Sends W.transcript W.failures sink.old sink.new result (command_lines (strike_commands (entry_at (words_of bank.now.words count) index))) }
+    requires { index < length (spec_known_words bank.now.words count) }
+    ensures { Sends W.transcript W.failures sink.old sink.new result (command_lines (strike_commands (entry_at (spec_known_words bank.now.words count) index))) }
 {
     if !bank.is_struck(count, index) {
         return Ok(());
@@ -151,7 +151,7 @@ fn write_struck_at<W: Sink>(
 
 /// Writes a `strike` command for each struck word of a length.
 fn write_struck<W: Sink>(sink: &mut W, bank: &Bank, count: usize) -> Result<(), WriteFailed>
-    ensures { Sends W.transcript W.failures sink.old sink.new result (command_lines (flat_map strike_commands (words_of bank.now.words count))) }
+    ensures { Sends W.transcript W.failures sink.old sink.new result (command_lines (flat_map strike_commands (spec_known_words bank.now.words count))) }
 {
     for index in 0..bank.known(count) {
         write_struck_at(sink, bank, count, index)?;
@@ -161,7 +161,7 @@ fn write_struck<W: Sink>(sink: &mut W, bank: &Bank, count: usize) -> Result<(), 
 
 /// Writes what was done to the words of a length: words with other grades, and struck words.
 fn write_marks<W: Sink>(sink: &mut W, bank: &Bank, count: usize) -> Result<(), WriteFailed>
-    ensures { Sends W.transcript W.failures sink.old sink.new result (command_lines (flat_map regrade_commands (words_of bank.now.words count) ++ flat_map strike_commands (words_of bank.now.words count))) }
+    ensures { Sends W.transcript W.failures sink.old sink.new result (command_lines (flat_map regrade_commands (spec_known_words bank.now.words count) ++ flat_map strike_commands (spec_known_words bank.now.words count))) }
 {
     write_regraded(sink, bank, count)?;
     write_struck(sink, bank, count)
@@ -173,7 +173,7 @@ fn write_row<W: Sink>(
     count: usize,
     begun: usize,
 ) -> Result<(), WriteFailed>
-    ensures { Sends W.transcript W.failures sink.old sink.new result (command_lines (row_commands (words_of bank.now.words count) begun)) }
+    ensures { Sends W.transcript W.failures sink.old sink.new result (command_lines (row_commands (spec_known_words bank.now.words count) begun)) }
 {
     write_added(sink, bank, count, begun)?;
     write_marks(sink, bank, count)
@@ -391,7 +391,7 @@ fn write_block<W: Sink>(sink: &mut W, grid: &Grid, cell: Cell) -> Result<(), Wri
 
 /// Writes the command that enters the letter of a cell, if it has one.
 pub fn write_letter<W: Sink>(sink: &mut W, grid: &Grid, cell: Cell) -> Result<(), WriteFailed>
-    ensures { Sends W.transcript W.failures sink.old sink.new result (command_lines (letter_commands cell (entry_of grid.now cell))) }
+    ensures { Sends W.transcript W.failures sink.old sink.new result (command_lines (letter_commands cell (spec_entry grid.now cell))) }
 {
     match grid.entry(cell) {
         Some(letter) => write_cell_and_word(sink, ChangeName::Set, cell, &[letter.byte()]),

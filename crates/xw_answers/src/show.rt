@@ -3,15 +3,15 @@ ghost use Rattle.std.specs.Prelude.{◌≡◌, ◌+◌, ◌*◌, ◌<◌, ◌≤
 ghost use Rattle.std.specs.List.{list_any};
 ghost use Rattle.xw_lines.specs.Sends.{Sends, Gathers};
 ghost use Rattle.xw_grid.specs.declared.cell.Side.TheVariants.{Below};
-ghost use Rattle.xw_grid.specs.Grid.{is_barred as is_barred_edge};
-ghost use Rattle.xw_answers.specs.Show.{cell_glyph as glyph_of, after_cell as byte_after, cell_pair as pair_of_cell, bar_pair as pair_of_bar, cell_in as nth_cell, columns as columns_of, row_line, bar_line, has_bar_below as is_barred_below_row, row_lines, show_lines};
+ghost use Rattle.xw_grid.specs.Grid.{is_barred as spec_is_barred};
+ghost use Rattle.xw_answers.specs.Show.{cell_glyph as spec_cell_glyph, after_cell as spec_after_cell, cell_pair as spec_cell_pair, bar_pair as spec_bar_pair, cell_in as spec_cell_in, columns, row_line, bar_line, has_bar_below as spec_has_bar_below, row_lines, show_lines};
 
 use crate::answer_line::AnswerLine;
 use xw_grid::{Cell, Grid, Side};
 use xw_lines::device::{Sink, WriteFailed};
 
 fn cell_glyph(grid: &Grid, cell: Cell) -> u8
-    ensures { result ≡ glyph_of grid.now cell }
+    ensures { result ≡ spec_cell_glyph grid.now cell }
 {
     if grid.is_block(cell) {
         return b'#';
@@ -23,7 +23,7 @@ fn cell_glyph(grid: &Grid, cell: Cell) -> u8
 }
 
 fn after_cell(grid: &Grid, cell: Cell) -> u8
-    ensures { result ≡ byte_after grid.now cell }
+    ensures { result ≡ spec_after_cell grid.now cell }
 {
     if cell.col == grid.width() {
         b'\n'
@@ -35,13 +35,13 @@ fn after_cell(grid: &Grid, cell: Cell) -> u8
 }
 
 fn cell_pair(grid: &Grid, cell: Cell) -> [u8; 2]
-    ensures { result ≡ pair_of_cell grid.now cell }
+    ensures { result ≡ spec_cell_pair grid.now cell }
 {
     [cell_glyph(grid, cell), after_cell(grid, cell)]
 }
 
 fn bar_pair(grid: &Grid, cell: Cell) -> [u8; 2]
-    ensures { result ≡ pair_of_bar grid.now cell }
+    ensures { result ≡ spec_bar_pair grid.now cell }
 {
     let bar = if grid.is_barred(cell, Side::Below) {
         b'='
@@ -59,7 +59,7 @@ fn bar_pair(grid: &Grid, cell: Cell) -> [u8; 2]
 /// Returns the cell of a row after `before` other cells.
 fn cell_in(row: u32, before: u32) -> Cell
     requires { before < 255 }
-    ensures { result ≡ nth_cell row before }
+    ensures { result ≡ spec_cell_in row before }
 {
     Cell {
         row,
@@ -69,7 +69,7 @@ fn cell_in(row: u32, before: u32) -> Cell
 
 /// Returns whether a bar lies below a cell of the row.
 fn has_bar_below(grid: &Grid, row: u32) -> bool
-    ensures { result ≡ is_barred_below_row grid.now row }
+    ensures { result ≡ spec_has_bar_below grid.now row }
 {
     for before in 0..grid.width() {
         if grid.is_barred(cell_in(row, before), Side::Below) {

@@ -3,7 +3,7 @@ ghost use Rattle.std.specs.Prelude.{◌≡◌, ◌+◌, ◌*◌, ◌<◌, ◌≤
 ghost use Rattle.xw_grid.specs.Light.{lights_of, no_light};
 ghost use Rattle.xw_lines.specs.Sends.{Sends};
 ghost use Rattle.xw_answers.specs.Text.{line_of, two_decimals};
-ghost use Rattle.xw_answers.specs.Stats.{is_unchecked as is_unchecked_cell, is_counted as is_counted_cell, count_of, count_of_size, total_size, mean_hundredths, bar_count, size_line, letter_line, size_lines, letter_lines, stat_line, stat_lines};
+ghost use Rattle.xw_answers.specs.Stats.{is_unchecked as spec_is_unchecked, is_counted as spec_is_counted, count_of, count_of_size, total_size, mean_hundredths, bar_count, size_line, letter_line, size_lines, letter_lines, stat_line, stat_lines};
 
 use crate::answer_line::{Token, write_line};
 use crate::text::write_named_number;
@@ -50,7 +50,7 @@ pub enum Tally {
 /// Returns whether exactly one light passes through a cell.
 fn is_unchecked(grid: &Grid, lights: &Lights, cell: Cell) -> bool
     requires { lights.now ≡ lights_of grid.now }
-    ensures { result ≡ is_unchecked_cell grid.now cell }
+    ensures { result ≡ spec_is_unchecked grid.now cell }
 {
     let has_down = lights.down_at(cell).is_some();
     if lights.across_at(cell).is_some() {
@@ -61,7 +61,7 @@ fn is_unchecked(grid: &Grid, lights: &Lights, cell: Cell) -> bool
 }
 
 fn has_letter(grid: &Grid, cell: Cell, letter: u8) -> bool
-    ensures { result ≡ is_counted_cell grid.now (Tally.Letter letter) cell }
+    ensures { result ≡ spec_is_counted grid.now (Tally.Letter letter) cell }
 {
     match grid.entry(cell) {
         Some(entered) => entered.byte() == letter,
@@ -71,7 +71,7 @@ fn has_letter(grid: &Grid, cell: Cell, letter: u8) -> bool
 
 fn is_counted(grid: &Grid, lights: &Lights, tally: Tally, cell: Cell) -> bool
     requires { lights.now ≡ lights_of grid.now }
-    ensures { result ≡ is_counted_cell grid.now tally cell }
+    ensures { result ≡ spec_is_counted grid.now tally cell }
 {
     match tally {
         Tally::Block => grid.is_block(cell),

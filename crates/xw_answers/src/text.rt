@@ -4,7 +4,7 @@ ghost use Rattle.xw_letters.specs.LetterSet.{letters_in};
 ghost use Rattle.xw_grid.specs.Light.{lights_of};
 ghost use Rattle.xw_lines.specs.Sends.{Sends, Gathers};
 ghost use Rattle.xw_commands.specs.Names.{direction_name};
-ghost use Rattle.xw_answers.specs.Text.{line_of, number_line, accepted, refused, letter_or_dot as byte_of_entry, pattern as pattern_in, pattern_of, light_of, cell_line, letters_line, change_line, entry_line, repeat_line, numbered_line, grade_line, spelled_line};
+ghost use Rattle.xw_answers.specs.Text.{line_of, number_line, accepted, refused, letter_or_dot as spec_letter_or_dot, pattern as spec_pattern, pattern_of, light_of, cell_line, letters_line, change_line, entry_line, repeat_line, numbered_line, grade_line, spelled_line};
 
 use crate::answer_line::{AnswerLine, Token, write_line};
 use crate::lookup::light_named;
@@ -36,7 +36,7 @@ pub fn write_refused<W: Sink>(sink: &mut W, refusal: CommandRefusal) -> Result<(
 
 /// Returns the letter in a cell, or a dot if it has none.
 pub fn letter_or_dot(entry: Option<Letter>) -> u8
-    ensures { result ≡ byte_of_entry entry }
+    ensures { result ≡ spec_letter_or_dot entry }
 {
     match entry {
         Some(letter) => letter.byte(),
@@ -62,7 +62,7 @@ impl Pattern {
     fn new(grid: &Grid, light: &Light) -> Pattern
         requires short { light.now.size ≤ 255 }
         requires inside { (light.now.start.row ≤ 255) × (light.now.start.col ≤ 255) }
-        ensures { result ≡ pattern_in grid.now light.now }
+        ensures { result ≡ spec_pattern grid.now light.now }
     {
         let mut bytes = ArrayVec::new();
         for k in 0..light.size {

@@ -48,6 +48,7 @@ pub record AreFiles (files : SessionFiles) (rows : List Row) : Type 0 where
   pub save_file : IsNameOf (codes "save") rows files.save_file
   pub journal_file : IsNameOf (codes "journal") rows files.journal_file
   pub synced : files.is_synced ≡ is_set (first_of (codes "sync") rows)
+  pub progress : files.shows_progress ≡ is_set (first_of (codes "progress") rows)
   pub fits : clash_in rows ≡ None
 
 -- `explain` says whether `--explain` is given

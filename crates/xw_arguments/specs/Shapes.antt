@@ -48,7 +48,7 @@ with_subcommands app (subcommand ∷ subcommands) = with_subcommands (with_subco
 abbrev pub edit : App
 edit =
     with_rules (new_app (codes "edit"))
-    (option (codes "dict") ∷ option (codes "from") ∷ option (codes "resume") ∷ option (codes "to") ∷ option (codes "save") ∷ option (codes "journal") ∷ flag (codes "sync") ∷ explain ∷ [])
+    (option (codes "dict") ∷ option (codes "from") ∷ option (codes "resume") ∷ option (codes "to") ∷ option (codes "save") ∷ option (codes "journal") ∷ flag (codes "sync") ∷ flag (codes "progress") ∷ explain ∷ [])
 
 abbrev pub convert : App
 convert = with_rules (new_app (codes "convert")) (operand (codes "from") ∷ operand (codes "to") ∷ explain ∷ [])

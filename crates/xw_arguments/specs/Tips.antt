@@ -41,6 +41,7 @@ option_meant word =
     if bytes_eq word (codes "-save") then Some (codes "--save") else
     if bytes_eq word (codes "-journal") then Some (codes "--journal") else
     if bytes_eq word (codes "-sync") then Some (codes "--sync") else
+    if bytes_eq word (codes "-progress") then Some (codes "--progress") else
     if bytes_eq word (codes "-explain") then Some (codes "--explain") else None
 
 -- the word is this option, or this option with `=` and a value
@@ -51,11 +52,11 @@ is_named word option = starts_with nat_eq word option && (length word == length 
 abbrev pub is_option : Text → Bool
 is_option word =
     is_named word (codes "--dict") || is_named word (codes "--from") || is_named word (codes "--resume") || is_named word (codes "--to")
-    || is_named word (codes "--save") || is_named word (codes "--journal") || is_named word (codes "--sync") || is_named word (codes "--explain")
+    || is_named word (codes "--save") || is_named word (codes "--journal") || is_named word (codes "--sync") || is_named word (codes "--progress") || is_named word (codes "--explain")
 
 -- a word takes the next one as its value if it is an option without `=`, and no flag
 abbrev pub has_value : Text → Bool
-has_value word = starts_with nat_eq word (codes "--") && not (list_any (λ byte. byte == 61) word) && not (bytes_eq word (codes "--sync")) && not (bytes_eq word (codes "--explain"))
+has_value word = starts_with nat_eq word (codes "--") && not (list_any (λ byte. byte == 61) word) && not (bytes_eq word (codes "--sync")) && not (bytes_eq word (codes "--progress")) && not (bytes_eq word (codes "--explain"))
 
 abbrev pub is_puz : Text → Bool
 is_puz name = ends_with nat_eq name (codes ".puz")

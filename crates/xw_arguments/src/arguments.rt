@@ -50,6 +50,8 @@ pub struct SessionFiles<'a> {
     pub journal_file: Option<&'a str>,
     /// Whether each line of the journal is synced to the device before its answer.
     pub is_synced: bool,
+    /// Whether a long search tells how far it is where no terminal asks for it.
+    pub shows_progress: bool,
 }
 
 impl<'a> SessionFiles<'a> {
@@ -328,6 +330,11 @@ fn edit<'a>(alloc: Global) -> Result<Command<'a>, AllocError>
             "sync",
             "Sync each line of the journal to the device before its answer"
         ),
+        flag(
+            alloc,
+            "progress",
+            "Say on standard error how far a long search is, as on a terminal"
+        ),
         explain(alloc),
     ]?;
     let command = Command::new(alloc, "edit")
@@ -493,6 +500,7 @@ fn session_files<'a>(matches: &ArgMatches<'a>) -> Result<SessionFiles<'a>, Clash
         save_file: matches.get_str("save"),
         journal_file: matches.get_str("journal"),
         is_synced: is_set(matches, "sync"),
+        shows_progress: is_set(matches, "progress"),
     })
 }
 

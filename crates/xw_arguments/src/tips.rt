@@ -31,6 +31,7 @@ fn option_meant(word: &str) -> Option<&'static str>
         "-save" => Some("--save"),
         "-journal" => Some("--journal"),
         "-sync" => Some("--sync"),
+        "-progress" => Some("--progress"),
         "-explain" => Some("--explain"),
         _ => None,
     }
@@ -41,7 +42,11 @@ fn has_value(word: &str) -> bool
     ensures { result ≡ has_value word.now }
 {
     let bytes = word.as_bytes();
-    bytes.starts_with(b"--") && !bytes.contains(&b'=') && word != "--sync" && word != "--explain"
+    bytes.starts_with(b"--")
+        && !bytes.contains(&b'=')
+        && word != "--sync"
+        && word != "--progress"
+        && word != "--explain"
 }
 
 /// Returns whether a name ends with `.puz`.
@@ -104,6 +109,7 @@ fn is_option(word: &str) -> bool
         || is_named(word, b"--save")
         || is_named(word, b"--journal")
         || is_named(word, b"--sync")
+        || is_named(word, b"--progress")
         || is_named(word, b"--explain")
 }
 

@@ -4,7 +4,7 @@ use mathlib.Core.Bool.{true, ◌&&◌}
 use lib.Dec.{T}
 use seplogic.Ra.Ura.{Ura}
 use mir.Syntax.{impl, tnil, dnil}
-use mir.Raw.{raw as bare}
+use mir.Raw.{raw}
 use mir.Val.{Val, vptr, vstruct, vcons, vnil, of_list, has_ty, WT}
 use base.Logic.{never, fst∗}
 use types.Logic.{Logic, sem}
@@ -51,7 +51,7 @@ module _ (R Z : RattleType) (L : Laws Z) (g : Ghosts Z.Denot) where
         → Seq K 𝓛 (‵ (Parts.own_val d vs) ∷ Γ) G
     parts_open t d vs next =
         let whole : List Val → List Val → List Val = λ first second. vstruct (of_list (first ++ (second ++ []))) ∷ [] in
-        let not_null = fst∗ 𝓤 (never 𝓤) (sem 𝓛 (g.dealloc_token d.alloc (bare (lone R.mir)) null_ptr)) in
+        let not_null = fst∗ 𝓤 (never 𝓤) (sem 𝓛 (g.dealloc_token d.alloc (raw (lone R.mir)) null_ptr)) in
         fsplit t $ fpick t (λ each. fsplit t $ feq_l t (λ is_struct. fsplit t $ feq_l t (λ is_address. fsplit t $
         handle_tells allocator t d.alloc each.1.0 (λ handle is_handle good. move t (1 ∷ []) $ drop t $ move t (1 ∷ []) $
         in_a_block t d.address (λ p. box_owns (g.dealloc_token d.alloc) R p d.held) not_null (λ block offset is_block.

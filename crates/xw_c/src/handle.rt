@@ -1,4 +1,5 @@
-//! The handle by which C holds a session.
+//! The handle by which C holds a session. `BoxAt` owns a box as an address and an allocator. `Held` is one such address, or none, and has no
+//! allocator in its bytes. `Handle` adds the flag by which zero bytes are no session.
 ghost use Rattle.std.specs.Prelude.{◌≡◌, Option, None, Some, IfOk, IfErr, IfSome, IsSome, is_some, option_map};
 ghost use Rattle.xw_c.specs.OpenSession.{IsOpened, IsUnopened};
 
@@ -29,7 +30,7 @@ impl Handle {
         }
     }
 
-    /// A handle that owns an session.
+    /// A handle that owns a session.
     pub fn of(session: Box<OpenSession>) -> Handle
         ensures { result.held.session ≡ Some session.value }
     {
@@ -61,7 +62,7 @@ impl Handle {
     }
 }
 
-/// Opens an session and returns its handle. Returns what `OpenSession::open` returns, and `Memory` if the allocation of the
+/// Opens a session and returns its handle. Returns what `OpenSession::open` returns, and `Memory` if the allocation of the
 /// session fails.
 pub fn open(alloc: Global, list: &[u8], puzzle: &[u8]) -> Result<Handle, Status>
     ensures ok { IfOk result (λ handle. IfSome handle.held.session (λ session. IsOpened list.now puzzle.now session)) }

@@ -1,4 +1,4 @@
-//! An session behind an address.
+//! A session behind an address.
 ghost use Rattle.std.specs.Prelude.{◌≡◌, Option, None, Some, IsSome};
 ghost use Rattle.xw_c.specs.OpenSession.{Shown};
 
@@ -8,7 +8,7 @@ use std::alloc::Global;
 use std::marker::Model;
 use std::ptr::null_mut;
 
-/// The address of an session, or nothing.
+/// The address of a session, or nothing.
 #[repr(C)]
 #[derive(Drop)]
 pub struct Held {

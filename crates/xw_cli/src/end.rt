@@ -5,7 +5,7 @@ ghost use Rattle.xw_desk.specs.Apart.{IsNotApart};
 ghost use Rattle.xw_disk.specs.Disk.{leave};
 ghost use Rattle.xw_desk.specs.Desk.{Asks};
 ghost use Rattle.xw_cli.specs.Performed.{Closes, Ends, EndsJournal, IsNotPut, IsNotSaved, IsPut, IsSaved, StillPuts};
-ghost use Rattle.xw_cli.specs.Put.{is_kept as is_kept_by, of_session as failure_of_session, unkept_failure, unkept_location, IsNotPutOver, IsPutOver};
+ghost use Rattle.xw_cli.specs.Put.{is_kept as spec_is_kept, of_session as spec_of_session, unkept_failure, unkept_location, IsNotPutOver, IsPutOver};
 ghost use Rattle.xw_cli.specs.Saved.{IsNotOver, IsOver, KeepsAs, Leaves, UnkeptAs};
 
 use crate::journal::end_journal;
@@ -226,14 +226,14 @@ fn write_puzzle_if<'a, F: Feasible, D: Disk, I: Source, O: Outlet, E: Sink>(
 
 /// Returns whether a file of the call keeps the session.
 fn is_kept(named: SessionFiles<'_>) -> bool
-    ensures { result ≡ is_kept_by named.entry }
+    ensures { result ≡ spec_is_kept named.entry }
 {
     named.save_file.is_some() || named.journal_file.is_some()
 }
 
 /// Returns the failure of the puzzle of a session. An empty cell is told in other words if no file keeps the session.
 fn of_session<'a>(failure: Failure<'a>, is_kept: bool) -> Failure<'a>
-    ensures { result ≡ failure_of_session is_kept failure.entry }
+    ensures { result ≡ spec_of_session is_kept failure.entry }
 {
     if is_kept { failure } else { unkept(failure) }
 }

@@ -1,7 +1,7 @@
 //! The journal of a session: its opening, its replay and its end.
 ghost use Rattle.std.specs.Prelude.{◌≡◌, ◌⊎◌, ◌+◌, [], IfOk, IfErr, OnOk, Ok, Err, codes, count_by};
 ghost use Rattle.xw_text.specs.Lines.{is_line_feed};
-ghost use Rattle.xw_journal.specs.File.{form_of as form_of_bytes};
+ghost use Rattle.xw_journal.specs.File.{form_of as spec_form_of};
 ghost use Rattle.xw_journal.specs.declared.file.Form.TheVariants as forms;
 ghost use Rattle.xw_disk.specs.Disk.{begin, end, find, open_, started, take_lines};
 ghost use Rattle.xw_disk.specs.declared.disk.DiskFault.{DiskFault};
@@ -99,7 +99,7 @@ fn start_of<'a, 'b>(
     bytes: &'b [u8],
     is_marked: bool,
 ) -> Result<Start<'b>, Failure<'a>>
-    ensures ok { IfOk result (λ start. Begins (form_of_bytes bytes.entry.now) bytes.entry.now (started start)) }
+    ensures ok { IfOk result (λ start. Begins (spec_form_of bytes.entry.now) bytes.entry.now (started start)) }
     ensures err { IfErr result (λ failure. IsNoJournal file.entry.now bytes.entry.now failure) }
 {
     match form_of(bytes) {

@@ -13,6 +13,7 @@ mod lost;
 mod mark;
 mod open;
 mod perform;
+mod progress;
 mod put;
 mod saving;
 mod session_files;

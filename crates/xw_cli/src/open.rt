@@ -14,12 +14,30 @@ use xw_desk::failure::Failure;
 use xw_desk::outlet::Outlet;
 use xw_disk::Disk;
 use xw_feas::feasible::Feasible;
+use xw_feas::observed::Observed;
+use xw_feas::progress::Observer;
+use xw_feas::searchable::Searchable;
 use xw_lines::{Sink, Source};
 use xw_session::{Session, opening};
 use xw_words::Bank;
 
+/// Opens a session on the given word list and puzzle. The observer is told how far a long search is, if the call asks for
+/// it or messages go to a terminal.
+pub fn open_observed<'a, F: Searchable, D: Disk, I: Source, O: Outlet, E: Sink, W: Observer>(
+    desk: &mut Desk<D, I, O, E>,
+    named: SessionFiles<'a>,
+    observer: W,
+) -> Result<Session<Observed<F, W>>, Failure<'a>>
+    ensures ok { IfOk result (λ session. IsOpened named.entry session desk.old desk.new) }
+    ensures err { IfErr result (λ failure. IsUnopened named.entry failure desk.old desk.new) }
+{
+    let is_told = named.shows_progress || desk.is_terminal;
+    let session: Session<F> = open(desk, named)?;
+    Ok(session.observed(is_told.then_some(observer)))
+}
+
 /// Opens a session on the given word list and puzzle. The word list is read first.
-pub fn open<'a, F: Feasible, D: Disk, I: Source, O: Outlet, E: Sink>(
+fn open<'a, F: Feasible, D: Disk, I: Source, O: Outlet, E: Sink>(
     desk: &mut Desk<D, I, O, E>,
     named: SessionFiles<'a>,
 ) -> Result<Session<F>, Failure<'a>>

@@ -9,19 +9,21 @@ use xw_desk::desk::Desk;
 use xw_desk::failure::{ExitStatus, Failure};
 use xw_desk::outlet::Outlet;
 use xw_disk::Disk;
+use xw_feas::progress::Observer;
 use xw_feas::searchable::Searchable;
 use xw_lines::{Sink, Source};
 
 /// Executes a call, reports a failure if there is one, and returns the exit status. On a terminal, failures are
-/// explained.
-pub fn perform<F: Searchable, D: Disk, I: Source, O: Outlet, E: Sink>(
+/// explained. The observer may be told how far a long search is.
+pub fn perform<F: Searchable, D: Disk, I: Source, O: Outlet, E: Sink, W: Observer>(
     desk: &mut Desk<D, I, O, E>,
     call: Call<'_>,
+    observer: W,
 ) -> ExitStatus
     ensures { Performs call.entry result desk.old desk.new }
 {
     explain_if(desk, call.is_explained());
-    match run::<F, D, I, O, E>(desk, call) {
+    match run::<F, D, I, O, E, W>(desk, call, observer) {
         Ok(status) => status,
         Err(failure) => desk.end(&failure),
     }
@@ -35,14 +37,15 @@ fn explain_if<D: Disk, I: Source, O: Outlet, E: Sink>(desk: &mut Desk<D, I, O, E
 }
 
 /// Executes a call.
-fn run<'a, F: Searchable, D: Disk, I: Source, O: Outlet, E: Sink>(
+fn run<'a, F: Searchable, D: Disk, I: Source, O: Outlet, E: Sink, W: Observer>(
     desk: &mut Desk<D, I, O, E>,
     call: Call<'a>,
+    observer: W,
 ) -> Result<ExitStatus, Failure<'a>>
     ensures { IsPerformed call.entry result desk.old desk.new }
 {
     match call {
-        Call::Edit { files, .. } => edit::<F, D, I, O, E>(desk, files),
+        Call::Edit { files, .. } => edit::<F, D, I, O, E, W>(desk, files, observer),
         Call::Convert {
             from_file,
             to_file,

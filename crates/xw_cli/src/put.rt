@@ -5,7 +5,7 @@ ghost use Rattle.xw_disk.specs.Disk.{read};
 ghost use Rattle.xw_desk.specs.declared.failure.Failure.TheVariants.{Memory};
 ghost use Rattle.xw_desk.specs.Desk.{Asks};
 ghost use Rattle.xw_cli.specs.Put.{HasKeptBytes, IsLostUnkept, IsNotKeptFirst, IsNotPutOver, IsPutOver, IsUnkept, IsUnseen, KeepsFirst, KeepsFirstAs, KeepsIf, KeepsLost, ReadsAndKeeps, UnkeptRead};
-ghost use Rattle.xw_desk.specs.Names.{is_session as is_session_file};
+ghost use Rattle.xw_desk.specs.Names.{is_session as spec_is_session};
 
 use crate::lost::lost_lines;
 use crate::session_files::{keep_bytes, standing_of, tell_kept};
@@ -86,7 +86,7 @@ fn keep_session<'a, D: Disk, I: Source, O: Outlet, E: Sink>(
     file: &'a str,
     apart: Option<&str>,
 ) -> Result<(), Failure<'a>>
-    ensures ok { OnOk result (ReadsAndKeeps (λ name bytes. KeepsIf (is_session_file bytes) name bytes) file.entry.now desk.old desk.new) }
+    ensures ok { OnOk result (ReadsAndKeeps (λ name bytes. KeepsIf (spec_is_session bytes) name bytes) file.entry.now desk.old desk.new) }
     ensures err { IfErr result (λ failure. UnkeptRead file.entry.now failure desk.old desk.new) }
 {
     let bytes = read_target(desk, file)?;
@@ -116,7 +116,7 @@ fn keep_if<'a, D: Disk, I: Source, O: Outlet, E: Sink>(
     apart: Option<&str>,
     bytes: &[u8],
 ) -> Result<(), Failure<'a>>
-    ensures ok { OnOk result (KeepsIf (is_session_file bytes.now) file.entry.now bytes.now desk.old desk.new) }
+    ensures ok { OnOk result (KeepsIf (spec_is_session bytes.now) file.entry.now bytes.now desk.old desk.new) }
     ensures err { IfErr result (λ failure. IsUnkept file.entry.now bytes.now failure desk.old desk.new) }
 {
     if !is_session(bytes) {

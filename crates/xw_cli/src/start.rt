@@ -3,6 +3,7 @@ ghost use Rattle.std.specs.Prelude.{map};
 ghost use Rattle.xw_cli.specs.Called.{AnswersWords};
 
 use crate::perform::perform;
+use crate::progress::ProgressLine;
 use std::cell::Cell;
 use std::convert::AsStr;
 use std::fs::OpenOptions;
@@ -15,6 +16,7 @@ use xw_desk::failure::ExitStatus;
 use xw_desk::outlet::{Outlet, Output, Watched};
 use xw_desk::shown::Shown;
 use xw_disk::{Disk, SystemDisk};
+use xw_feas::progress::Observer;
 use xw_feas::searchable::Searchable;
 use xw_lines::{Sink, Source, device};
 use xw_session::{FromRead, ToWrite};
@@ -52,15 +54,16 @@ pub fn start<F: Searchable>(rt: &HostRuntime) -> ExitStatus {
 }
 
 /// Makes the call that the words of a command line describe, or explains why they are none. The first word is the
-/// program's name. Returns the exit status.
-pub fn answer_words<F: Searchable, S: AsStr, D: Disk, I: Source, O: Outlet, E: Sink>(
+/// program's name. The observer may be told how far a long search is. Returns the exit status.
+pub fn answer_words<F: Searchable, S: AsStr, D: Disk, I: Source, O: Outlet, E: Sink, W: Observer>(
     desk: &mut Desk<D, I, O, E>,
     words: &[S],
+    observer: W,
 ) -> ExitStatus
     ensures { AnswersWords (map S.text words.now) result desk.old desk.new }
 {
     match arguments(desk.alloc, words) {
-        Ok(call) => perform::<F, D, I, O, E>(desk, call),
+        Ok(call) => perform::<F, D, I, O, E, W>(desk, call, observer),
         Err(usage) => desk.explain(&usage),
     }
 }
@@ -69,7 +72,8 @@ pub fn answer_words<F: Searchable, S: AsStr, D: Disk, I: Source, O: Outlet, E: S
 fn start_gathered<F: Searchable>(rt: &HostRuntime) -> io::Result<ExitStatus> {
     let mark = Cell::new(false);
     let watched = Watched::new(rt.stdout(), &mark);
-    let shown = Shown::new(watched, rt.stdout().is_terminal());
+    let is_output_terminal = rt.stdout().is_terminal();
+    let shown = Shown::new(watched, is_output_terminal);
     let writer = BufWriter::with_capacity(rt.alloc(), GATHERED, shown)?;
     let is_terminal = rt.stderr().is_terminal();
     let mut desk = Desk {
@@ -90,7 +94,8 @@ fn start_gathered<F: Searchable>(rt: &HostRuntime) -> io::Result<ExitStatus> {
             return Ok(desk.explain(&Usage::Wrong(text)));
         }
     };
-    let status = answer_words::<F, _, _, _, _, _>(&mut desk, words.as_slice());
+    let observer = ProgressLine::new(rt.stderr(), is_output_terminal);
+    let status = answer_words::<F, _, _, _, _, _, _>(&mut desk, words.as_slice(), observer);
     // This discards the unwritten bytes: their write failed, and is not tried again.
     let (_writer, _held) = desk.output.into_sink().into_writer().into_parts();
     Ok(status)

@@ -2,9 +2,9 @@
 use Rattle.std.specs.Prelude.{ℕ, ◌==◌, nat_lt, List, length, slice_index, Option, Some, None, Result, Ok, Err, if◌then◌else◌}
 use Rattle.xw_commands.specs.declared.command.Command.{Command}
 use Rattle.xw_commands.specs.declared.command.Command.TheVariants.{Ask, Change, Search}
-use Rattle.xw_commands.specs.declared.query.Query.{Query as AnyQuery}
-use Rattle.xw_commands.specs.declared.change.Change.{Change as AnyChange}
-use Rattle.xw_commands.specs.declared.search.Search.{Search as AnySearch}
+use Rattle.xw_commands.specs.declared.query.Query.{Query}
+use Rattle.xw_commands.specs.declared.change.Change.{Change as DeclaredChange}
+use Rattle.xw_commands.specs.declared.search.Search.{Search as DeclaredSearch}
 use Rattle.xw_commands.specs.declared.query.QueryName.{QueryName}
 use Rattle.xw_commands.specs.declared.query.TheConstants.{QUERIES}
 use Rattle.xw_commands.specs.declared.change.ChangeName.{ChangeName}
@@ -21,7 +21,7 @@ use Rattle.xw_commands.specs.Change.{change_word, change_form, changes}
 use Rattle.xw_commands.specs.Search.{search_word, search_form, searches}
 
 -- the reading of a command from what the three tables have of its word
-abbrev pub reading_of : Option (Reading AnyQuery) → Option (Reading AnyChange) → Option (Reading AnySearch) → Reading Command
+abbrev pub reading_of : Option (Reading Query) → Option (Reading DeclaredChange) → Option (Reading DeclaredSearch) → Reading Command
 reading_of (Some query) change search = do given (Ask (← query))
 reading_of None (Some change) search = do given (Change (← change))
 reading_of None None (Some search) = do given (Search (← search))

@@ -1,7 +1,7 @@
 -- The queries: their words, and the reading of their arguments.
 use Rattle.std.specs.Prelude.{ℕ, List, [], ◌∷◌, ◌++◌, codes}
 use Rattle.xw_commands.specs.declared.query.Query.{Query}
-use Rattle.xw_commands.specs.declared.query.Query.TheVariants.{Match, Circles, Show, Lights, Words, Choices, Letters, Tally, Duplicates, Unlisted, Grades, Unmatched, Suggest, Why, Help, Tell}
+use Rattle.xw_commands.specs.declared.query.Query.TheVariants.{Match, Grade, Circles, Show, Lights, Words, Choices, Letters, Tally, Duplicates, Unlisted, Grades, Unmatched, Suggest, Why, Help, Tell}
 use Rattle.xw_commands.specs.declared.query.QueryName.{QueryName}
 use Rattle.xw_commands.specs.declared.query.QueryName.TheVariants as names
 use Rattle.xw_commands.specs.declared.query.Report.{Report}
@@ -19,6 +19,7 @@ report_word Record = codes "record"
 -- the word of a query
 abbrev pub query_word : QueryName → List ℕ
 query_word names.Match = codes "match"
+query_word names.Grade = codes "grade"
 query_word names.Circles = codes "circles"
 query_word names.Show = codes "show"
 query_word names.Lights = codes "lights"
@@ -38,6 +39,7 @@ query_word (names.Tell report) = report_word report
 -- the word of a query with its arguments
 abbrev pub query_form : QueryName → List ℕ
 query_form names.Match = query_word names.Match ++ codes " PATTERN"
+query_form names.Grade = query_word names.Grade ++ codes " WORD"
 query_form names.Circles = query_word names.Circles
 query_form names.Show = query_word names.Show
 query_form names.Lights = query_word names.Lights
@@ -58,6 +60,7 @@ query_form (names.Tell report) = report_word report
 abbrev pub queries : List (List ℕ × Reading Query)
 queries =
     (query_word names.Match, do given (Match (← word)))
+    ∷ (query_word names.Grade, do given (Grade (← word)))
     ∷ (query_word names.Circles, given Circles)
     ∷ (query_word names.Show, given Show)
     ∷ (query_word names.Lights, given Lights)

@@ -2,7 +2,7 @@
 ghost use Rattle.std.specs.Prelude.{◌≡◌, ℕ, List, option_map};
 ghost use Rattle.xw_lines.specs.Cut.{held};
 ghost use Rattle.xw_commands.specs.Reading.{Reads};
-ghost use Rattle.xw_commands.specs.Command.{command_named as command_named_so, command_of, form_named as form_named_so};
+ghost use Rattle.xw_commands.specs.Command.{command_named as spec_command_named, command_of, form_named as spec_form_named};
 
 use crate::change::{self, CHANGES, Change};
 use crate::line;
@@ -103,7 +103,7 @@ pub enum Command<'a> {
 
 /// Looks up a command word and reads its arguments. Returns `Command` if the word is unknown.
 fn command_named<'a>(word: &[u8], words: &mut Words<'a>) -> Result<Command<'a>, SyntaxFault>
-    ensures { Reads (λ command. command) result words.new (command_named_so word.now words.old) }
+    ensures { Reads (λ command. command) result words.new (spec_command_named word.now words.old) }
 {
     if let Some(name) = line::named(&QUERIES, word) {
         return Ok(Command::Ask(query::arguments(name, words)?));
@@ -119,7 +119,7 @@ fn command_named<'a>(word: &[u8], words: &mut Words<'a>) -> Result<Command<'a>, 
 
 /// Returns the word of a command with its arguments. Returns `None` if no command has this word.
 pub fn form_named(word: &[u8]) -> Option<&'static str>
-    ensures { option_map (λ form. form.now) result ≡ form_named_so word.now }
+    ensures { option_map (λ form. form.now) result ≡ spec_form_named word.now }
 {
     if let Some(name) = line::named(&QUERIES, word) {
         return Some(name.form());

@@ -1,7 +1,7 @@
 //! The lights that a command names.
 ghost use Rattle.std.specs.Prelude.{◌≡◌, ℕ, Ok};
 ghost use Rattle.std.specs.Iterator.{YieldsFirst, item_count};
-ghost use Rattle.xw_commands.specs.Reading.{lights as lights_of};
+ghost use Rattle.xw_commands.specs.Reading.{lights as spec_lights};
 
 use crate::command::LightArg;
 use crate::words::Words;
@@ -26,7 +26,7 @@ impl<'a> Model for LightArgs<'a> {
 impl<'a> LightArgs<'a> {
     /// Reads as many lights as come next.
     pub(crate) fn read(words: &mut Words<'a>) -> LightArgs<'a>
-        ensures { lights_of words.old ≡ Ok (result, words.new) }
+        ensures { spec_lights words.old ≡ Ok (result, words.new) }
     {
         let lights = LightArgs {
             words: words.copy(),

@@ -2,8 +2,8 @@
 ghost use Rattle.std.specs.Prelude.{◌≡◌, ◌+◌, ◌*◌, ◌^◌, ◌<◌, ◌≤◌, true, length, reverse, position, bytes_eq, Some, None};
 ghost use Rattle.std.specs.Option.{option_map};
 ghost use Rattle.xw_commands.specs.Names.{by_name};
-ghost use Rattle.xw_commands.specs.Reading.{lookup as lookup_in};
-ghost use Rattle.xw_commands.specs.Line.{is_blank as is_blank_byte, is_ink as is_ink_byte, number_in as number_in_word, grade_in as grade_in_number, byte_in as byte_in_word, without_cr as line_without_cr, trimmed as trimmed_text, trimmed_start as text_trimmed_at_start, trimmed_end as text_trimmed_at_end, first_word as first_word_of};
+ghost use Rattle.xw_commands.specs.Reading.{lookup};
+ghost use Rattle.xw_commands.specs.Line.{is_blank as spec_is_blank, is_ink as spec_is_ink, number_in as spec_number_in, grade_in as spec_grade_in, byte_in as spec_byte_in, without_cr as spec_without_cr, trimmed as spec_trimmed, trimmed_start as spec_trimmed_start, trimmed_end as spec_trimmed_end, first_word as spec_first_word};
 
 use crate::command::BEST_GRADE;
 use crate::names::Named;
@@ -11,7 +11,7 @@ use xw_text::digits::{MOST_DIGITS, is_number, value};
 
 /// Returns whether a byte separates words: a space or a tab.
 fn is_blank(byte: u8) -> bool
-    ensures { result ≡ is_blank_byte byte }
+    ensures { result ≡ spec_is_blank byte }
 {
     byte == b' ' || byte == b'\t'
 }
@@ -25,7 +25,7 @@ fn is(word: &[u8], name: &str) -> bool
 
 /// Returns the first of these values that has this word.
 pub fn named<T: Named>(values: &[T], word: &[u8]) -> Option<T>
-    ensures { result ≡ lookup_in (by_name T.name values.now) word.now }
+    ensures { result ≡ lookup (by_name T.name values.now) word.now }
 {
     for value in values {
         if is(word, value.name()) {
@@ -37,7 +37,7 @@ pub fn named<T: Named>(values: &[T], word: &[u8]) -> Option<T>
 
 /// Removes one CR from the end of a line.
 pub fn without_cr(line: &[u8]) -> &[u8]
-    ensures { result.now ≡ line_without_cr line.now }
+    ensures { result.now ≡ spec_without_cr line.now }
 {
     match line.split_last() {
         Some((b'\r', front)) => front,
@@ -47,33 +47,33 @@ pub fn without_cr(line: &[u8]) -> &[u8]
 
 /// Returns whether a byte is part of a word.
 fn is_ink(byte: u8) -> bool
-    ensures { result ≡ is_ink_byte byte }
+    ensures { result ≡ spec_is_ink byte }
 {
     !is_blank(byte)
 }
 
 fn first_ink(text: &[u8]) -> Option<usize>
-    ensures { result ≡ position is_ink_byte text.now }
+    ensures { result ≡ position spec_is_ink text.now }
 {
     text.iter().position(|byte| is_ink(*byte))
 }
 
 /// Returns the distance of the last non-blank byte from the end.
 fn last_ink(text: &[u8]) -> Option<usize>
-    ensures { result ≡ position is_ink_byte (reverse text.now) }
+    ensures { result ≡ position spec_is_ink (reverse text.now) }
 {
     text.iter().rev().position(|byte| is_ink(*byte))
 }
 
 fn first_blank(text: &[u8]) -> Option<usize>
-    ensures { result ≡ position is_blank_byte text.now }
+    ensures { result ≡ position spec_is_blank text.now }
 {
     text.iter().position(|byte| is_blank(*byte))
 }
 
 /// Removes spaces and tabs from the start of a text.
 pub fn trimmed_start(text: &[u8]) -> &[u8]
-    ensures { result.now ≡ text_trimmed_at_start text.now }
+    ensures { result.now ≡ spec_trimmed_start text.now }
 {
     match first_ink(text) {
         Some(start) => &text[start..],
@@ -83,7 +83,7 @@ pub fn trimmed_start(text: &[u8]) -> &[u8]
 
 /// Removes spaces and tabs from the end of a text.
 fn trimmed_end(text: &[u8]) -> &[u8]
-    ensures { result.now ≡ text_trimmed_at_end text.now }
+    ensures { result.now ≡ spec_trimmed_end text.now }
 {
     match last_ink(text) {
         Some(after) => &text[..text.len() - after],
@@ -93,14 +93,14 @@ fn trimmed_end(text: &[u8]) -> &[u8]
 
 /// Removes spaces and tabs from both ends of a text.
 pub fn trimmed(text: &[u8]) -> &[u8]
-    ensures { result.now ≡ trimmed_text text.now }
+    ensures { result.now ≡ spec_trimmed text.now }
 {
     trimmed_end(trimmed_start(text))
 }
 
 /// Splits a text into its first word and what follows. Returns `None` for a blank text.
 pub fn first_word(text: &[u8]) -> Option<(&[u8], &[u8])>
-    ensures { option_map (λ found. (found.0.now, found.1.now)) result ≡ first_word_of text.now }
+    ensures { option_map (λ found. (found.0.now, found.1.now)) result ≡ spec_first_word text.now }
 {
     let text = trimmed_start(text);
     if text.is_empty() {
@@ -114,7 +114,7 @@ pub fn first_word(text: &[u8]) -> Option<(&[u8], &[u8])>
 
 /// Parses a word as a number of 1 to 18 decimal digits.
 pub fn number_in(word: &[u8]) -> Option<u64>
-    ensures { result ≡ number_in_word word.now }
+    ensures { result ≡ spec_number_in word.now }
 {
     if is_number(word, MOST_DIGITS) {
         Some(value(word))
@@ -125,7 +125,7 @@ pub fn number_in(word: &[u8]) -> Option<u64>
 
 /// Returns a number as a grade. Returns `None` if it is more than `BEST_GRADE`.
 pub fn grade_in(number: u64) -> Option<u8>
-    ensures { result ≡ grade_in_number number }
+    ensures { result ≡ spec_grade_in number }
 {
     if number <= u64::from(BEST_GRADE) {
         Some(number as u8)
@@ -136,7 +136,7 @@ pub fn grade_in(number: u64) -> Option<u8>
 
 /// Returns the byte of a one-byte word.
 pub fn byte_in(word: &[u8]) -> Option<u8>
-    ensures { result ≡ byte_in_word word.now }
+    ensures { result ≡ spec_byte_in word.now }
 {
     match word {
         [byte] => Some(*byte),

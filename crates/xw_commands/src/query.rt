@@ -12,6 +12,7 @@ use crate::words::Words;
 #[derive(Drop)]
 pub enum Query<'a> {
     Match(Text<'a>),
+    Grade(Text<'a>),
     Circles,
     Show,
     Lights,
@@ -44,6 +45,7 @@ pub enum Report {
 #[derive(Clone, Copy)]
 pub enum QueryName {
     Match,
+    Grade,
     Circles,
     Show,
     Lights,
@@ -62,8 +64,9 @@ pub enum QueryName {
 }
 
 /// The names of all queries.
-pub const QUERIES: [QueryName; 21] = [
+pub const QUERIES: [QueryName; 22] = [
     QueryName::Match,
+    QueryName::Grade,
     QueryName::Circles,
     QueryName::Show,
     QueryName::Lights,
@@ -112,6 +115,7 @@ impl Named for QueryName {
     fn name(self) -> &'static str {
         match self {
             QueryName::Match => "match",
+            QueryName::Grade => "grade",
             QueryName::Circles => "circles",
             QueryName::Show => "show",
             QueryName::Lights => "lights",
@@ -139,6 +143,7 @@ impl CommandName for QueryName {
     fn form(self) -> &'static str {
         match self {
             QueryName::Match => "match PATTERN",
+            QueryName::Grade => "grade WORD",
             QueryName::Circles => "circles",
             QueryName::Show => "show",
             QueryName::Lights => "lights",
@@ -167,6 +172,7 @@ pub(crate) fn arguments<'a>(
 {
     match name {
         QueryName::Match => Ok(Query::Match(words.word()?)),
+        QueryName::Grade => Ok(Query::Grade(words.word()?)),
         QueryName::Circles => Ok(Query::Circles),
         QueryName::Show => Ok(Query::Show),
         QueryName::Lights => Ok(Query::Lights),

@@ -1,6 +1,6 @@
 //! Reads the arguments of a command one after another.
 ghost use Rattle.std.specs.Prelude.{◌≡◌, Ok, IfSome, IfNone};
-ghost use Rattle.xw_commands.specs.Reading.{word as word_of, number as number_of, byte as byte_of, text as text_of, word_if_any as word_if_any_of, number_if_any as number_if_any_of, number_or_zero as number_or_zero_of, grade as grade_of, grade_if_any as grade_if_any_of, is_ended as is_ended_text, direction as direction_of, side as side_of, symmetry as symmetry_of, switch as switch_of, spot as spot_of, named as named_of, text_name as text_name_of, field as field_of, Reads, HasFault};
+ghost use Rattle.xw_commands.specs.Reading.{word as spec_word, number as spec_number, byte as spec_byte, text as spec_text, word_if_any as spec_word_if_any, number_if_any as spec_number_if_any, number_or_zero as spec_number_or_zero, grade as spec_grade, grade_if_any as spec_grade_if_any, is_ended as spec_is_ended, direction as spec_direction, side as spec_side, symmetry as spec_symmetry, switch as spec_switch, spot as spec_spot, named as spec_named, text_name as spec_text_name, field as spec_field, Reads, HasFault};
 
 use crate::command::{CellArg, Field, LightArg, SyntaxFault, Text, TextField};
 use crate::{line, names};
@@ -35,14 +35,14 @@ impl<'a> Words<'a> {
     }
 
     pub fn is_ended(&self) -> bool
-        ensures { result ≡ is_ended_text self.now }
+        ensures { result ≡ spec_is_ended self.now }
     {
         line::trimmed_start(self.rest).is_empty()
     }
 
     /// Reads the next word. Returns `Arguments` if there is none.
     fn next(&mut self) -> Result<&'a [u8], SyntaxFault>
-        ensures { Reads (λ word. word.now) result self.new (word_of self.old) }
+        ensures { Reads (λ word. word.now) result self.new (spec_word self.old) }
     {
         let (word, rest) = line::first_word(self.rest).ok_or(SyntaxFault::Arguments)?;
         self.rest = rest;
@@ -50,14 +50,14 @@ impl<'a> Words<'a> {
     }
 
     pub fn word(&mut self) -> Result<Text<'a>, SyntaxFault>
-        ensures { Reads (λ word. word) result self.new (word_of self.old) }
+        ensures { Reads (λ word. word) result self.new (spec_word self.old) }
     {
         Ok(Text::new(self.next()?))
     }
 
     /// Reads a word if another word follows.
     pub fn word_if_any(&mut self) -> Result<Option<Text<'a>>, SyntaxFault>
-        ensures { Reads (λ word. word) result self.new (word_if_any_of self.old) }
+        ensures { Reads (λ word. word) result self.new (spec_word_if_any self.old) }
     {
         if self.is_ended() {
             return Ok(None);
@@ -67,7 +67,7 @@ impl<'a> Words<'a> {
 
     /// Takes the whole rest as a text, without spaces and tabs at its ends.
     pub fn text(&mut self) -> Text<'a>
-        ensures { text_of self.old ≡ Ok (result, self.new) }
+        ensures { spec_text self.old ≡ Ok (result, self.new) }
     {
         let text = Text::new(line::trimmed(self.rest));
         self.rest = &[];
@@ -75,14 +75,14 @@ impl<'a> Words<'a> {
     }
 
     pub fn number(&mut self) -> Result<u64, SyntaxFault>
-        ensures { Reads (λ number. number) result self.new (number_of self.old) }
+        ensures { Reads (λ number. number) result self.new (spec_number self.old) }
     {
         line::number_in(self.next()?).ok_or(SyntaxFault::Arguments)
     }
 
     /// Reads a number if another word follows.
     pub fn number_if_any(&mut self) -> Result<Option<u64>, SyntaxFault>
-        ensures { Reads (λ number. number) result self.new (number_if_any_of self.old) }
+        ensures { Reads (λ number. number) result self.new (spec_number_if_any self.old) }
     {
         if self.is_ended() {
             return Ok(None);
@@ -92,21 +92,21 @@ impl<'a> Words<'a> {
 
     /// Reads a number if another word follows. Returns 0 if none does.
     pub fn number_or_zero(&mut self) -> Result<u64, SyntaxFault>
-        ensures { Reads (λ number. number) result self.new (number_or_zero_of self.old) }
+        ensures { Reads (λ number. number) result self.new (spec_number_or_zero self.old) }
     {
         Ok(self.number_if_any()?.unwrap_or(0))
     }
 
     /// Reads a grade, 0 to `BEST_GRADE`.
     pub fn grade(&mut self) -> Result<u8, SyntaxFault>
-        ensures { Reads (λ grade. grade) result self.new (grade_of self.old) }
+        ensures { Reads (λ grade. grade) result self.new (spec_grade self.old) }
     {
         line::grade_in(self.number()?).ok_or(SyntaxFault::Arguments)
     }
 
     /// Reads a grade if another word follows.
     pub fn grade_if_any(&mut self) -> Result<Option<u8>, SyntaxFault>
-        ensures { Reads (λ grade. grade) result self.new (grade_if_any_of self.old) }
+        ensures { Reads (λ grade. grade) result self.new (spec_grade_if_any self.old) }
     {
         if self.is_ended() {
             return Ok(None);
@@ -115,37 +115,37 @@ impl<'a> Words<'a> {
     }
 
     pub fn byte(&mut self) -> Result<u8, SyntaxFault>
-        ensures { Reads (λ byte. byte) result self.new (byte_of self.old) }
+        ensures { Reads (λ byte. byte) result self.new (spec_byte self.old) }
     {
         line::byte_in(self.next()?).ok_or(SyntaxFault::Arguments)
     }
 
     pub fn direction(&mut self) -> Result<Direction, SyntaxFault>
-        ensures { Reads (λ direction. direction) result self.new (direction_of self.old) }
+        ensures { Reads (λ direction. direction) result self.new (spec_direction self.old) }
     {
         line::named(&names::DIRECTIONS, self.next()?).ok_or(SyntaxFault::Arguments)
     }
 
     pub fn side(&mut self) -> Result<Side, SyntaxFault>
-        ensures { Reads (λ side. side) result self.new (side_of self.old) }
+        ensures { Reads (λ side. side) result self.new (spec_side self.old) }
     {
         line::named(&names::SIDES, self.next()?).ok_or(SyntaxFault::Arguments)
     }
 
     pub fn symmetry(&mut self) -> Result<Symmetry, SyntaxFault>
-        ensures { Reads (λ kind. kind) result self.new (symmetry_of self.old) }
+        ensures { Reads (λ kind. kind) result self.new (spec_symmetry self.old) }
     {
         line::named(&names::SYMMETRIES, self.next()?).ok_or(SyntaxFault::Arguments)
     }
 
     pub fn switch(&mut self) -> Result<bool, SyntaxFault>
-        ensures { Reads (λ is_on. is_on) result self.new (switch_of self.old) }
+        ensures { Reads (λ is_on. is_on) result self.new (spec_switch self.old) }
     {
         line::named(&names::SWITCHES, self.next()?).ok_or(SyntaxFault::Arguments)
     }
 
     pub fn spot(&mut self) -> Result<CellArg, SyntaxFault>
-        ensures { Reads (λ spot. spot) result self.new (spot_of self.old) }
+        ensures { Reads (λ spot. spot) result self.new (spec_spot self.old) }
     {
         let row = self.number()?;
         let col = self.number()?;
@@ -153,7 +153,7 @@ impl<'a> Words<'a> {
     }
 
     pub fn named(&mut self) -> Result<LightArg, SyntaxFault>
-        ensures { Reads (λ named. named) result self.new (named_of self.old) }
+        ensures { Reads (λ named. named) result self.new (spec_named self.old) }
     {
         let number = self.number()?;
         let direction = self.direction()?;
@@ -162,8 +162,8 @@ impl<'a> Words<'a> {
 
     /// Reads the light that comes next. Reads nothing if something else comes next.
     pub fn named_if_any(&mut self) -> Option<LightArg>
-        ensures some { IfSome result (λ named. named_of self.old ≡ Ok (named, self.new)) }
-        ensures none { IfNone result (HasFault (named_of self.old)) }
+        ensures some { IfSome result (λ named. spec_named self.old ≡ Ok (named, self.new)) }
+        ensures none { IfNone result (HasFault (spec_named self.old)) }
         ensures left { IfNone result (self.new ≡ self.old) }
     {
         let mut ahead = self.copy();
@@ -178,13 +178,13 @@ impl<'a> Words<'a> {
 
     /// Reads the name of a text field, or `None` for `clue`.
     fn text_name(&mut self) -> Result<Option<TextField>, SyntaxFault>
-        ensures { Reads (λ name. name) result self.new (text_name_of self.old) }
+        ensures { Reads (λ name. name) result self.new (spec_text_name self.old) }
     {
         line::named(&names::TEXT_FIELDS, self.next()?).ok_or(SyntaxFault::Arguments)
     }
 
     pub fn field(&mut self) -> Result<Field, SyntaxFault>
-        ensures { Reads (λ field. field) result self.new (field_of self.old) }
+        ensures { Reads (λ field. field) result self.new (spec_field self.old) }
     {
         if let Some(name) = self.text_name()? {
             return Ok(Field::Text(name));

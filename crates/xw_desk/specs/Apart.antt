@@ -5,7 +5,7 @@ use Rattle.xw_files.specs.declared.kind.Kind.TheVariants.{Puz}
 use Rattle.xw_desk.specs.declared.apart.Pair.{Pair}
 use Rattle.xw_desk.specs.declared.apart.Pair.TheVariants.{ListAndWritten, PuzzleAndSession, StartAndSession, StartAndPuzzle, InputAndWritten, OutputAndOther, OtherAndJournal}
 use Rattle.xw_desk.specs.declared.apart.Role.{Role}
-use Rattle.xw_desk.specs.declared.apart.Role.TheVariants.{Output, Kept, List as Words, Puzzle, Start, Commands, Input, Written, Session, Journal}
+use Rattle.xw_desk.specs.declared.apart.Role.TheVariants.{Output, Kept, List as RoleList, Puzzle, Start, Commands, Input, Written, Session, Journal}
 use Rattle.xw_disk.specs.CallFile.{IsKeptAs, IsNamed, IsSource}
 use Rattle.xw_disk.specs.Disk.{try_}
 use Rattle.xw_disk.specs.declared.disk.CallFile.{CallFile}
@@ -25,14 +25,14 @@ use Rattle.xw_desk.specs.Names.{IsKindNamed}
 abbrev pub pair_with_journal : Role → Option Pair
 pair_with_journal Output = Some OtherAndJournal
 pair_with_journal Input = Some OtherAndJournal
-pair_with_journal Words = Some OtherAndJournal
+pair_with_journal RoleList = Some OtherAndJournal
 pair_with_journal Written = Some OtherAndJournal
 pair_with_journal Session = Some OtherAndJournal
 pair_with_journal one = None
 
 abbrev pub pair_with_session : Role → Option Pair
 pair_with_session Output = Some OutputAndOther
-pair_with_session Words = Some ListAndWritten
+pair_with_session RoleList = Some ListAndWritten
 pair_with_session Puzzle = Some StartAndSession
 pair_with_session Commands = Some InputAndWritten
 pair_with_session Written = Some PuzzleAndSession
@@ -41,7 +41,7 @@ pair_with_session one = None
 abbrev pub pair_with_puzzle : Role → Option Pair
 pair_with_puzzle Output = Some OutputAndOther
 pair_with_puzzle Kept = Some PuzzleAndSession
-pair_with_puzzle Words = Some ListAndWritten
+pair_with_puzzle RoleList = Some ListAndWritten
 pair_with_puzzle Start = Some StartAndPuzzle
 pair_with_puzzle Commands = Some InputAndWritten
 pair_with_puzzle one = None
@@ -56,7 +56,7 @@ abbrev pub pair_of : Role → Role → Option Pair
 pair_of one Journal = pair_with_journal one
 pair_of one Session = pair_with_session one
 pair_of one Written = pair_with_puzzle one
-pair_of one Words = pair_with_read one true
+pair_of one RoleList = pair_with_read one true
 pair_of one Puzzle = pair_with_read one false
 pair_of one Start = pair_with_read one false
 pair_of one Commands = pair_with_read one false
@@ -73,7 +73,7 @@ reads_input files = is_input files.dict || (is_input files.from_file || is_input
 
 -- the name of the file with this role in the call; standard input has the name `-`
 abbrev pub name_of : SessionFiles → Role → Option (List ℕ)
-name_of files Words = option_map (λ name. name.now) files.dict
+name_of files RoleList = option_map (λ name. name.now) files.dict
 name_of files Puzzle = option_map (λ name. name.now) files.from_file
 name_of files Start = option_map (λ name. name.now) files.resume_file
 name_of files Commands = Some (codes "-")
@@ -86,7 +86,7 @@ name_of files role = None
 abbrev pub has : SessionFiles → Role → Bool
 has files Output = true
 has files Kept = is_some files.save_file
-has files Words = is_some files.dict
+has files RoleList = is_some files.dict
 has files Puzzle = is_some files.from_file
 has files Start = is_some files.resume_file
 has files Commands = not (reads_input files)
@@ -99,7 +99,7 @@ has files Journal = is_some files.journal_file
 abbrev pub IsFileOf : SessionFiles → Role → CallFile → Type 0
 IsFileOf files Output file = file ≡ call_files.Output
 IsFileOf files Kept file = IfNamed files.save_file (λ name. IsKeptAs name file)
-IsFileOf files Words file = IfNamed files.dict (λ name. IsSource name file)
+IsFileOf files RoleList file = IfNamed files.dict (λ name. IsSource name file)
 IsFileOf files Puzzle file = IfNamed files.from_file (λ name. IsSource name file)
 IsFileOf files Start file = IfNamed files.resume_file (λ name. IsSource name file)
 IsFileOf files Commands file = (reads_input files ≡ false) × (file ≡ call_files.Input)

@@ -11,7 +11,7 @@ use Rattle.xw_files.specs.declared.fault.WriteFault.TheVariants as writes
 use Rattle.xw_files.specs.declared.text.location.TextLocation.{TextLocation}
 use Rattle.xw_files.specs.declared.text.location.TextLocation.TheVariants as lines
 use Rattle.xw_files.specs.Puz.Board.{grid_of_puz}
-use Rattle.xw_files.specs.Text.Location.{text_location as text_location_in}
+use Rattle.xw_files.specs.Text.Location.{text_location as location_text_location}
 use Rattle.xw_commands.specs.Names.{direction_name}
 use Rattle.xw_grid.specs.declared.lights.Light.{Light}
 use Rattle.xw_grid.specs.Grid.{Grid}
@@ -56,7 +56,7 @@ line_location (Err fault) = None
 
 -- the first line of a text file that is no puzzle file
 abbrev pub header_location : List ℕ → Option Location
-header_location bytes = if is_session bytes then Some locations.Session else line_location (text_location_in bytes reads.Header)
+header_location bytes = if is_session bytes then Some locations.Session else line_location (location_text_location bytes reads.Header)
 
 abbrev pub read_location : List ℕ → ReadFault → Option Location
 read_location bytes (reads.Short piece) = Some (locations.Piece piece)
@@ -64,7 +64,7 @@ read_location bytes (reads.NoNul text) = Some (cut_text_location (grid_of_puz by
 read_location bytes (reads.BadSum sum) = Some (locations.Sum sum)
 read_location bytes (reads.BadCell cell) = Some (locations.Cell cell)
 read_location bytes reads.Header = header_location bytes
-read_location bytes fault = line_location (text_location_in bytes fault)
+read_location bytes fault = line_location (location_text_location bytes fault)
 
 -- ---- how a location is printed
 

@@ -2,7 +2,7 @@
 ghost use Rattle.std.specs.Prelude.{◌≡◌, IfOk};
 ghost use Rattle.xw_grid.specs.Light.{lights_of};
 ghost use Rattle.xw_files.specs.Puz.Board.{grid_of_puz};
-ghost use Rattle.xw_files.specs.Text.Location.{text_location as text_location_in};
+ghost use Rattle.xw_files.specs.Text.Location.{text_location as location_text_location};
 ghost use Rattle.xw_desk.specs.Locations.{cut_text_location, header_location, line_location, read_location, text_location, write_location};
 
 use crate::names::is_session;
@@ -137,7 +137,7 @@ fn of_cut_text(alloc: Global, bytes: &[u8], text: TextName) -> Result<Location, 
 
 /// Returns the line of a fault of a text file, if it has one.
 fn of_line(alloc: Global, bytes: &[u8], fault: ReadFault) -> Result<Option<Location>, AllocError>
-    ensures location { IfOk result (λ location. location ≡ line_location (text_location_in bytes.now fault)) }
+    ensures location { IfOk result (λ location. location ≡ line_location (location_text_location bytes.now fault)) }
 {
     match text_location(alloc, bytes, fault) {
         Ok(Some(TextLocation::Line(number))) => Ok(Some(Location::Line(number))),

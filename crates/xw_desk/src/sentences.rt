@@ -1,6 +1,6 @@
 //! Sentences that say what a failure means, for first-time users.
 ghost use Rattle.std.specs.Prelude.{◌≡◌, option_map, IfOk};
-ghost use Rattle.xw_desk.specs.Sentences.{line_of as line_of_text, located_line, said, said_at, said_of_line, said_of_puz, said_of_puzzle, said_of_text, sentence_if, unkept_line};
+ghost use Rattle.xw_desk.specs.Sentences.{line_of as spec_line_of, located_line, said, said_at, said_of_line, said_of_puz, said_of_puzzle, said_of_text, sentence_if, unkept_line};
 
 use crate::failure::Failure;
 use crate::location::Location;
@@ -110,7 +110,7 @@ fn said_of_line(number: usize, name: &str) -> Option<&'static str>
 
 /// Returns the line with a sentence, or no bytes if there is none.
 fn line_of(alloc: Global, said: Option<&str>) -> Result<String, AllocError>
-    ensures { IfOk result (λ line. line.bytes.items ≡ line_of_text (option_map (λ said. said.now) said.entry)) }
+    ensures { IfOk result (λ line. line.bytes.items ≡ spec_line_of (option_map (λ said. said.now) said.entry)) }
 {
     match said {
         Some(said) => format!(in alloc; "xw: {said}\n"),

@@ -2,7 +2,7 @@
 ghost use Rattle.std.specs.Prelude.{◌≡◌, ◌++◌, ℕ, List, IfOk};
 ghost use Rattle.xw_lines.specs.Cut.{ended_lines, last_piece, lines_of};
 ghost use Rattle.xw_session.specs.Record.{record_lines};
-ghost use Rattle.xw_journal.specs.File.{first_line, form_of as form_of_bytes, is_cut as is_cut_file, is_part as is_part_of_line, is_whole as has_whole_lines, kept_bytes, kept_lines};
+ghost use Rattle.xw_journal.specs.File.{first_line, form_of as spec_form_of, is_cut as spec_is_cut, is_part as spec_is_part, is_whole as spec_is_whole, kept_bytes, kept_lines};
 
 use crate::group::complete;
 use std::alloc::{AllocError, Global};
@@ -28,21 +28,21 @@ pub enum Form {
 
 /// Whether the bytes are a part of the first line: its beginning, or nothing.
 fn is_part(bytes: &[u8]) -> bool
-    ensures { result ≡ is_part_of_line bytes.now }
+    ensures { result ≡ spec_is_part bytes.now }
 {
     FIRST_LINE.starts_with(bytes) && bytes.len() < FIRST_LINE.len()
 }
 
 /// Whether each line has an LF.
 fn is_whole(bytes: &[u8]) -> bool
-    ensures { result ≡ has_whole_lines bytes.now }
+    ensures { result ≡ spec_is_whole bytes.now }
 {
     whole_lines(bytes).len() == bytes.len()
 }
 
 /// Returns what the bytes of a file are to a journal.
 pub fn form_of(bytes: &[u8]) -> Form
-    ensures { result ≡ form_of_bytes bytes.now }
+    ensures { result ≡ spec_form_of bytes.now }
 {
     if is_part(bytes) {
         Form::Begun
@@ -82,7 +82,7 @@ pub fn kept(bytes: &[u8]) -> &[u8]
 
 /// Returns whether a file was cut while it was written, so that the bytes at its end do not count.
 pub fn is_cut(bytes: &[u8]) -> bool
-    ensures { result ≡ is_cut_file bytes.now }
+    ensures { result ≡ spec_is_cut bytes.now }
 {
     kept(bytes).len() < bytes.len()
 }

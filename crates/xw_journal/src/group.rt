@@ -1,7 +1,7 @@
 //! Groups of lines: a comment, commands, and another comment. A group that was cut is not executed at all.
 ghost use Rattle.std.specs.Prelude.{◌≡◌, ℕ, List, [], ◌++◌};
 ghost use Rattle.xw_lines.specs.Cut.{ended_lines, lines_of, with_lfs};
-ghost use Rattle.xw_journal.specs.Group.{complete as complete_lines, open_after as open_behind};
+ghost use Rattle.xw_journal.specs.Group.{complete as spec_complete, open_after as spec_open_after};
 
 use xw_lines::run::next_lf;
 
@@ -14,7 +14,7 @@ pub const END: &[u8] = b"# xw end";
 /// Returns the start of the group that is still open after a line, if there is one. `begun` is the start of the group
 /// that is open before the line, and `from` is the start of the line.
 fn open_after(begun: Option<usize>, from: usize, line: &[u8]) -> Option<usize>
-    ensures { result ≡ open_behind begun from line.now }
+    ensures { result ≡ spec_open_after begun from line.now }
 {
     if line == BEGIN {
         begun.or(Some(from))
@@ -27,8 +27,8 @@ fn open_after(begun: Option<usize>, from: usize, line: &[u8]) -> Option<usize>
 
 /// Returns the bytes before a last line without an LF, and before the first group without an end.
 pub fn complete(bytes: &[u8]) -> &[u8]
-    ensures lines { lines_of result.now ≡ complete_lines (ended_lines bytes.now) }
-    ensures bytes { result.now ≡ with_lfs (complete_lines (ended_lines bytes.now)) [] }
+    ensures lines { lines_of result.now ≡ spec_complete (ended_lines bytes.now) }
+    ensures bytes { result.now ≡ with_lfs (spec_complete (ended_lines bytes.now)) [] }
     ensures front { (rest : List ℕ) × (bytes.now ≡ result.now ++ rest) }
 {
     let mut open = None;

@@ -1,13 +1,13 @@
 //! Writes the text of a line to a journal.
 ghost use Rattle.std.specs.Prelude.{◌≡◌, ℕ, List, [], ◌∷◌, ◌++◌, false, true, ◌≢◌, if◌then◌else◌, option_map, OnErr};
-ghost use Rattle.xw_grid.specs.Grid.{Grid as AnyGrid, entry};
+ghost use Rattle.xw_grid.specs.Grid.{Grid as SpecGrid, entry};
 ghost use Rattle.xw_commands.specs.Command.{command_of};
 ghost use Rattle.xw_lines.specs.Cut.{held};
 ghost use Rattle.xw_lines.specs.Device.{flushed};
 ghost use Rattle.xw_lines.specs.Sends.{Sends};
 ghost use Rattle.xw_answers.specs.Record.{command_lines, letter_commands};
 ghost use Rattle.xw_journal.specs.Group.{grouped};
-ghost use Rattle.xw_journal.specs.Journal.{entered_commands, written_of as written_of_line, events_of, journal_events, HasEntriesBefore, WereKept};
+ghost use Rattle.xw_journal.specs.Journal.{entered_commands, written_of as spec_written_of, events_of, journal_events, HasEntriesBefore, WereKept};
 
 use crate::entries::Entries;
 use crate::group::{BEGIN, END};
@@ -31,7 +31,7 @@ pub enum Written {
 
 /// Returns what is written of a parsed line, if it is accepted.
 pub fn written_of(parsed: &Result<Option<Command<'_>>, SyntaxFault>) -> Written
-    ensures { result ≡ written_of_line parsed.now }
+    ensures { result ≡ spec_written_of parsed.now }
 {
     match parsed {
         Ok(Some(Command::Change(_))) => Written::Line,
@@ -57,7 +57,7 @@ fn write_unless<J: Sink>(
 
 /// Writes the letters that are new in a grid, as commands.
 fn write_entered<J: Sink>(journal: &mut J, before: &Entries, grid: &Grid) -> Result<(), WriteFailed>
-    ensures { (was : AnyGrid) → HasEntriesBefore was grid.now before.now → Sends J.transcript J.failures journal.old journal.new result (command_lines (entered_commands was grid.now)) }
+    ensures { (was : SpecGrid) → HasEntriesBefore was grid.now before.now → Sends J.transcript J.failures journal.old journal.new result (command_lines (entered_commands was grid.now)) }
 {
     for index in 0..grid.size() {
         let cell = grid.cell_at(index);
@@ -68,8 +68,8 @@ fn write_entered<J: Sink>(journal: &mut J, before: &Entries, grid: &Grid) -> Res
 
 /// Whether a grid has new letters.
 fn has_entered(before: &Entries, grid: &Grid) -> bool
-    ensures none { (was : AnyGrid) → HasEntriesBefore was grid.now before.now → result ≡ false → entered_commands was grid.now ≡ [] }
-    ensures some { (was : AnyGrid) → HasEntriesBefore was grid.now before.now → result ≡ true → entered_commands was grid.now ≢ [] }
+    ensures none { (was : SpecGrid) → HasEntriesBefore was grid.now before.now → result ≡ false → entered_commands was grid.now ≡ [] }
+    ensures some { (was : SpecGrid) → HasEntriesBefore was grid.now before.now → result ≡ true → entered_commands was grid.now ≢ [] }
 {
     for index in 0..grid.size() {
         let entry = grid.entry(grid.cell_at(index));
@@ -82,7 +82,7 @@ fn has_entered(before: &Entries, grid: &Grid) -> bool
 
 /// Writes the letters that are new in a grid, as a group of commands, if there are any.
 fn write_group<J: Sink>(journal: &mut J, before: &Entries, grid: &Grid) -> Result<(), WriteFailed>
-    ensures { (was : AnyGrid) → HasEntriesBefore was grid.now before.now → Sends J.transcript J.failures journal.old journal.new result (grouped (entered_commands was grid.now)) }
+    ensures { (was : SpecGrid) → HasEntriesBefore was grid.now before.now → Sends J.transcript J.failures journal.old journal.new result (grouped (entered_commands was grid.now)) }
 {
     if !has_entered(before, grid) {
         return Ok(());
@@ -117,7 +117,7 @@ fn keep<J: Sink>(
     before: &Entries,
     grid: &Grid,
 ) -> Result<(), WriteFailed>
-    ensures { (was : AnyGrid) → WereKept written was grid.now before.now → Sends J.transcript J.failures journal.old journal.new result (events_of written line.now was grid.now) }
+    ensures { (was : SpecGrid) → WereKept written was grid.now before.now → Sends J.transcript J.failures journal.old journal.new result (events_of written line.now was grid.now) }
 {
     match written {
         Written::Nothing => return Ok(()),
@@ -136,8 +136,8 @@ pub fn keep_accepted<J: Sink>(
     before: &Entries,
     grid: &Grid,
 ) -> Result<(), WriteFailed>
-    ensures events { (was : AnyGrid) (whole : List ℕ) → held whole ≡ option_map (λ bytes. bytes.now) line.entry
-        → written ≡ written_of_line (command_of whole) → (written ≡ Written.Letters → step ≡ Step.Accepted → HasEntriesBefore was grid.now before.now)
+    ensures events { (was : SpecGrid) (whole : List ℕ) → held whole ≡ option_map (λ bytes. bytes.now) line.entry
+        → written ≡ spec_written_of (command_of whole) → (written ≡ Written.Letters → step ≡ Step.Accepted → HasEntriesBefore was grid.now before.now)
         → Sends J.transcript J.failures journal.old journal.new result (journal_events was whole step grid.now) }
     ensures accepted { OnErr result (step ≡ Step.Accepted) }
 {

@@ -1,7 +1,7 @@
 //! A session that writes its changes to a journal.
 ghost use Rattle.std.specs.Prelude.{◌≡◌, Option, None, IfOk, IfErr, option_map};
 ghost use Rattle.xw_lines.specs.Run.{IsRun};
-ghost use Rattle.xw_journal.specs.declared.cause.Cause.{Cause as AnyCause};
+ghost use Rattle.xw_journal.specs.declared.cause.Cause.{Cause as SpecCause};
 ghost use Rattle.xw_journal.specs.Journal.{AnswersJournaled, StopsAtJournal, IsExecuted, IsHalted, journaled_state};
 
 use crate::cause::Cause;
@@ -118,9 +118,9 @@ fn execute<E: Searchable, J: Sink>(
     answer: &mut VecSink,
     line: Option<&[u8]>,
 ) -> Result<Step, Cause>
-    ensures ok { IfOk result (λ step. (cause : Option AnyCause) → IsExecuted (journaled_state session.old (J.transcript journal.old) (J.failures journal.old) cause)
+    ensures ok { IfOk result (λ step. (cause : Option SpecCause) → IsExecuted (journaled_state session.old (J.transcript journal.old) (J.failures journal.old) cause)
         (option_map (λ bytes. bytes.now) line.entry) step answer.new.bytes.items (journaled_state session.new (J.transcript journal.new) (J.failures journal.new) cause)) }
-    ensures err { IfErr result (λ why. (cause later : Option AnyCause) → IsHalted (journaled_state session.old (J.transcript journal.old) (J.failures journal.old) cause)
+    ensures err { IfErr result (λ why. (cause later : Option SpecCause) → IsHalted (journaled_state session.old (J.transcript journal.old) (J.failures journal.old) cause)
         (option_map (λ bytes. bytes.now) line.entry) why (journaled_state session.new (J.transcript journal.new) (J.failures journal.new) later)) }
 {
     let parsed = parse_held(line);

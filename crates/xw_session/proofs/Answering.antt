@@ -19,8 +19,10 @@ use Rattle.xw_commands.specs.declared.query.Query.{Query}
 use Rattle.xw_commands.specs.declared.change.Change.{Change}
 use Rattle.xw_answers.specs.declared.refusal.CommandRefusal.{CommandRefusal}
 use Rattle.xw_answers.specs.declared.refusal.CommandRefusal.TheVariants as refusals
-use Rattle.xw_session.specs.Reply.{Reply, shown, changed, want_of}
-use Rattle.xw_session.specs.Answer.{Answers, IsReply, IsAnswer, AnswersBy, AnswersTo, AnswersQuery, AnswersChange, AnswersParsed, AnswersParsedBy, Edits, reply_of, text_of, ended_by, step_by, outcome_of, step_of, IsExecuted}
+use Rattle.xw_feas.specs.declared.edit.Edit.{Edit}
+use Rattle.xw_feas.specs.State.{action_of, after as state_after}
+use Rattle.xw_session.specs.Reply.{Reply, shown, changed, moved, want_of}
+use Rattle.xw_session.specs.Answer.{AnswersEdit, Asks, Answers, IsReply, IsAnswer, AnswersBy, AnswersTo, AnswersQuery, AnswersChange, AnswersParsed, AnswersParsedBy, Edits, reply_of, text_of, ended_by, step_by, outcome_of, step_of, IsExecuted}
 
 -- a change was made or refused, and then its answer was written
 pub edit_answers : {S E T : Type 0} (transcript : S → List ℕ) (failures : S → ℕ) (state after : SessionState) (change : Change) (done : Result T CommandRefusal) (result : Result (Result (Unit {0}) CommandRefusal) E) (old new : S) → Edits state change done after
@@ -38,6 +40,13 @@ edit_answers transcript failures state after change done result old new edits se
     step = outcome after;
   },
 )
+
+-- the edit that a change asks for was answered
+pub asked_answers : {S E : Type 0} (transcript : S → List ℕ) (failures : S → ℕ) (state left : SessionState) (change : Change) (edit : Edit) (result : Result (Result (Unit {0}) CommandRefusal) E) (old new : S) → Asks state change (Ok edit)
+    → AnswersEdit transcript failures state edit result left old new → AnswersChange transcript failures state change result left old new
+asked_answers transcript failures state left change edit result old new asks answers =
+    let due = moved state (state_after state.engine (action_of edit)) in
+    (due, asks.0, subst (λ (want : Option CommandRefusal). AnswersBy transcript failures state due want result left old new) (sym asks.1) answers)
 
 -- the outcome of a line, by the reply to its command
 step_by_reply : (reply : Result Reply CommandRefusal) → step_by (ended_by reply) ≡ step_of reply

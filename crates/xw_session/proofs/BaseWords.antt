@@ -9,7 +9,7 @@ use Rattle.xw_text.proofs.Position.{position_is_none}
 use Rattle.xw_letters.specs.Letter.{IsLetter, folded}
 use Rattle.xw_words.specs.declared.fault.WordFault.TheVariants.{Length}
 use Rattle.xw_words.specs.Word.{fits, is_stand_in, is_bad_in_pattern, is_word_length, judged}
-use Rattle.xw_words.specs.Dictionary.{Dictionary, Entry, row, answer_on, matches, matching_in, matching_answer}
+use Rattle.xw_words.specs.Dictionary.{Dictionary, Entry, known_words, answer_on, matches, matching_in, matching_answer}
 use Rattle.xw_grid.specs.declared.cell.Cell.{Cell}
 use Rattle.xw_grid.specs.declared.cell.Square.{Square}
 use Rattle.xw_grid.specs.declared.cell.Square.TheVariants.{Block, Open}
@@ -19,7 +19,7 @@ use Rattle.xw_grid.specs.Grid.{Grid, IsGrid, IsSquare, is_inside, index_of, lett
 use Rattle.xw_grid.specs.Light.{lights_of, no_light, cells_of}
 use Rattle.xw_grid.proofs.LightLemmas.{length-line, get_or-line, size_of_light}
 use Rattle.xw_grid.proofs.LightTableLemmas.{light_inside}
-use Rattle.xw_feas.specs.Board.{board_of, light_at, allows, agrees, is_wholly_entered, spelled, entry as entry_at}
+use Rattle.xw_feas.specs.Board.{board_of, light_at, allows, agrees, is_wholly_entered, spelled, entry as board_entry}
 use Rattle.xw_feas.specs.Feasible.{base_words, base_words_at}
 use Rattle.xw_feas.proofs.BoardLemmas.{entry-square, length-lights, light_at-board}
 use Rattle.xw_feas.proofs.LightsLemmas.{found_by_name}
@@ -72,7 +72,7 @@ module _ (grid : Grid) (is : IsGrid grid) where
         (λ square found. subst IsSquare (get_or_from_slice_get grid.squares (index_of grid cell) square Block found) (is.letters (index_of grid cell) Block (slice_get_within grid.squares (index_of grid cell) square found)))
         (sym at_index ∙ e)
 
-    byte_stands : (letter : ℕ) → is_stand_in (folded (byte cell)) letter ≡ allows (entry_at (board_of grid) (index_of grid cell)) letter
+    byte_stands : (letter : ℕ) → is_stand_in (folded (byte cell)) letter ≡ allows (board_entry (board_of grid) (index_of grid cell)) letter
     byte_stands letter =
         stands_for (entry grid cell) letter entry_letter
         ∙ ap (λ e. allows e letter) (at_index ∙ sym (entry-square grid (index_of grid cell)))
@@ -84,14 +84,14 @@ module _ (grid : Grid) (is : IsGrid grid) where
   pattern_fits (cell ∷ cells) [] inside = refl
   pattern_fits (cell ∷ cells) (letter ∷ word) inside =
       ap (λ b. b && fits (map folded (map byte cells)) word) (byte_stands cell (inside 0 cell (omega arith)) letter)
-      ∙ ap (λ b. allows (entry_at (board_of grid) (index_of grid cell)) letter && b) (pattern_fits cells word (λ k d below. inside (suc k) d (omega arith)))
+      ∙ ap (λ b. allows (board_entry (board_of grid) (index_of grid cell)) letter && b) (pattern_fits cells word (λ k d below. inside (suc k) d (omega arith)))
 
   -- the pattern of cells that all have letters
   pattern_spells : (cells : List Cell) → ((k : ℕ) (d : Cell) → k < length cells → is_inside grid (get_or cells k d) ≡ true) → is_wholly_entered (board_of grid) (map (index_of grid) cells) ≡ true
       → map byte cells ≡ spelled (board_of grid) (map (index_of grid) cells)
   pattern_spells [] inside entered = refl
   pattern_spells (cell ∷ cells) inside entered =
-      let e = entry_at (board_of grid) (index_of grid cell) in
+      let e = board_entry (board_of grid) (index_of grid cell) in
       let both = and_parts (is_some e) (is_wholly_entered (board_of grid) (map (index_of grid) cells)) entered in
       let here : byte cell ≡ letter_or_dot e = ap letter_or_dot (at_index cell (inside 0 cell (omega arith)) ∙ sym (entry-square grid (index_of grid cell))) in
       rw (here ∙ letter_there e both.0, pattern_spells cells (λ k d below. inside (suc k) d (omega arith)) both.1) refl
@@ -137,9 +137,9 @@ module _ (grid : Grid) (is : IsGrid grid) where
         λ i. λ entry. ap (λ b. entry.active && b) (pattern_fits (cells_of found) entry.word cells_inside ∙ ap (λ cs. agrees board cs entry.word) (sym cells)) i in
         ap (λ bad. answer_on (λ entries pat. Ok (matching_in entries pat)) words (judged bad (length (pattern grid found)) bytes)) good_pattern
         ∙ ap (λ b. answer_on (λ entries pat. Ok (matching_in entries pat)) words (if b then Ok bytes else Err Length)) word_length
-        ∙ ap (λ n. Ok (matching_in (row words n) bytes)) long
-        ∙ ap (λ (passes : Entry → Bool). Ok (map (λ (entry : Entry). entry.word) (filter passes (row words (length (light_at board light)))))) test
-        ∙ sym (ap Ok (get_or-map (base_words board words) board.lights light [] [] within_board ∙ ap (λ b. cond b (spelled board (light_at board light) ∷ []) (map (λ (entry : Entry). entry.word) (filter (λ (entry : Entry). entry.active && agrees board (light_at board light) entry.word) (row words (length (light_at board light)))))) not_entered))
+        ∙ ap (λ n. Ok (matching_in (known_words words n) bytes)) long
+        ∙ ap (λ (passes : Entry → Bool). Ok (map (λ (entry : Entry). entry.word) (filter passes (known_words words (length (light_at board light)))))) test
+        ∙ sym (ap Ok (get_or-map (base_words board words) board.lights light [] [] within_board ∙ ap (λ b. cond b (spelled board (light_at board light) ∷ []) (map (λ (entry : Entry). entry.word) (filter (λ (entry : Entry). entry.active && agrees board (light_at board light) entry.word) (known_words words (length (light_at board light)))))) not_entered))
 
 -- the pattern of the light with the name of the light at an index
 pub named_pattern : (grid : Grid) (light : ℕ) (name : LightName) → light < length (lights_of grid) → name ≡ (get_or (lights_of grid) light no_light).name

@@ -4,7 +4,7 @@ use Rattle.std.specs.Prelude.{◌==◌, filter, flat_map, position, unwrap_or, R
 use Rattle.std.proofs.lemmas.List.{get_or-drop, length-drop, get_or-map}
 use Rattle.xw_letters.specs.Letter.{folded}
 use Rattle.xw_words.specs.declared.fault.WordFault.TheVariants as words
-use Rattle.xw_words.specs.Dictionary.{Entry, row, index_of_word}
+use Rattle.xw_words.specs.Dictionary.{Entry, known_words, index_of_word}
 use Rattle.xw_words.specs.Word.{is_bad_letter}
 use Rattle.xw_feas.specs.Board.{light_at, agrees}
 use Rattle.xw_feas.specs.Feasible.{base_words, base_words_at}
@@ -94,7 +94,7 @@ one_word position light below entered some =
     let test = is_feasible_word position light in
     let word = spelling position light in
     let base : base_words_at position.board position.words light ≡ word ∷ [] =
-    get_or-map (base_words position.board position.words) position.board.lights light [] [] below ∙ ap (λ b. cond b (word ∷ []) (map (λ (entry : Entry). entry.word) (filter (λ (entry : Entry). entry.active && agrees position.board (light_at position.board light) entry.word) (row position.words (length (light_at position.board light)))))) entered in
+    get_or-map (base_words position.board position.words) position.board.lights light [] [] below ∙ ap (λ b. cond b (word ∷ []) (map (λ (entry : Entry). entry.word) (filter (λ (entry : Entry). entry.active && agrees position.board (light_at position.board light) entry.word) (known_words position.words (length (light_at position.board light)))))) entered in
     ap (filter test) base ∙ by_test (test word) (omega (arith, some, ap (λ words. length (filter test words)) base)) where
       by_test : (b : Bool) → 0 < length (cond b (spelling position light ∷ []) []) → cond b (spelling position light ∷ []) [] ≡ spelling position light ∷ []
       by_test true h = refl

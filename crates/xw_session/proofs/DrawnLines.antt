@@ -1,19 +1,13 @@
 -- Lines that are executed with one update of the engine.
-use Rattle.std.proofs.Common.{◌≡◌, ◌∙◌, ap, sym, inl, inr, refl, ℕ, ◌+◌, ◌<◌, Bool, true, List, [], ◌∷◌, ◌++◌, length, Option, Some, None, subst, append_assoc, append-nil, length-append, arith}
-use Rattle.std.specs.Prelude.{Result, Ok, Err, IfSome, IsErr, OnOk, OnErr}
+use Rattle.std.proofs.Common.{◌≡◌, ◌∙◌, ap, sym, inl, inr, refl, ℕ, ◌+◌, ◌<◌, true, List, [], ◌∷◌, ◌++◌, length, Option, Some, None, subst, append_assoc, append-nil, length-append, arith}
+use Rattle.std.specs.Prelude.{Bool, Result, Ok, Err, IfSome, IfNone, OnOk, OnErr}
+use Rattle.std.specs.Borrow.{Bor}
 use Rattle.std.specs.Option.{is_some}
-use Rattle.std.specs.Result.{is_err}
-use Rattle.xw_grid.specs.declared.cell.Cell.{Cell}
 use Rattle.xw_grid.specs.declared.fault.GridFault.{GridFault}
-use Rattle.xw_grid.specs.Grid.{Grid, IsGrid}
-use Rattle.xw_grid.specs.Light.{lights_of}
-use Rattle.xw_grid.specs.Clue.{ClueMap}
-use Rattle.xw_grid.specs.Puzzle.{TextsShown}
-use Rattle.xw_grid.proofs.ChangeLemmas.{letters_keep_shape}
-use Rattle.xw_grid.specs.Edit.{set_entry}
+use Rattle.xw_grid.specs.Grid.{Grid}
 use Rattle.xw_feas.specs.declared.edit.Edit.{Edit}
 use Rattle.xw_feas.specs.declared.edit.Refusal.{Refusal}
-use Rattle.xw_feas.specs.State.{State, Action, action_of, after as after_edit, with_grid, grid_after, letter_set, cell_cleared, word_placed, list_written, block_toggled, bar_toggled, symmetry_chosen, word_added, word_struck, least_chosen}
+use Rattle.xw_feas.specs.State.{State, Action, action_of, after as state_after, with_grid, grid_after}
 use Rattle.xw_commands.specs.declared.command.Command.{Command}
 use Rattle.xw_commands.specs.declared.command.Command.TheVariants as commands
 use Rattle.xw_commands.specs.declared.query.Query.TheVariants as queries
@@ -25,49 +19,32 @@ use Rattle.xw_commands.specs.declared.command.TextMode.TheVariants.{Instead, Beh
 use Rattle.xw_answers.specs.declared.refusal.CommandRefusal.{CommandRefusal}
 use Rattle.xw_answers.specs.declared.refusal.CommandRefusal.TheVariants as refusals
 use Rattle.xw_answers.specs.Escape.{text_spelled}
-use Rattle.xw_session.specs.State.{SessionState, drawn}
+use Rattle.xw_session.specs.State.{SessionState, drawn, grid_seen, seen}
 use Rattle.xw_session.specs.declared.session.putting.Target.{Target}
 use Rattle.xw_session.specs.declared.session.putting.Target.TheVariants as targets
 use Rattle.xw_session.specs.Put.{CanPut, target_of, with_piece}
 use Rattle.xw_lines.specs.Cut.{lines_of}
-use Rattle.xw_session.specs.Redrawn.{IsDrawn, IsMade, IsNoted, IsRedrawn, is_of_grid, is_shown}
+use Rattle.xw_session.specs.Drafting.{IsMade, IsOfGrid, IsRedrawn, is_shown}
+use Rattle.xw_session.specs.Numbering.{AreNumbered}
 use Rattle.xw_session.specs.Reply.{changed, edited, grid_memory, moved, watch_lines}
 use Rattle.xw_session.specs.Answer.{Asks, Edits, IsExecuted, ended_by, reply_of}
 use Rattle.xw_commands.specs.Command.{command_of}
-use Rattle.xw_session.specs.Resuming.{AreDone, count, line_fault, told_of}
-use Rattle.xw_session.proofs.Resumed.{count-few, done-accepted, done-all, done-one, done-refused, refused-same, silent-done}
-use Rattle.xw_session.proofs.TextMode.{memory_due, put_due}
-
--- the lights stay when a letter is set or cleared
-pub lights-kept : (old new : Grid) (cell : Cell) (entry : Option ℕ) (result : Result (Unit {0}) GridFault) → IsGrid old → OnOk result (set_entry old cell entry ≡ Ok new) → OnErr result (new ≡ old) → lights_of new ≡ lights_of old
-lights-kept old new cell entry (Ok u) formed ok same = (letters_keep_shape old new cell entry formed ok).lights
-lights-kept old new cell entry (Err fault) formed ok same = ap lights_of same
+use Rattle.xw_session.specs.Resuming.{AreDone, IsDrawn, IsNoted, count, line_fault, told_of}
+use Rattle.xw_session.proofs.Resumed.{count-few, done-accepted, done-all, done-one, done-refused}
+use Rattle.xw_session.proofs.TextMode.{memory_due, put_due, spelled_some}
 
 -- ---- edits of the grid
 
--- an edit of the grid keeps the dictionary
-grid_edited : (engine : State) (action : Action) → is_of_grid action ≡ true → after_edit engine action ≡ with_grid engine (grid_after engine.grid action)
-grid_edited engine (letter_set cell letter) is = refl
-grid_edited engine (cell_cleared cell) is = refl
-grid_edited engine (word_placed name word) is = refl
-grid_edited engine (list_written list) is = refl
-grid_edited engine (block_toggled cell) is = refl
-grid_edited engine (bar_toggled cell side) is = refl
-grid_edited engine (symmetry_chosen kind) is = refl
-grid_edited engine (word_added word grade) is = cc
-grid_edited engine (word_struck word) is = cc
-grid_edited engine (least_chosen grade) is = cc
-
 module _ (state : SessionState) (old new : Grid) (change : Change) (edit : Edit) (asks : Asks (drawn state old) change (Ok edit)) where
-  due_by : (found : Result Grid Refusal) → is_of_grid (action_of edit) ≡ true → grid_after old (action_of edit) ≡ found
-      → moved (drawn state old) (after_edit (drawn state old).engine (action_of edit)) ≡ moved (drawn state old) (with_grid (drawn state old).engine found)
-  due_by found is made = ap (moved (drawn state old)) (grid_edited (drawn state old).engine (action_of edit) is ∙ ap (with_grid (drawn state old).engine) made)
+  due_by : (found : Result Grid Refusal) → IsOfGrid (action_of edit) → grid_after old (action_of edit) ≡ found
+      → moved (drawn state old) (state_after (drawn state old).engine (action_of edit)) ≡ moved (drawn state old) (with_grid (drawn state old).engine found)
+  due_by found is made = ap (moved (drawn state old)) (is (drawn state old).engine ∙ ap (with_grid (drawn state old).engine) made)
 
   -- the edit of a change was made
   pub made-executed : (done : Unit {0}) → IsMade old (action_of edit) (Ok done) new → IsExecuted (drawn state old) (commands.Change change) (Ok done) (drawn state new)
   made-executed done made = record {
     reply = Ok (record { lines = watch_lines (drawn state old) (record state.engine { grid = new }); state = drawn state new });
-    fits = (moved (drawn state old) (after_edit (drawn state old).engine (action_of edit)), asks.0, due_by (Ok new) made.0 made.1);
+    fits = (moved (drawn state old) (state_after (drawn state old).engine (action_of edit)), asks.0, due_by (Ok new) made.0 made.1);
     is = refl;
     effect = refl;
   }
@@ -76,14 +53,17 @@ module _ (state : SessionState) (old new : Grid) (change : Change) (edit : Edit)
   pub unmade-executed : (refusal : Refusal) → IsMade old (action_of edit) (Err refusal) new → IsExecuted (drawn state old) (commands.Change change) (Err (refusals.Engine refusal)) (drawn state new)
   unmade-executed refusal made = record {
     reply = Err (refusals.Engine refusal);
-    fits = (moved (drawn state old) (after_edit (drawn state old).engine (action_of edit)), asks.0, inl (due_by (Err refusal) made.0 made.1));
+    fits = (moved (drawn state old) (state_after (drawn state old).engine (action_of edit)), asks.0, inl (due_by (Err refusal) made.0 made.1));
     is = refl;
     effect = ap (drawn state) made.2;
   }
 
--- the change was refused before its edit
-pub asked-executed : (state : SessionState) (change : Change) (refusal : Refusal) → Asks state change (Err refusal) → IsExecuted state (commands.Change change) (Err (refusals.Engine refusal)) state
-asked-executed state change refusal asks = record { reply = Err (refusals.Engine refusal); fits = (Err (refusals.Engine refusal), asks, inl refl); is = refl; effect = refl }
+-- what is known of the numbers of cells before an edit and after it is known of the grid that it leaves
+pub made-numbered : (old new : Grid) (action : Action) (made : Option (Result (Unit {0}) Refusal)) (known : List (Option Bool)) → IfSome made (λ result. IsMade old action result new) → IfNone made (new ≡ old) → AreNumbered old known
+    → ((after : Grid) → grid_after old action ≡ Ok after → AreNumbered after known) → AreNumbered new known
+made-numbered old new action None known some none before after = subst (λ (grid : Grid). AreNumbered grid known) (sym none) before
+made-numbered old new action (Some (Ok done)) known some none before after = after new some.1
+made-numbered old new action (Some (Err refusal)) known some none before after = subst (λ (grid : Grid). AreNumbered grid known) (sym some.2) before
 
 -- ---- other commands
 
@@ -95,11 +75,10 @@ ends (Err refusal) after = refl
 pub edits-executed : (state after : SessionState) (change : Change) (ended : Result (Unit {0}) CommandRefusal) → Edits state change ended after → IsExecuted state (commands.Change change) ended after
 edits-executed state after change ended edits = record { reply = reply_of ended after; fits = (changed state change, refl, edits.0); is = ends ended after; effect = edits.1 }
 
--- a change that keeps the engine was made over the engine's own grid
-pub edits-back : (state after : SessionState) (change : Change) (ended : Result (Unit {0}) CommandRefusal) → after.engine ≡ state.engine → Edits state change ended (drawn after state.engine.grid) → Edits state change ended after
-edits-back state after change ended same edits =
-    let back : drawn after state.engine.grid ≡ after = ap (λ (engine : State). drawn after engine.grid) (sym same) in
-    subst (λ (s : SessionState). Edits state change ended s) back edits
+-- A change that keeps the engine, over any grid, was made over that of a draft, or over the engine's if there is no draft.
+pub edits-seen : (state after : SessionState) (draft : Option (Bor Grid)) (change : Change) (ended : Result (Unit {0}) CommandRefusal) → after.engine ≡ state.engine
+    → Edits (seen state draft) change ended (drawn after (grid_seen state.engine.grid draft)) → Edits (seen state draft) change ended (seen after draft)
+edits-seen state after draft change ended same edits = subst (λ (engine : State). Edits (seen state draft) change ended (drawn after (grid_seen engine.grid draft))) (sym same) edits
 
 -- what follows for any value follows for one that may be there
 pub some-weaker : {X : Type 0} {P Q : X → Type 0} (found : Option X) → ((x : X) → P x → Q x) → IfSome found P → IfSome found Q
@@ -138,47 +117,23 @@ module _ (state after : SessionState) (grid : Grid) (putting : TextMode) (field 
   pub put-memory : (spelling ≡ [] → ⊥) → after ≡ state → Edits {T = Unit {0}} (drawn state grid) (changes.Put putting field spelling) (Err grid_memory) (drawn after grid)
   put-memory some same = (inr (memory_due (drawn state grid) putting field spelling can.whole can.there can.plain some), ap (λ (s : SessionState). drawn s grid) same)
 
-piece_engine : (state : SessionState) (putting : TextMode) (target : Target) (piece : List ℕ) → (with_piece state putting target piece).engine ≡ state.engine
-piece_engine state Instead (targets.Text name) piece = refl
-piece_engine state Instead (targets.Clue cell direction) piece = refl
-piece_engine state Behind target [] = refl
-piece_engine state Behind (targets.Text name) (byte ∷ bytes) = refl
-piece_engine state Behind (targets.Clue cell direction) (byte ∷ bytes) = refl
+-- the engine stays, and so do the word counts at the start
+abbrev Stay : SessionState → SessionState → Type 0
+Stay state after = (after.engine ≡ state.engine) × (after.begun ≡ state.begun)
 
-piece_begun : (state : SessionState) (putting : TextMode) (target : Target) (piece : List ℕ) → (with_piece state putting target piece).begun ≡ state.begun
-piece_begun state Instead (targets.Text name) piece = refl
-piece_begun state Instead (targets.Clue cell direction) piece = refl
-piece_begun state Behind target [] = refl
-piece_begun state Behind (targets.Text name) (byte ∷ bytes) = refl
-piece_begun state Behind (targets.Clue cell direction) (byte ∷ bytes) = refl
+piece_same : (state : SessionState) (putting : TextMode) (target : Target) (piece : List ℕ) → Stay state (with_piece state putting target piece)
+piece_same state Instead (targets.Text name) piece = (refl, refl)
+piece_same state Instead (targets.Clue cell direction) piece = (refl, refl)
+piece_same state Behind target [] = (refl, refl)
+piece_same state Behind (targets.Text name) (byte ∷ bytes) = (refl, refl)
+piece_same state Behind (targets.Clue cell direction) (byte ∷ bytes) = (refl, refl)
 
 module _ (state after : SessionState) (putting : TextMode) (target : Target) (spelling : List ℕ) where
-  piece_of : (found : Option (List ℕ)) → text_spelled spelling ≡ found → is_some found ≡ true → (piece : List ℕ) × (text_spelled spelling ≡ Some piece)
-  piece_of None is some = cc
-  piece_of (Some piece) is some = (piece, is)
-
-  pub text-engine : (result : Result (Unit {0}) GridFault) → is_some (text_spelled spelling) ≡ true → OnOk result ((piece : List ℕ) → text_spelled spelling ≡ Some piece → after ≡ with_piece state putting target piece) → OnErr result (after ≡ state)
-      → after.engine ≡ state.engine
-  text-engine (Ok u) spelled made same =
-      let found = piece_of (text_spelled spelling) refl spelled in
-      ap (λ (s : SessionState). s.engine) (made found.0 found.1) ∙ piece_engine state putting target found.0
-  text-engine (Err fault) spelled made same = ap (λ (s : SessionState). s.engine) same
-
-  pub text-begun : (result : Result (Unit {0}) GridFault) → is_some (text_spelled spelling) ≡ true → OnOk result ((piece : List ℕ) → text_spelled spelling ≡ Some piece → after ≡ with_piece state putting target piece) → OnErr result (after ≡ state)
-      → after.begun ≡ state.begun
-  text-begun (Ok u) spelled made same =
-      let found = piece_of (text_spelled spelling) refl spelled in
-      ap (λ (s : SessionState). s.begun) (made found.0 found.1) ∙ piece_begun state putting target found.0
-  text-begun (Err fault) spelled made same = ap (λ (s : SessionState). s.begun) same
-
--- the texts, clues, circles and the watch are put back
-pub back : (start now : SessionState) (texts : TextsShown) (clues : ClueMap) (circles : List Cell) (is_watched : Bool) → now.engine ≡ start.engine → now.begun ≡ start.begun → texts ≡ start.texts → clues ≡ start.clues → circles ≡ start.circles → is_watched ≡ start.is_watched
-    → record now { texts = texts; clues = clues; circles = circles; is_watched = is_watched } ≡ start
-back start now texts clues circles is_watched a b c d e f = rw (a, b, c, d, e, f) refl
-
-pub on_err : {P : Type 0} (result : Result (Unit {0}) Refusal) → is_err result ≡ true → OnErr result P → P
-on_err (Ok u) was holds = cc
-on_err (Err refusal) was holds = holds
+  pub text-same : (result : Result (Unit {0}) GridFault) → is_some (text_spelled spelling) ≡ true → OnOk result ((piece : List ℕ) → text_spelled spelling ≡ Some piece → after ≡ with_piece state putting target piece) → OnErr result (after ≡ state) → Stay state after
+  text-same (Ok u) spelled made same =
+      let found = spelled_some (text_spelled spelling) spelled in
+      subst (Stay state) (sym (made found.0 found.1)) (piece_same state putting target found.0)
+  text-same (Err fault) spelled made same = subst (Stay state) (sym same) (refl, refl)
 
 -- ---- lines
 
@@ -187,15 +142,6 @@ module _ (file : List ℕ) (number : ℕ) (state after : SessionState) (line : L
   pub line-drawn : (ended : Result (Unit {0}) CommandRefusal) (refused : ℕ) (old new : List ℕ) → IsExecuted state command ended after → IsNoted file number ended refused old new → IsDrawn file number state line refused after old new
   line-drawn (Ok done) refused old new executed noted = record { refusal = None; done = done-accepted state after line command is done whole executed; counted = noted.0; told = noted.1 ∙ sym (append-nil old) }
   line-drawn (Err refusal) refused old new executed noted = record { refusal = Some refusal; done = done-refused state after line command is refusal whole noted.0 executed; counted = noted.1; told = noted.2 }
-
--- a line without a command is drawn
-pub silent-drawn : (file : List ℕ) (number : ℕ) (state : SessionState) (line old : List ℕ) → command_of line ≡ Ok None → IsDrawn file number state line 0 state old old
-silent-drawn file number state line old is = record { refusal = None; done = silent-done state line is; counted = refl; told = sym (append-nil old) }
-
--- what was refused left the state
-pub line-left : (state after : SessionState) (command : Command) (ended : Result (Unit {0}) CommandRefusal) → IsErr ended → IsExecuted state command ended after → after ≡ state
-line-left state after command (Ok done) was executed = cc
-line-left state after command (Err refusal) was executed = refused-same state after command refusal executed
 
 -- no line is done yet
 pub redrawn-begun : (file : List ℕ) (before : ℕ) (text : List ℕ) (state : SessionState) → IsRedrawn file before text state 0 0 [] text state

@@ -2,6 +2,7 @@ pub mod Answering
 pub mod Engine
 pub mod Naming
 pub mod LightStarts
+pub mod Numbered
 pub mod Searching
 pub mod Grading
 pub mod Reasoning

@@ -1,12 +1,12 @@
 -- Executing the lines of a text one after another.
 use Rattle.std.proofs.Common.{◌≡◌, ◌≢◌, ◌≤◌, inl, inr, ◌∙◌, ◌+◌, ap, sym, refl, ℕ, false, List, [], ◌∷◌, ◌++◌, length, Option, Some, None, subst, append_assoc, append-nil, length-append, arith}
-use Rattle.std.specs.Prelude.{Result, Ok, Err, IfErr, IfOk}
-use Rattle.xw_text.specs.Lines.{lines_of as pieces_of}
+use Rattle.std.specs.Prelude.{Result, Ok, Err}
+use Rattle.xw_text.specs.Lines.{lines_of as lines_lines_of}
 use Rattle.xw_text.proofs.LineLemmas.{lines_of-with_lfs}
 use Rattle.xw_lines.specs.Cut.{lines_of, ended_lines, last_piece}
 use Rattle.xw_lines.specs.Device.{HasFailed}
 use Rattle.xw_lines.proofs.Cuts.{cut-whole}
-use Rattle.xw_lines.specs.declared.outcome.Step.TheVariants.{Silent, Refused}
+use Rattle.xw_lines.specs.declared.outcome.Step.TheVariants.{Refused}
 use Rattle.xw_commands.specs.Command.{command_of}
 use Rattle.xw_commands.specs.declared.command.Command.{Command}
 use Rattle.xw_session.specs.Reply.{Reply}
@@ -15,17 +15,17 @@ use Rattle.xw_answers.specs.declared.refusal.CommandRefusal.{CommandRefusal}
 use Rattle.xw_session.specs.declared.resuming.Stop.{Stop}
 use Rattle.xw_session.specs.declared.resuming.Stop.TheVariants.{NoCommand, Memory}
 use Rattle.xw_session.specs.State.{SessionState}
-use Rattle.xw_session.specs.Redrawn.{IsRedrawn}
-use Rattle.xw_session.specs.Resuming.{AreDone, IsDone, IsReached, MayBeDone, Resumes, ResumesLine, Tells, count, is_memory, line_fault, parsed_fault, refused_line, told_of}
+use Rattle.xw_session.specs.Drafting.{IsRedrawn}
+use Rattle.xw_session.specs.Resuming.{AreDone, IsDone, IsDrawn, IsReached, MayBeDone, Resumes, ResumesLine, Tells, count, is_memory, line_fault, told_of}
 
 -- commands are split into lines in the same way as word lists
-lines_are_pieces : (text : List ℕ) → pieces_of text ≡ lines_of text
+lines_are_pieces : (text : List ℕ) → lines_lines_of text ≡ lines_of text
 lines_are_pieces text =
     let whole = cut-whole text in
-    ap pieces_of whole.0 ∙ lines_of-with_lfs (ended_lines text) (last_piece text) whole.1 whole.2
+    ap lines_lines_of whole.0 ∙ lines_of-with_lfs (ended_lines text) (last_piece text) whole.1 whole.2
 
 -- the first line, and the lines after it
-pub first_of_both : (text line rest : List ℕ) → pieces_of text ≡ line ∷ pieces_of rest → lines_of text ≡ line ∷ lines_of rest
+pub first_of_both : (text line rest : List ℕ) → lines_lines_of text ≡ line ∷ lines_lines_of rest → lines_of text ≡ line ∷ lines_of rest
 first_of_both text line rest first = sym (lines_are_pieces text) ∙ first ∙ ap (λ lines. line ∷ lines) (lines_are_pieces rest)
 
 -- ---- one line
@@ -43,10 +43,6 @@ pub broken-executed : {S E : Type 0} (transcript : S → List ℕ) (failures : S
     → (ended : Result (Unit {0}) CommandRefusal) × IsExecuted state command ended after
 broken-executed transcript failures state after command error old new (due, owed, a) =
     (ended_by a.reply, record { reply = a.reply; fits = (due, owed, a.fits); is = refl; effect = a.effect })
-
--- a refused command leaves the state
-pub refused-same : (state after : SessionState) (command : Command) (refusal : CommandRefusal) → IsExecuted state command (Err refusal) after → after ≡ state
-refused-same state after command refusal executed = executed.effect ∙ ap (state_after state) (refused-reply executed.reply refusal executed.is)
 
 module _ (state after : SessionState) (line : List ℕ) (command : Command) (is : command_of line ≡ Ok (Some command)) where
   answered : (reply : Result Reply CommandRefusal) → Replies state command reply → after ≡ state_after state reply → Answers state line (step_of reply) (text_of reply) after
@@ -69,40 +65,11 @@ module _ (state after : SessionState) (line : List ℕ) (command : Command) (is 
   pub may-done : (ended : Result (Unit {0}) CommandRefusal) → IsExecuted state command ended after → MayBeDone state line after
   may-done ended executed = (step_of executed.reply, text_of executed.reply, answered executed.reply executed.fits executed.effect)
 
--- ---- how the replay of a line ends
-
-module _ {S : Type 0} (transcript : S → List ℕ) (failures : S → ℕ) (file : List ℕ) (number : ℕ) (state after : SessionState) (line : List ℕ) (command : Command) (is : command_of line ≡ Ok (Some command)) (whole : line_fault line ≡ None) where
-  -- its command was not refused
-  pub resumes-accepted : (done : Unit {0}) (old : S) → IsExecuted state command (Ok done) after → ResumesLine transcript failures file number state line (Ok 0) after old old
-  resumes-accepted done old executed = (None, done-accepted state after line command is done whole executed, refl, inl (sym (append-nil (transcript old)), refl))
-
-  -- it was refused, and reported unless memory is short
-  pub resumes-refused : (refusal : CommandRefusal) (result : Result ℕ Stop) (old new : S) → IsExecuted state command (Err refusal) after
-      → IfOk result (λ refused. (refused ≡ 1) × (is_memory refusal ≡ false) × Tells transcript failures old new (refused_line file number refusal)) → IfErr result (λ stop. (stop ≡ Memory) × (new ≡ old))
-      → ResumesLine transcript failures file number state line result after old new
-  resumes-refused refusal (Ok refused) old new executed told untold = (Some refusal, done-refused state after line command is refusal whole told.1 executed, told.0, told.2)
-  resumes-refused refusal (Err stop) old new executed told untold =
-      subst (λ stop. ResumesLine transcript failures file number state line (Err stop) after old new) (sym untold.0) (whole, may-done state after line command is (Err refusal) executed, untold.1)
-
-  -- an allocation failed
-  pub resumes-short : (ended : Result (Unit {0}) CommandRefusal) (old : S) → IsExecuted state command ended after → ResumesLine transcript failures file number state line (Err Memory) after old old
-  resumes-short ended old executed = (whole, may-done state after line command is ended executed, refl)
-
--- a line without a command is done
-pub silent-done : (state : SessionState) (line : List ℕ) → command_of line ≡ Ok None → IsDone state line None state
-silent-done state line is = (
-  ap parsed_fault is,
-  Silent,
-  [],
-  subst (λ parsed. AnswersParsed state parsed Silent [] state) (sym is) (refl, refl, refl),
-  λ same. cc,
-)
+-- ---- all lines before one
 
 pub count-few : (refusal : Option CommandRefusal) → count refusal ≤ 1
 count-few None = omega arith
 count-few (Some refusal) = omega arith
-
--- ---- all lines before one
 
 -- one line is done
 pub done-one : (file : List ℕ) (number : ℕ) (start end : SessionState) (line : List ℕ) (refusal : Option CommandRefusal) → IsDone start line refusal end
@@ -182,11 +149,11 @@ module _ {S : Type 0} (transcript : S → List ℕ) (failures : S → ℕ) where
       }
 
   -- one more line is done
-  pub goes-on : (file : List ℕ) (start mid end : SessionState) (text rest next line : List ℕ) (number refused more : ℕ) (old now new : S) → lines_of rest ≡ line ∷ lines_of next
-      → ResumesLine transcript failures file (number + 1) mid line (Ok more) end now new → Goes file start text rest number refused mid old now → Goes file start text next (number + 1) (refused + more) end old new
-  goes-on file start mid end text rest next line number refused more old now new first (refusal, did, counted, said) goes =
-      goes-further file start mid end text rest next number refused 1 more old now new (line ∷ []) (told_of file (number + 1) refusal) first (omega arith)
-      (rw counted (done-one file (number + 1) mid end line refusal did)) said goes
+  pub goes-on : (file : List ℕ) (start mid end : SessionState) (text rest next line reports : List ℕ) (number refused more : ℕ) (old now new : S) → lines_of rest ≡ line ∷ lines_of next
+      → IsDrawn file (number + 1) mid line more end [] reports → Tells transcript failures now new reports → Goes file start text rest number refused mid old now → Goes file start text next (number + 1) (refused + more) end old new
+  goes-on file start mid end text rest next line reports number refused more old now new first one said goes =
+      goes-further file start mid end text rest next number refused 1 more old now new (line ∷ []) (told_of file (number + 1) one.refusal) first (omega arith)
+      (rw one.counted (done-one file (number + 1) mid end line one.refusal one.done)) (subst (λ bytes. Tells transcript failures now new bytes) one.told said) goes
 
   -- the state is still the same
   pub goes-still : (file : List ℕ) (start mid end : SessionState) (text rest : List ℕ) (number refused : ℕ) (old now : S) → end ≡ mid → Goes file start text rest number refused mid old now
@@ -212,21 +179,12 @@ module _ {S : Type 0} (transcript : S → List ℕ) (failures : S → ℕ) where
   }
 
   -- the next line stops them
-  pub goes-stop : (file : List ℕ) (start mid end : SessionState) (text rest next line : List ℕ) (number refused : ℕ) (stop : Stop) (old now new : S) → lines_of rest ≡ line ∷ lines_of next
-      → ResumesLine transcript failures file (number + 1) mid line (Err stop) end now new → Goes file start text rest number refused mid old now
-      → (out : List ℕ) × Resumes file start (lines_of text) (Err stop) out end × Tells transcript failures old new out
-  goes-stop file start mid end text rest next line number refused (NoCommand told refusal) old now new first (here, why, same, quiet) goes =
-      let at = reached file start mid text rest next line number refused old now first goes in (
-        goes.out,
-        (line, why, rw (here, same) at),
-        rw quiet goes.tells,
-      )
-  goes-stop file start mid end text rest next line number refused Memory old now new first (command, did, quiet) goes =
-      let at = reached file start mid text rest next line number refused old now first goes in (
-        goes.out,
-        (number + 1, line, mid, command, at, did),
-        rw quiet goes.tells,
-      )
+  pub goes-stop : (file : List ℕ) (start mid end : SessionState) (text rest next line reports : List ℕ) (number refused : ℕ) (stop : Stop) (old now : S) → lines_of rest ≡ line ∷ lines_of next
+      → ResumesLine file (number + 1) mid line (Err stop) end [] reports → Goes file start text rest number refused mid old now → (out : List ℕ) × Resumes file start (lines_of text) (Err stop) out end × Tells transcript failures old now out
+  goes-stop file start mid end text rest next line reports number refused (NoCommand told refusal) old now first (here, why, same) goes =
+      (goes.out, (line, why, rw (here, same) (reached file start mid text rest next line number refused old now first goes)), goes.tells)
+  goes-stop file start mid end text rest next line reports number refused Memory old now first (command, did) goes =
+      (goes.out, (number + 1, line, mid, command, reached file start mid text rest next line number refused old now first goes, did), goes.tells)
 
   -- nothing is left
   pub goes-end : (file : List ℕ) (start end : SessionState) (text rest : List ℕ) (number refused : ℕ) (old new : S) → length rest ≡ 0 → Goes file start text rest number refused end old new

@@ -1,6 +1,6 @@
 -- The specified reply when a text is put into a field.
 use Rattle.std.proofs.Common.{◌≡◌, ℕ, Bool, true, false, not, List, [], ◌∷◌, ◌++◌, Some, None, refl, ◌∙◌, ap}
-use Rattle.std.specs.Prelude.{Option, Result, Ok, Err, IsOk, OnOk, if◌then◌else◌}
+use Rattle.std.specs.Prelude.{Option, Result, Ok, Err, IsOk, if◌then◌else◌}
 use Rattle.std.specs.Option.{is_some}
 use Rattle.xw_commands.specs.declared.command.Field.{Field}
 use Rattle.xw_commands.specs.declared.command.TextMode.{TextMode}
@@ -14,7 +14,7 @@ use Rattle.xw_session.specs.Put.{target_of, has_target, text_at, with_text_at, w
 use Rattle.xw_session.specs.Reply.{Reply, put, edited, want_of_text, grid_memory}
 use Rattle.xw_answers.proofs.Escapes.{nul_spelled}
 
-spelled_some : (found : Option (List ℕ)) → is_some found ≡ true → (piece : List ℕ) × (found ≡ Some piece)
+pub spelled_some : (found : Option (List ℕ)) → is_some found ≡ true → (piece : List ℕ) × (found ≡ Some piece)
 spelled_some None e = cc
 spelled_some (Some piece) e = (piece, refl)
 
@@ -65,7 +65,3 @@ memory_due state putting field spelling is targeted plain some =
 pub put_behind : (state : SessionState) (target : Target) (piece : List ℕ) → (piece ≡ [] → ⊥) → with_text_at state target (text_at state target ++ piece) ≡ with_piece state Behind target piece
 put_behind state target [] some = absurd (some refl)
 put_behind state target (byte ∷ bytes) some = refl
-
-pub where_done : {T E P Q : Type 0} (r : Result T E) → (P → Q) → OnOk r P → OnOk r Q
-where_done (Ok x) f p = f p
-where_done (Err e) f p = tt

@@ -5,6 +5,8 @@ use Rattle.xw_grid.specs.Grid.{Grid}
 use Rattle.xw_feas.specs.declared.edit.Edit.{Edit}
 use Rattle.xw_feas.specs.declared.edit.Refusal.{Refusal}
 use Rattle.xw_feas.specs.declared.changed.Changed.{Changed}
+use Rattle.xw_session.specs.declared.session.asking.Asked.{Asked}
+use Rattle.xw_session.specs.declared.session.asking.Asked.TheVariants as asked_for
 use Rattle.xw_session.specs.declared.session.asking.Watched.{Watched}
 use Rattle.xw_feas.specs.State.{action_of, after}
 use Rattle.xw_feas.specs.Changed.{changes_left}
@@ -16,6 +18,7 @@ use Rattle.xw_commands.specs.declared.command.Command.TheVariants as commands
 use Rattle.xw_commands.specs.declared.query.Query.{Query}
 use Rattle.xw_commands.specs.declared.query.Query.TheVariants as queries
 use Rattle.xw_commands.specs.declared.change.Change.{Change}
+use Rattle.xw_commands.specs.declared.change.Change.TheVariants as changes
 use Rattle.xw_commands.specs.declared.search.Search.{Search}
 use Rattle.xw_commands.specs.declared.search.Search.TheVariants as searches
 use Rattle.xw_commands.specs.declared.command.SyntaxFault.{SyntaxFault}
@@ -148,6 +151,15 @@ why_reply grid (Err refusal) state = Err (refusal_without_reason refusal)
 -- A change was made or refused, and left the state that its reply has.
 abbrev pub Edits : {T : Type 0} → SessionState → Change → Result T CommandRefusal → SessionState → Type 0
 Edits state change result after = IsReply (changed state change) (want_of_change state change) (reply_of result after) × (after ≡ state_after state (reply_of result after))
+
+-- A change was begun: it was made or refused, or it asks for this and nothing has changed.
+abbrev pub IsBegun : SessionState → Change → Result Asked CommandRefusal → SessionState → Type 0
+IsBegun state change (Ok asked_for.Nothing) after = Edits {T = Unit {0}} state change (Ok tt) after
+IsBegun state change (Ok (asked_for.Edit edit)) after = Asks state change (Ok edit) × (after ≡ state)
+IsBegun state change (Ok (asked_for.Clue named text)) after = (change ≡ changes.Clue named text.now) × (after ≡ state)
+IsBegun state change (Ok (asked_for.Erase named)) after = (change ≡ changes.Erase named) × (after ≡ state)
+IsBegun state change (Ok (asked_for.Size width height)) after = (change ≡ changes.Size width height) × (after ≡ state)
+IsBegun state change (Err refusal) after = Edits {T = Unit {0}} state change (Err refusal) after
 
 -- The command was executed or refused, whatever was written: it got an allowed reply, ended in this way, and left this
 -- state.

@@ -3,7 +3,7 @@ use Rattle.std.specs.Prelude.{ℕ, List, [], ◌∷◌, codes, decimal, Option, 
 use Rattle.xw_grid.specs.declared.cell.LightName.{LightName}
 use Rattle.xw_grid.specs.declared.lights.Light.{Light}
 use Rattle.xw_grid.specs.Grid.{Grid}
-use Rattle.xw_words.specs.Dictionary.{entry_at, row as known_words}
+use Rattle.xw_words.specs.Dictionary.{entry_at, known_words}
 use Rattle.xw_feas.specs.State.{State}
 use Rattle.xw_fill.specs.declared.listing.Duplicate.{Duplicate}
 use Rattle.xw_fill.specs.declared.suggesting.Suggestion.{Suggestion}

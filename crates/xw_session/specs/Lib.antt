@@ -10,10 +10,11 @@ pub mod Choices
 pub mod Put
 pub mod Record
 pub mod Reply
+pub mod Numbering
 pub mod NamedSearch
 pub mod Best
 pub mod Why
 pub mod Answer
 pub mod Resuming
-pub mod Redrawn
+pub mod Drafting
 pub mod Opening

@@ -3,7 +3,7 @@ use Rattle.std.specs.Prelude.{ℕ, List, [], ◌∷◌, flat_map}
 use Rattle.xw_grid.specs.declared.cell.Direction.TheVariants.{Across, Down}
 use Rattle.xw_grid.specs.declared.cell.Side.TheVariants.{Right, Below}
 use Rattle.xw_commands.specs.declared.change.Change.{Change}
-use Rattle.xw_commands.specs.declared.change.Change.TheVariants.{Size, Symmetry as Turn, Watch}
+use Rattle.xw_commands.specs.declared.change.Change.TheVariants.{Size, Symmetry as ChangeSymmetry, Watch}
 use Rattle.xw_commands.specs.declared.command.Field.TheVariants as fields
 use Rattle.xw_commands.specs.declared.command.TextField.TheVariants.{Title, Author, Copyright, Notes}
 use Rattle.xw_answers.specs.declared.record.Part.TheVariants as parts
@@ -17,7 +17,7 @@ abbrev pub section_commands : SessionState → Section → List Change
 section_commands state sections.Words = word_commands state.begun state.engine.words
 section_commands state sections.Size = Size state.engine.grid.width state.engine.grid.height ∷ []
 section_commands state (sections.Cells part) = part_commands state.engine.grid state.clues state.circles part
-section_commands state sections.Symmetry = Turn state.engine.grid.symmetry ∷ []
+section_commands state sections.Symmetry = ChangeSymmetry state.engine.grid.symmetry ∷ []
 section_commands state (sections.Text name) = text_commands (fields.Text name) (text_of_field state.texts name)
 section_commands state sections.Watch = Watch state.is_watched ∷ []
 

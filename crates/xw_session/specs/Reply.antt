@@ -1,10 +1,10 @@
 -- How a session replies to each command.
-use Rattle.std.specs.Prelude.{ℕ, Bool, true, false, not, List, [], ◌∷◌, map, take, length, flat_map, codes, option_map, Option, Some, None, is_some, Result, Ok, Err, if◌then◌else◌, nat_lt}
+use Rattle.std.specs.Prelude.{ℕ, Bool, true, false, not, List, [], ◌∷◌, map, take, length, flat_map, codes, decimal, option_map, Option, Some, None, is_some, Result, Ok, Err, if◌then◌else◌, nat_lt}
 use Rattle.std.specs.List.{list_all}
 use Rattle.xw_words.specs.declared.fault.WordFault.{WordFault}
 use Rattle.xw_words.specs.declared.fault.WordFault.TheVariants as words
 use Rattle.xw_letters.specs.Letter.{letter_of}
-use Rattle.xw_words.specs.Dictionary.{matching_answer}
+use Rattle.xw_words.specs.Dictionary.{matching_answer, grade_answer}
 use Rattle.xw_grid.specs.declared.cell.Cell.{Cell}
 use Rattle.xw_grid.specs.declared.cell.Direction.{Direction}
 use Rattle.xw_grid.specs.declared.cell.LightName.{LightName}
@@ -16,7 +16,7 @@ use Rattle.xw_grid.specs.Edit.{new_grid}
 use Rattle.xw_grid.specs.Light.{lights_of, index_named}
 use Rattle.xw_grid.specs.Clue.{no_clues, with_clue, is_circled, with_circle}
 use Rattle.xw_feas.specs.declared.edit.Refusal.{Refusal}
-use Rattle.xw_feas.specs.State.{State, Action, after, want_of as want_of_edit, letter_set, cell_cleared, word_placed, list_written, block_toggled, bar_toggled, symmetry_chosen, word_added, word_struck, least_chosen}
+use Rattle.xw_feas.specs.State.{State, Action, after, want_of as state_want_of, letter_set, cell_cleared, word_placed, list_written, block_toggled, bar_toggled, symmetry_chosen, word_added, word_struck, least_chosen}
 use Rattle.xw_feas.specs.Changes.{cells_that_differ}
 use Rattle.xw_fill.specs.Position.{filled_in}
 use Rattle.xw_fill.specs.OfState.{feasible_words, feasible_letters, found, due, end}
@@ -103,6 +103,11 @@ resized state (Err fault) = Err (refusals.Engine (edits.Grid fault))
 abbrev pub matched : SessionState → Result (List (List ℕ)) WordFault → Result (List ℕ) CommandRefusal
 matched state (Ok found) = Ok (flat_map word_line found)
 matched state (Err fault) = Err (refusals.Engine (edits.Word fault))
+
+-- the grade of a word
+abbrev pub grade_told : Result ℕ WordFault → Result (List ℕ) CommandRefusal
+grade_told (Ok grade) = Ok (word_line (decimal grade))
+grade_told (Err fault) = Err (refusals.Engine (edits.Word fault))
 
 -- the light that a command names
 abbrev pub light_named : Grid → LightArg → Option Light
@@ -215,6 +220,7 @@ fill_tried state limit =
 -- `Answer.antt` has a row for each of these.
 abbrev pub answer_of : SessionState → Query → Option (Result (List ℕ) CommandRefusal)
 answer_of state (queries.Match pattern) = Some (matched state (matching_answer state.engine.words pattern))
+answer_of state (queries.Grade word) = Some (grade_told (grade_answer state.engine.words word))
 answer_of state queries.Circles = Some (Ok (circle_lines state.engine.grid state.circles))
 answer_of state queries.Show = Some (Ok (show_lines state.engine.grid))
 answer_of state queries.Lights = Some (Ok (light_lines state.engine.grid))
@@ -268,7 +274,7 @@ want_of_text [] = None
 want_of_text (byte ∷ bytes) = Some grid_memory
 
 abbrev pub want_of_action : SessionState → Action → Option CommandRefusal
-want_of_action state action = option_map refusals.Engine (want_of_edit state.engine action)
+want_of_action state action = option_map refusals.Engine (state_want_of state.engine action)
 
 -- the refusal that a failed allocation gives, if the change may allocate
 abbrev pub want_of_change : SessionState → Change → Option CommandRefusal

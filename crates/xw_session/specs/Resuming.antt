@@ -71,15 +71,26 @@ told_of file number (Some refusal) = refused_line file number refusal
 abbrev pub Tells : {S : Type 0} → (S → List ℕ) → (S → ℕ) → S → S → List ℕ → Type 0
 Tells transcript failures old new text = ((transcript new ≡ transcript old ++ text) × (failures new ≡ failures old)) ⊎ HasFailed (failures old) (failures new)
 
--- How the replay of one line ends. `Ok`: the line was executed, and reported if it was refused. `NoCommand`: it is not
--- a command, and nothing was done. `Memory`: an allocation failed, and the line may have been executed.
-abbrev pub ResumesLine : {S : Type 0} → (S → List ℕ) → (S → ℕ) → List ℕ → ℕ → SessionState → List ℕ → Result ℕ Stop → SessionState → S → S → Type 0
-ResumesLine transcript failures file number state line (Ok refused) after old new =
-    (refusal : Option CommandRefusal) × IsDone state line refusal after × (refused ≡ count refusal) × Tells transcript failures old new (told_of file number refusal)
-ResumesLine transcript failures file number state line (Err (NoCommand told refusal)) after old new =
-    (told ≡ number) × (line_fault line ≡ Some refusal) × (after ≡ state) × (new ≡ old)
-ResumesLine transcript failures file number state line (Err Memory) after old new =
-    (line_fault line ≡ None) × MayBeDone state line after × (new ≡ old)
+-- What the line with this number reports was appended, if it ended in this way: `refused` is 1 if it was refused, not for
+-- a failed allocation, and otherwise 0.
+abbrev pub IsNoted : List ℕ → ℕ → Result (Unit {0}) CommandRefusal → ℕ → List ℕ → List ℕ → Type 0
+IsNoted file number (Ok done) refused old new = (refused ≡ 0) × (new ≡ old)
+IsNoted file number (Err refusal) refused old new = (is_memory refusal ≡ false) × (refused ≡ 1) × (new ≡ old ++ refused_line file number refusal)
+
+-- the line with this number was executed, and what it reports was appended: `refused` is 1 if it was refused, and
+-- otherwise 0
+pub record IsDrawn (file : List ℕ) (number : ℕ) (state : SessionState) (line : List ℕ) (refused : ℕ) (after : SessionState) (old new : List ℕ) : Type 0 where
+  pub refusal : Option CommandRefusal
+  pub done : IsDone state line refusal after
+  pub counted : refused ≡ count refusal
+  pub told : new ≡ old ++ told_of file number refusal
+
+-- How the replay of one line ends. `Ok`: the line was executed, and its report appended if it was refused. `NoCommand`:
+-- it is not a command, and nothing was done. `Memory`: an allocation failed, and the line may have been executed.
+abbrev pub ResumesLine : List ℕ → ℕ → SessionState → List ℕ → Result ℕ Stop → SessionState → List ℕ → List ℕ → Type 0
+ResumesLine file number state line (Ok refused) after old new = IsDrawn file number state line refused after old new
+ResumesLine file number state line (Err (NoCommand told refusal)) after old new = (told ≡ number) × (line_fault line ≡ Some refusal) × (after ≡ state)
+ResumesLine file number state line (Err Memory) after old new = (line_fault line ≡ None) × MayBeDone state line after
 
 -- ---- all lines
 

@@ -1,5 +1,6 @@
 -- The state of a session.
-use Rattle.std.specs.Prelude.{ℕ, Bool, List}
+use Rattle.std.specs.Borrow.{Bor}
+use Rattle.std.specs.Prelude.{ℕ, Bool, List, Option, Some, None}
 use Rattle.xw_grid.specs.declared.cell.Cell.{Cell}
 use Rattle.xw_grid.specs.Clue.{ClueMap}
 use Rattle.xw_grid.specs.Grid.{Grid}
@@ -33,3 +34,12 @@ with_text_in texts Notes text = record texts { notes = text }
 -- the state with another grid
 abbrev pub drawn : SessionState → Grid → SessionState
 drawn state grid = record state { engine = record state.engine { grid = grid } }
+
+-- the grid of a draft, or the other grid if there is no draft
+abbrev pub grid_seen : Grid → Option (Bor Grid) → Grid
+grid_seen other None = other
+grid_seen other (Some grid) = grid.now
+
+-- the state with the grid of a draft, if there is one
+abbrev pub seen : SessionState → Option (Bor Grid) → SessionState
+seen state draft = drawn state (grid_seen state.engine.grid draft)

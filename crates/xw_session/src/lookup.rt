@@ -3,7 +3,7 @@ ghost use Rattle.std.specs.Prelude.{◌≡◌, ◌≤◌, true, false, IfOk, IfE
 ghost use Rattle.xw_grid.specs.Light.{lights_of, index_named};
 ghost use Rattle.xw_fill.specs.NamedFill.{AreLights};
 ghost use Rattle.xw_session.specs.Reply.{name_of_light};
-ghost use Rattle.xw_session.specs.NamedSearch.{names_of as names_of_lights, IsUnsearched};
+ghost use Rattle.xw_session.specs.NamedSearch.{names_of as spec_names_of, IsUnsearched};
 
 use std::alloc::Global;
 use xw_commands::command::LightArg;
@@ -42,8 +42,8 @@ pub(crate) fn known_name<E: Feasible>(engine: &E, named: LightArg) -> Option<Lig
 
 /// Returns whether the grid has each of these lights.
 pub(crate) fn are_lights<E: Feasible>(engine: &E, lights: LightArgs<'_>) -> bool
-    ensures yes { result ≡ true → AreLights (E.state engine.now) (names_of_lights lights.entry) }
-    ensures no { result ≡ false → AreLights (E.state engine.now) (names_of_lights lights.entry) → ⊥ }
+    ensures yes { result ≡ true → AreLights (E.state engine.now) (spec_names_of lights.entry) }
+    ensures no { result ≡ false → AreLights (E.state engine.now) (spec_names_of lights.entry) → ⊥ }
 {
     for named in lights {
         if known_name(engine, named).is_none() {
@@ -60,9 +60,9 @@ pub(crate) fn names_of<E: Feasible>(
     engine: &E,
     lights: LightArgs<'_>,
 ) -> Result<Vec<LightName>, Refusal>
-    ensures ok { IfOk result (λ names. names.items ≡ names_of_lights lights.entry) }
-    ensures known { OnOk result (AreLights (E.state engine.now) (names_of_lights lights.entry)) }
-    ensures refused { IfErr result (IsUnsearched (E.state engine.now) (names_of_lights lights.entry)) }
+    ensures ok { IfOk result (λ names. names.items ≡ spec_names_of lights.entry) }
+    ensures known { OnOk result (AreLights (E.state engine.now) (spec_names_of lights.entry)) }
+    ensures refused { IfErr result (IsUnsearched (E.state engine.now) (spec_names_of lights.entry)) }
 {
     let mut names = Vec::new(alloc);
     let mut is_short = false;

@@ -1,10 +1,10 @@
 //! Replays the lines of a session file into a session.
-ghost use Rattle.std.specs.Prelude.{◌≡◌, ℕ, ◌≤◌, ◌+◌, List, Result, Some, None, Ok, false, IfOk, IfErr, OnOk, OnErr};
+ghost use Rattle.std.specs.Prelude.{◌≡◌, ℕ, ◌≤◌, ◌+◌, List, Result, Some, None, Ok, IfOk, IfErr, IfSome, IfNone, IsErr, OnErr};
 ghost use Rattle.xw_lines.specs.Cut.{lines_of};
 ghost use Rattle.xw_commands.specs.Command.{command_of};
-ghost use Rattle.xw_answers.specs.declared.refusal.CommandRefusal.{CommandRefusal as AnyRefusal};
+ghost use Rattle.xw_answers.specs.declared.refusal.CommandRefusal.{CommandRefusal as SpecCommandRefusal};
 ghost use Rattle.xw_session.specs.Answer.{IsExecuted};
-ghost use Rattle.xw_session.specs.Resuming.{line_fault, is_memory as is_want_of_memory, refused_line, ResumesLine, Resumes, Tells};
+ghost use Rattle.xw_session.specs.Resuming.{line_fault, is_memory as spec_is_memory, refused_line, IsNoted, ResumesLine, Resumes, Tells};
 
 use crate::session::Session;
 use crate::session::ending::Ended;
@@ -62,8 +62,8 @@ pub(crate) fn command_in(line: &[u8]) -> Result<Option<Command<'_>>, CommandRefu
 }
 
 /// Whether a refusal says that an allocation failed.
-pub(crate) fn is_memory(refusal: CommandRefusal) -> bool
-    ensures { result ≡ is_want_of_memory refusal }
+fn is_memory(refusal: CommandRefusal) -> bool
+    ensures { result ≡ spec_is_memory refusal }
 {
     matches!(
         refusal,
@@ -72,7 +72,7 @@ pub(crate) fn is_memory(refusal: CommandRefusal) -> bool
 }
 
 /// Returns the report of a refused line of a file.
-pub(crate) fn report(
+fn report(
     alloc: Global,
     file: &str,
     number: usize,
@@ -91,7 +91,7 @@ fn redo<F: Searchable>(
     command: Command<'_>,
 ) -> Result<Ended, AllocError>
     ensures done { IfOk result (λ ended. IsExecuted session.old command.entry ended session.new) }
-    ensures memory { OnErr result ((ended : Result (Unit {0}) AnyRefusal) × IsExecuted session.old command.entry ended session.new) }
+    ensures memory { OnErr result ((ended : Result (Unit {0}) SpecCommandRefusal) × IsExecuted session.old command.entry ended session.new) }
 {
     let mut answer = VecSink::new(alloc);
     match session.answer(command, &mut answer) {
@@ -107,65 +107,70 @@ pub fn tell<E: Sink>(errors: &mut E, text: &[u8])
     let _ = device::write_all(errors, text);
 }
 
-/// Reports a refused line of a file. Returns 1. Fails with `Memory`, and writes nothing, if the refusal or an allocation
-/// for the report says that memory is short.
-fn report_refusal<E: Sink>(
+/// Appends the report of a line that ended in this way, if it was refused. Returns 1 if it was refused, 0 otherwise.
+/// Returns `None`, and appends nothing, if the refusal or an allocation for the report says that memory is short.
+pub(crate) fn note(
     alloc: Global,
+    reports: &mut Vec<u8>,
     file: &str,
     number: usize,
-    refusal: CommandRefusal,
-    errors: &mut E,
-) -> Result<usize, Stop>
-    ensures told { IfOk result (λ refused. (refused ≡ 1) × (is_want_of_memory refusal ≡ false) × Tells E.transcript E.failures errors.old errors.new (refused_line file.now number refusal)) }
-    ensures untold { IfErr result (λ stop. (stop ≡ Stop.Memory) × (errors.new ≡ errors.old)) }
+    ended: Ended,
+) -> Option<usize>
+    ensures some { IfSome result (λ refused. IsNoted file.now number ended refused reports.old.items reports.new.items) }
+    ensures once { IfSome result (λ refused. refused ≤ 1) }
+    ensures none { IfNone result (IsErr ended) }
+    ensures same { IfNone result (reports.new.items ≡ reports.old.items) }
 {
+    let Err(refusal) = ended else {
+        return Some(0);
+    };
     if is_memory(refusal) {
-        return Err(Stop::Memory);
+        return None;
     }
-    match report(alloc, file, number, refusal) {
-        Ok(text) => {
-            tell(errors, text.as_bytes());
-            Ok(1)
-        }
-        Err(AllocError) => Err(Stop::Memory),
+    let text = report(alloc, file, number, refusal).ok()?;
+    match reports.extend_from_slice(text.as_bytes()) {
+        Ok(()) => Some(1),
+        Err(_) => None,
     }
 }
 
-/// Executes the command of a line, and reports the line if the session refuses it. Returns 1 if it was refused, 0
-/// otherwise. Fails if an allocation fails.
-fn resume_command<F: Searchable, E: Sink>(
+/// Executes the command of a line, and appends the report of the line if the session refuses it. Returns 1 if it was
+/// refused, 0 otherwise. Fails if an allocation fails.
+fn resume_command<F: Searchable>(
     alloc: Global,
     session: &mut Session<F>,
     file: &str,
     number: usize,
     command: Command<'_>,
-    errors: &mut E,
+    reports: &mut Vec<u8>,
 ) -> Result<usize, Stop>
-    ensures done { (line : List ℕ) → command_of line ≡ Ok (Some command.entry) → line_fault line ≡ None → ResumesLine E.transcript E.failures file.now number session.old line result session.new errors.old errors.new }
+    ensures done { (line : List ℕ) → command_of line ≡ Ok (Some command.entry) → line_fault line ≡ None → ResumesLine file.now number session.old line result session.new reports.old.items reports.new.items }
     ensures once { IfOk result (λ refused. refused ≤ 1) }
 {
     match redo(alloc, session, command) {
-        Ok(Ok(())) => Ok(0),
-        Ok(Err(refusal)) => report_refusal(alloc, file, number, refusal, errors),
+        Ok(ended) => match note(alloc, reports, file, number, ended) {
+            Some(refused) => Ok(refused),
+            None => Err(Stop::Memory),
+        },
         Err(AllocError) => Err(Stop::Memory),
     }
 }
 
-/// Executes a line of a file, and reports it if the session refuses it. Returns 1 if it was refused, 0 otherwise.
-/// Fails with `NoCommand` if the line is not a command, and with `Memory` if an allocation fails.
-fn resume_line<F: Searchable, E: Sink>(
+/// Executes a line of a file, and appends its report if the session refuses it. Returns 1 if it was refused, 0
+/// otherwise. Fails with `NoCommand` if the line is not a command, and with `Memory` if an allocation fails.
+fn resume_line<F: Searchable>(
     alloc: Global,
     session: &mut Session<F>,
     file: &str,
     number: usize,
     line: &[u8],
-    errors: &mut E,
+    reports: &mut Vec<u8>,
 ) -> Result<usize, Stop>
-    ensures done { ResumesLine E.transcript E.failures file.now number session.old line.now result session.new errors.old errors.new }
+    ensures done { ResumesLine file.now number session.old line.now result session.new reports.old.items reports.new.items }
     ensures once { IfOk result (λ refused. refused ≤ 1) }
 {
     match command_in(line) {
-        Ok(Some(command)) => resume_command(alloc, session, file, number, command, errors),
+        Ok(Some(command)) => resume_command(alloc, session, file, number, command, reports),
         Ok(None) => Ok(0),
         Err(refusal) => Err(Stop::NoCommand { number, refusal }),
     }
@@ -173,8 +178,7 @@ fn resume_line<F: Searchable, E: Sink>(
 
 /// Executes the lines of a session file without writing their answers. Reports each refused line on `errors`, in the
 /// form `xw: FILE: line N: NAME`. Returns the number of refused lines. Stops at the first line that is not a command,
-/// and if an allocation fails. Lines in a row that neither ask the engine nor edit the dictionary update the engine
-/// once.
+/// and if an allocation fails. Changes in a row that need no engine update it once.
 pub fn resume<F: Searchable, E: Sink>(
     alloc: Global,
     session: &mut Session<F>,
@@ -189,7 +193,7 @@ pub fn resume<F: Searchable, E: Sink>(
     let mut refused = 0;
     let mut singly = 0;
     while !rest.is_empty() {
-        if let Some(drawn) = session.redraw_if_many(file, number, rest, &mut singly) {
+        if let Some(drawn) = session.redraw(file, number, rest, &mut singly) {
             tell(errors, drawn.reports.as_slice());
             number += drawn.taken;
             refused += drawn.refused;
@@ -198,7 +202,9 @@ pub fn resume<F: Searchable, E: Sink>(
         }
         let (line, after) = first_line(rest);
         number += 1;
-        refused += resume_line(alloc, session, file, number, line, errors)?;
+        let mut reports = Vec::new(alloc);
+        refused += resume_line(alloc, session, file, number, line, &mut reports)?;
+        tell(errors, reports.as_slice());
         rest = after;
     }
     Ok(refused)

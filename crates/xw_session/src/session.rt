@@ -4,6 +4,7 @@ mod autofilling;
 mod besting;
 mod changing;
 mod choosing;
+mod drafting;
 pub(crate) mod ending;
 mod erasing;
 mod grading;
@@ -14,7 +15,6 @@ mod putting;
 mod queries;
 mod reasoning;
 mod recording;
-mod redrawing;
 mod tallying;
 mod telling;
 
@@ -28,7 +28,7 @@ ghost use Rattle.xw_answers.specs.Record.{known_counts};
 ghost use Rattle.xw_session.specs.Reply.{cell_of};
 ghost use Rattle.xw_session.specs.Answer.{AnswersTo, AnswersQuery, AnswersChange, AnswersSearch, AnswersParsedBy, AnswersLine, Answers, outcome_of};
 
-use crate::session::asking::{bar, block, clear, place, set};
+use crate::session::asking::Asked;
 use crate::session::ending::{Ended, end_answer};
 use std::alloc::Global;
 use std::marker::Model;
@@ -36,8 +36,10 @@ use xw_answers::record::{LENGTHS, known_words};
 use xw_answers::refusal::CommandRefusal;
 use xw_commands::command::{self, CellArg, SyntaxFault};
 use xw_commands::{Change, Command, Query, Search};
-use xw_feas::edit::{Edit, Refusal};
+use xw_feas::edit::Refusal;
 use xw_feas::feasible::Feasible;
+use xw_feas::observed::Observed;
+use xw_feas::progress::Observer;
 use xw_feas::searchable::Searchable;
 use xw_fill::best::BestHint;
 use xw_fill::named_lights::Hint;
@@ -253,6 +255,22 @@ impl<E: Feasible> Session<E> {
 }
 
 impl<E: Searchable> Session<E> {
+    /// Has an observer, if there is one, told how far each search is. The session stays as it was.
+    pub fn observed<O: Observer>(self, observer: Option<O>) -> Session<Observed<E, O>>
+        ensures { result ≡ self }
+    {
+        Session {
+            alloc: self.alloc,
+            engine: Observed::new(self.engine, observer),
+            texts: self.texts,
+            clues: self.clues,
+            circles: self.circles,
+            is_watched: self.is_watched,
+            begun: self.begun,
+            hints: self.hints,
+        }
+    }
+
     /// Answers a query. The session stays as it was.
     pub fn ask<W: Sink>(&mut self, query: Query<'_>, sink: &mut W) -> Result<Ended, WriteFailed>
         ensures answer { AnswersQuery W.transcript W.failures self.old query.entry result sink.old sink.new }
@@ -260,6 +278,7 @@ impl<E: Searchable> Session<E> {
     {
         match query {
             Query::Match(pattern) => self.answer_match(pattern.bytes(), sink),
+            Query::Grade(word) => self.answer_grade(word.bytes(), sink),
             Query::Circles => self.answer_circles(sink),
             Query::Show => self.answer_show(sink),
             Query::Lights => self.answer_lights(sink),
@@ -286,25 +305,13 @@ impl<E: Searchable> Session<E> {
     ) -> Result<Ended, WriteFailed>
         ensures { AnswersChange W.transcript W.failures self.old change.entry result self.new sink.old sink.new }
     {
-        match change {
-            Change::Size(width, height) => end_answer(sink, self.resize(width, height)),
-            Change::Symmetry(kind) => self.edit(&Ok(Edit::Symmetry(kind)), sink),
-            Change::Add(word, grade) => self.edit(&Ok(Edit::Add(word.bytes(), grade)), sink),
-            Change::Strike(word) => self.edit(&Ok(Edit::Strike(word.bytes())), sink),
-            Change::Least(grade) => self.edit(&Ok(Edit::Least(grade)), sink),
-            Change::Set(spot, letter) => self.edit(&set(self.grid(), spot, letter), sink),
-            Change::Clear(spot) => self.edit(&clear(self.grid(), spot), sink),
-            Change::Place(named, word) => self.edit(&place(self.grid(), named, word.bytes()), sink),
-            Change::Erase(named) => self.answer_erase(named, sink),
-            Change::Block(spot) => self.edit(&block(self.grid(), spot), sink),
-            Change::Bar(spot, side) => self.edit(&bar(self.grid(), spot, side), sink),
-            Change::Clue(named, text) => end_answer(sink, self.set_clue(named, text.bytes())),
-            Change::Write(field, text) => end_answer(sink, self.write(field, text.bytes())),
-            Change::Circle(spot) => end_answer(sink, self.toggle_circle(spot)),
-            Change::Watch(is_on) => end_answer(sink, self.watch(is_on)),
-            Change::Put(putting, field, text) => {
-                end_answer(sink, self.put(putting, field, text.bytes()))
-            }
+        match self.begin(None, change) {
+            Ok(Asked::Nothing) => end_answer(sink, Ok(())),
+            Ok(Asked::Edit(edit)) => self.answer_edit(&edit, sink),
+            Ok(Asked::Clue(named, text)) => end_answer(sink, self.set_clue(named, text)),
+            Ok(Asked::Erase(named)) => self.answer_erase(named, sink),
+            Ok(Asked::Size(width, height)) => end_answer(sink, self.resize(width, height)),
+            Err(refusal) => end_answer(sink, Err(refusal)),
         }
     }
 

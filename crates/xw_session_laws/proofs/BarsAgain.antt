@@ -14,7 +14,7 @@ use Rattle.xw_grid.specs.Orbit.{is_between, is_in_edge_orbit}
 use Rattle.xw_grid.specs.Clue.{ClueMap}
 use Rattle.xw_grid.proofs.EdgeLemmas.{is_between-IsEdgeBetween}
 use Rattle.xw_grid.proofs.GridLemmas.{cell_at-inside, index_of-cell_at, same_cell-cell_at, get_set, length-cells, get_or-map-cells}
-use Rattle.xw_feas.specs.State.{with_grid as with_edited, by_fault}
+use Rattle.xw_feas.specs.State.{with_grid as state_with_grid, by_fault}
 use Rattle.xw_commands.specs.declared.change.Change.TheVariants as changes
 use Rattle.xw_answers.specs.declared.record.Part.TheVariants as parts
 use Rattle.xw_session.specs.State.{SessionState}
@@ -67,7 +67,7 @@ module _ (grid : Grid) (k : ℕ) (side towards : Side) (alone : grid.symmetry �
       bar_at j d (omega (arith, within, size)) ∙ ap (λ b. if b && eqb j k then true else get_or (bars grid towards) j d) other)
 
 barred_edge : (state : SessionState) (inside edge is_bar : Bool) (to : Bool → Grid) → inside ≡ true → edge ≡ true → is_bar ≡ false
-    → state_left (moved state (with_edited state.engine (by_fault (if not inside then Err OutOfGrid else if not edge then Err Border else Ok (to (not is_bar)))))) ≡ Some (with_grid state (to true))
+    → state_left (moved state (state_with_grid state.engine (by_fault (if not inside then Err OutOfGrid else if not edge then Err Border else Ok (to (not is_bar)))))) ≡ Some (with_grid state (to true))
 barred_edge state true true false to p q r = refl
 barred_edge state true true true to p q r = cc
 barred_edge state true false is_bar to p q r = cc

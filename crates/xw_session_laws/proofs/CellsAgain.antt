@@ -16,9 +16,9 @@ use Rattle.xw_grid.specs.declared.cell.Symmetry.TheVariants as kinds
 use Rattle.xw_grid.specs.declared.fault.GridFault.TheVariants.{OutOfGrid, OnBlock, Occupied}
 use Rattle.xw_grid.specs.Grid.{Grid, IsGrid, IsSquare, is_inside, index_of, cell_at, cells, is_block_square, letter_in, square_at, is_block, entry, same_cell}
 use Rattle.xw_grid.specs.Edit.{with_entry, is_occupied, with_orbit, turned, square_of}
-use Rattle.xw_grid.specs.Orbit.{moved_by, moved as moved_cell, is_in_orbit}
+use Rattle.xw_grid.specs.Orbit.{moved_by, moved as orbit_moved, is_in_orbit}
 use Rattle.xw_grid.specs.Clue.{ClueMap}
-use Rattle.xw_feas.specs.State.{with_grid as with_edited, by_fault}
+use Rattle.xw_feas.specs.State.{with_grid as state_with_grid, by_fault}
 use Rattle.xw_grid.proofs.GridLemmas.{cell_at-inside, index_of-cell_at, same_cell-cell_at, get_set, length-cells, get_or-map-cells}
 use Rattle.xw_commands.specs.declared.change.Change.{Change}
 use Rattle.xw_commands.specs.declared.change.Change.TheVariants as changes
@@ -115,7 +115,7 @@ letter_is letter is =
     letter_chosen letter (leb 65 letter) (leb letter 90) (leb 97 letter) (leb letter 122) (le-leb 65 letter is.0) (le-leb letter 90 is.1) high
 
 pub entered : (state : SessionState) (inside blocks : Bool) (grid : Grid) → inside ≡ true → blocks ≡ false
-    → state_left (moved state (with_edited state.engine (by_fault (if not inside then Err OutOfGrid else if blocks then Err OnBlock else Ok grid)))) ≡ Some (with_grid state grid)
+    → state_left (moved state (state_with_grid state.engine (by_fault (if not inside then Err OutOfGrid else if blocks then Err OnBlock else Ok grid)))) ≡ Some (with_grid state grid)
 entered state true false grid p q = refl
 entered state true true grid p q = cc
 entered state false blocks grid p q = cc
@@ -172,7 +172,7 @@ module _ (state : SessionState) (grid : Grid) (is : IsGrid grid) where
 -- ---- blocks, without symmetry
 
 toggled : (state : SessionState) (inside blocks occupied : Bool) (to : Bool → Grid) → inside ≡ true → blocks ≡ false → occupied ≡ false
-    → state_left (moved state (with_edited state.engine (by_fault (if not inside then Err OutOfGrid else if not blocks && occupied then Err Occupied else Ok (to (not blocks)))))) ≡ Some (with_grid state (to true))
+    → state_left (moved state (state_with_grid state.engine (by_fault (if not inside then Err OutOfGrid else if not blocks && occupied then Err Occupied else Ok (to (not blocks)))))) ≡ Some (with_grid state (to true))
 toggled state true false false to p q r = refl
 toggled state true false true to p q r = cc
 toggled state true true occupied to p q r = cc
@@ -193,12 +193,12 @@ block_alone grid k alone inside long =
     let here : j < grid.width * grid.height = omega (arith, within, size) in
     let there : j < length grid.squares = omega (arith, here, long) in
     let one : moved_by grid.symmetry grid.width grid.height cell ≡ cell = ap (λ kind. moved_by kind grid.width grid.height cell) alone in
-    let two : moved_cell grid (moved_cell grid cell) ≡ cell = ap (moved_cell grid) one ∙ one in
-    let three : moved_cell grid (moved_cell grid (moved_cell grid cell)) ≡ cell = ap (moved_cell grid) two ∙ one in
+    let two : orbit_moved grid (orbit_moved grid cell) ≡ cell = ap (orbit_moved grid) one ∙ one in
+    let three : orbit_moved grid (orbit_moved grid (orbit_moved grid cell)) ≡ cell = ap (orbit_moved grid) two ∙ one in
     let t = same_cell (cell_at grid j) cell in
     let tests : is_in_orbit grid cell (cell_at grid j) ≡ eqb j k =
-    ap (λ c. t || (same_cell (cell_at grid j) c || (same_cell (cell_at grid j) (moved_cell grid (moved_cell grid cell)) || (same_cell (cell_at grid j) (moved_cell grid (moved_cell grid (moved_cell grid cell))) || false)))) one
-    ∙ ap (λ c. t || (t || (same_cell (cell_at grid j) c || (same_cell (cell_at grid j) (moved_cell grid (moved_cell grid (moved_cell grid cell))) || false)))) two
+    ap (λ c. t || (same_cell (cell_at grid j) c || (same_cell (cell_at grid j) (orbit_moved grid (orbit_moved grid cell)) || (same_cell (cell_at grid j) (orbit_moved grid (orbit_moved grid (orbit_moved grid cell))) || false)))) one
+    ∙ ap (λ c. t || (t || (same_cell (cell_at grid j) c || (same_cell (cell_at grid j) (orbit_moved grid (orbit_moved grid (orbit_moved grid cell))) || false)))) two
     ∙ ap (λ c. t || (t || (t || (same_cell (cell_at grid j) c || false)))) three
     ∙ four_times t ∙ same_cell-cell_at grid j cell inside ∙ ap (eqb j) (index_of-cell_at grid k) in
     let at : square_of grid (cell_at grid j) ≡ get_or grid.squares j d = ap (λ n. get_or grid.squares n Block) (index_of-cell_at grid j) ∙ get_or_default grid.squares j Block d there in

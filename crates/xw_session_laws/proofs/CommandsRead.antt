@@ -24,7 +24,7 @@ use Rattle.xw_commands.specs.declared.command.SyntaxFault.TheVariants as faults
 use Rattle.xw_commands.specs.declared.command.TextField.{TextField}
 use Rattle.xw_commands.specs.declared.command.TextField.TheVariants.{Title, Author, Copyright, Notes}
 use Rattle.xw_commands.specs.Query.{queries}
-use Rattle.xw_commands.specs.Change.{changes as change_table, change_named}
+use Rattle.xw_commands.specs.Change.{changes as change_changes, change_named}
 use Rattle.xw_commands.specs.Search.{searches}
 use Rattle.xw_commands.specs.Command.{command_named, reading_of, command_in, command_of, whole}
 use Rattle.xw_lines.specs.Cut.{HasNoLf}
@@ -97,11 +97,11 @@ abbrev pub IsReadAs : List ℕ → Change → Type 0
 IsReadAs line change = HasNoLf line × (command_of line ≡ Ok (Some (commands.Change change)))
 
 -- a change that is read is the command
-as_command : (name rest : List ℕ) (change : Change) (found : Option (Reading Change)) → lookup queries name ≡ None → lookup change_table name ≡ found → reading_if_any found rest ≡ Ok (change, [])
+as_command : (name rest : List ℕ) (change : Change) (found : Option (Reading Change)) → lookup queries name ≡ None → lookup change_changes name ≡ found → reading_if_any found rest ≡ Ok (change, [])
     → command_named name rest ≡ Ok (commands.Change change, [])
 as_command name rest change None no_query is e = cc
 as_command name rest change (Some reading) no_query is e =
-    ap (λ query. reading_of query (lookup change_table name) (lookup searches name) rest) no_query
+    ap (λ query. reading_of query (lookup change_changes name) (lookup searches name) rest) no_query
     ∙ ap (λ found. reading_of None found (lookup searches name) rest) is
     ∙ ap (λ found. then_others found (λ change. given (commands.Change change))) e
 
@@ -120,7 +120,7 @@ line_read name ws command n m high short fit room no_query reads =
           ∙ ap (λ l. command_in (first_word l)) (no_cr line plain)
           ∙ ap command_in (first_read name ws (high_word name high))
           ∙ ap (λ t. if t then Ok None else whole (command_named name (spaced ws))) no_note
-          ∙ ap whole (as_command name (spaced ws) command (lookup change_table name) no_query refl reads),
+          ∙ ap whole (as_command name (spaced ws) command (lookup change_changes name) no_query refl reads),
     )
   where
     first_high : (w : List ℕ) → IsHigh w → 48 ≤ slice_index w 0

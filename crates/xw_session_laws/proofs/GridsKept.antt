@@ -1,6 +1,6 @@
 -- A grid stays a grid after every line.
 use Rattle.std.proofs.Common.{◌≡◌, ℕ, ◌+◌, ◌<◌, ◌*◌, zero, suc, Bool, true, false, not, ◌&&◌, eqb, List, [], ◌∷◌, length, map, drop, get_or, set, Some, None, refl, sym, ◌∙◌, ap, subst, length-set, arith}
-use Rattle.std.specs.Prelude.{Option, Result, Ok, Err, nat_le, position as bad_at, if◌then◌else◌, slice_index_or, All}
+use Rattle.std.specs.Prelude.{Option, Result, Ok, Err, nat_le, position, if◌then◌else◌, slice_index_or, All}
 use Rattle.std.proofs.lemmas.Bool.{eqb-true}
 use Rattle.std.proofs.lemmas.Bool.Decides.{nat_tests}
 use Rattle.std.proofs.lemmas.List.{length-map, length-replicate, get_or-drop, get_or-replicate}
@@ -26,7 +26,7 @@ use Rattle.xw_grid.specs.Orbit.{is_in_orbit}
 use Rattle.xw_grid.specs.Light.{lights_of, no_light, cells_of}
 use Rattle.xw_grid.proofs.GridLemmas.{length-cells}
 use Rattle.xw_feas.specs.declared.edit.Refusal.{Refusal}
-use Rattle.xw_feas.specs.State.{State, with_grid as with_edited, with_words as with_dictionary, by_fault, with_letters, spelled_in, placed_in, then_write, write_list}
+use Rattle.xw_feas.specs.State.{State, with_grid, with_words, by_fault, with_letters, spelled_in, placed_in, then_write, write_list}
 use Rattle.xw_fill.specs.Position.{square_with, squares_with, filled_in}
 use Rattle.xw_session.specs.Erase.{emptied}
 
@@ -120,59 +120,59 @@ letter_good byte letter e =
     ] refl e
 
 module _ (engine next : State) (is : IsGrid engine.grid) where
-  to_grid : (grid : Grid) → IsGrid grid → with_edited engine (Ok grid) ≡ Ok next → IsGrid next.grid
+  to_grid : (grid : Grid) → IsGrid grid → with_grid engine (Ok grid) ≡ Ok next → IsGrid next.grid
   to_grid grid good e = let same : record engine { grid = grid } ≡ next = cc in subst (λ (p : State). IsGrid p.grid) same good
 
-  by_two : (a b : Bool) (one other : GridFault) (grid : Grid) → IsGrid grid → with_edited engine (by_fault (if not a then Err one else if b then Err other else Ok grid)) ≡ Ok next → IsGrid next.grid
+  by_two : (a b : Bool) (one other : GridFault) (grid : Grid) → IsGrid grid → with_grid engine (by_fault (if not a then Err one else if b then Err other else Ok grid)) ≡ Ok next → IsGrid next.grid
   by_two true false one other grid good e = to_grid grid good e
   by_two true true one other grid good e = cc
   by_two false b one other grid good e = cc
 
-  pub with_words_good : (words : Result Dictionary WordFault) → with_dictionary engine words ≡ Ok next → IsGrid next.grid
+  pub with_words_good : (words : Result Dictionary WordFault) → with_words engine words ≡ Ok next → IsGrid next.grid
   with_words_good (Ok words) e = let same : record engine { words = words } ≡ next = cc in subst (λ (p : State). IsGrid p.grid) same is
   with_words_good (Err fault) e = cc
 
-  pub with_letter_good : (cell : Cell) (letter : Option ℕ) → IsSquare (squares.Open letter) → with_edited engine (by_fault (set_entry engine.grid cell letter)) ≡ Ok next → IsGrid next.grid
+  pub with_letter_good : (cell : Cell) (letter : Option ℕ) → IsSquare (squares.Open letter) → with_grid engine (by_fault (set_entry engine.grid cell letter)) ≡ Ok next → IsGrid next.grid
   with_letter_good cell letter good e = by_two (is_inside engine.grid cell) (is_block engine.grid cell) grids.OutOfGrid grids.OnBlock (with_entry engine.grid cell letter) (square_set engine.grid (index_of engine.grid cell) (squares.Open letter) is good) e
 
-  by_length : (a : Bool) (one : Refusal) (grid : Grid) → IsGrid grid → with_edited engine (if a then Ok grid else Err one) ≡ Ok next → IsGrid next.grid
+  by_length : (a : Bool) (one : Refusal) (grid : Grid) → IsGrid grid → with_grid engine (if a then Ok grid else Err one) ≡ Ok next → IsGrid next.grid
   by_length true one grid good e = to_grid grid good e
   by_length false one grid good e = cc
 
-  by_spelling : (light : Light) (bad : Option ℕ) (bytes : List ℕ) → bad_at is_bad_letter bytes ≡ bad → with_edited engine (spelled_in engine.grid light bad bytes) ≡ Ok next → IsGrid next.grid
+  by_spelling : (light : Light) (bad : Option ℕ) (bytes : List ℕ) → position is_bad_letter bytes ≡ bad → with_grid engine (spelled_in engine.grid light bad bytes) ≡ Ok next → IsGrid next.grid
   by_spelling light (Some at) bytes found e = cc
   by_spelling light None bytes found e =
       by_length _ _ (with_letters engine.grid (cells_of light) (map folded bytes)) (letters_set (cells_of light) engine.grid (map folded bytes) (letters_folded bytes found) is) e
 
-  pub with_word_good : (index : Option ℕ) (bytes : List ℕ) → with_edited engine (placed_in engine.grid index bytes) ≡ Ok next → IsGrid next.grid
+  pub with_word_good : (index : Option ℕ) (bytes : List ℕ) → with_grid engine (placed_in engine.grid index bytes) ≡ Ok next → IsGrid next.grid
   with_word_good None bytes e = cc
-  with_word_good (Some index) bytes e = by_spelling (slice_index_or (lights_of engine.grid) index no_light) (bad_at is_bad_letter bytes) bytes refl e
+  with_word_good (Some index) bytes e = by_spelling (slice_index_or (lights_of engine.grid) index no_light) (position is_bad_letter bytes) bytes refl e
 
-  by_list : (cells : List Cell) (written : Result Grid GridFault) → write_list (emptied cells) engine.grid ≡ written → with_edited engine (by_fault written) ≡ Ok next → IsGrid next.grid
+  by_list : (cells : List Cell) (written : Result Grid GridFault) → write_list (emptied cells) engine.grid ≡ written → with_grid engine (by_fault written) ≡ Ok next → IsGrid next.grid
   by_list cells (Ok grid) made e = to_grid grid (cells_emptied cells engine.grid grid is made) e
   by_list cells (Err fault) made e = cc
 
-  pub emptied_good : (cells : List Cell) → with_edited engine (by_fault (write_list (emptied cells) engine.grid)) ≡ Ok next → IsGrid next.grid
+  pub emptied_good : (cells : List Cell) → with_grid engine (by_fault (write_list (emptied cells) engine.grid)) ≡ Ok next → IsGrid next.grid
   emptied_good cells e = by_list cells (write_list (emptied cells) engine.grid) refl e
 
-  pub with_orbit_good : (cell : Cell) → with_edited engine (by_fault (toggle_block engine.grid cell)) ≡ Ok next → IsGrid next.grid
+  pub with_orbit_good : (cell : Cell) → with_grid engine (by_fault (toggle_block engine.grid cell)) ≡ Ok next → IsGrid next.grid
   with_orbit_good cell e =
       by_two (is_inside engine.grid cell) (not (is_block engine.grid cell) && is_occupied engine.grid cell) grids.OutOfGrid grids.Occupied (with_orbit engine.grid cell (not (is_block engine.grid cell)))
       (orbit_good engine.grid is cell (not (is_block engine.grid cell))) e
 
-  by_edge : (a b : Bool) (grid : Grid) → IsGrid grid → with_edited engine (by_fault (if not a then Err grids.OutOfGrid else if not b then Err grids.Border else Ok grid)) ≡ Ok next → IsGrid next.grid
+  by_edge : (a b : Bool) (grid : Grid) → IsGrid grid → with_grid engine (by_fault (if not a then Err grids.OutOfGrid else if not b then Err grids.Border else Ok grid)) ≡ Ok next → IsGrid next.grid
   by_edge true true grid good e = to_grid grid good e
   by_edge true false grid good e = cc
   by_edge false b grid good e = cc
 
-  pub with_bar_good : (cell : Cell) (side : Side) → with_edited engine (by_fault (toggle_bar engine.grid cell side)) ≡ Ok next → IsGrid next.grid
+  pub with_bar_good : (cell : Cell) (side : Side) → with_grid engine (by_fault (toggle_bar engine.grid cell side)) ≡ Ok next → IsGrid next.grid
   with_bar_good cell side e =
       let now = not (is_barred engine.grid cell side) in
       by_edge (is_inside engine.grid cell) (is_edge engine.grid cell side) (with_edges engine.grid cell side now)
       (edges_good engine.grid is (bars_with engine.grid cell side now Right) (bars_with engine.grid cell side now Below)
       (length-map (cells engine.grid) _ ∙ length-cells engine.grid) (length-map (cells engine.grid) _ ∙ length-cells engine.grid)) e
 
-  by_square : (kind : Symmetry) (a : Bool) → (a ≡ false → kind ≡ kinds.Quarter → engine.grid.width ≡ engine.grid.height) → with_edited engine (by_fault (if a then Err grids.NotSquare else Ok (record engine.grid { symmetry = kind }))) ≡ Ok next → IsGrid next.grid
+  by_square : (kind : Symmetry) (a : Bool) → (a ≡ false → kind ≡ kinds.Quarter → engine.grid.width ≡ engine.grid.height) → with_grid engine (by_fault (if a then Err grids.NotSquare else Ok (record engine.grid { symmetry = kind }))) ≡ Ok next → IsGrid next.grid
   by_square kind false square e = to_grid (record engine.grid { symmetry = kind }) (symmetry_good engine.grid is kind (square refl)) e
   by_square kind true square e = cc
 
@@ -180,7 +180,7 @@ module _ (engine next : State) (is : IsGrid engine.grid) where
   not_not true e = refl
   not_not false e = cc
 
-  pub with_symmetry_good : (kind : Symmetry) → with_edited engine (by_fault (set_symmetry engine.grid kind)) ≡ Ok next → IsGrid next.grid
+  pub with_symmetry_good : (kind : Symmetry) → with_grid engine (by_fault (set_symmetry engine.grid kind)) ≡ Ok next → IsGrid next.grid
   with_symmetry_good kinds.None e = by_square kinds.None false (λ _ e. cc) e
   with_symmetry_good kinds.Half e = by_square kinds.Half false (λ _ e. cc) e
   with_symmetry_good kinds.LeftRight e = by_square kinds.LeftRight false (λ _ e. cc) e

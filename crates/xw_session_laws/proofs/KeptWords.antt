@@ -8,7 +8,7 @@ use Rattle.std.proofs.lemmas.List.{get_or_append_left, get_or-set_same, get_or-s
 use Rattle.xw_words.specs.declared.fault.WordFault.{WordFault}
 use Rattle.xw_words.specs.declared.bank.Added.{Added}
 use Rattle.xw_words.specs.declared.bank.Added.TheVariants.{New, Returned}
-use Rattle.xw_words.specs.Dictionary.{Dictionary, Entry, row, no_entry, entry_at, with_row, new_entry, returned, with_added, struck, with_struck, after_add, after_strike, limited, all_limited, with_least, capped}
+use Rattle.xw_words.specs.Dictionary.{Dictionary, Entry, known_words, no_entry, entry_at, with_row, new_entry, returned, with_added, struck, with_struck, after_add, after_strike, limited, all_limited, with_least, capped}
 use Rattle.xw_feas.specs.State.{answered}
 use Rattle.xw_session_laws.specs.Replay.{fresh, IsSince, ComeFirst}
 
@@ -88,47 +88,47 @@ all_later least entries = record {
 -- ---- a dictionary
 
 abbrev pub AllComeFirst : Dictionary → Dictionary → Type 0
-AllComeFirst begun words = (count : ℕ) → ComeFirst (row begun count) (row words count)
+AllComeFirst begun words = (count : ℕ) → ComeFirst (known_words begun count) (known_words words count)
 
 module _ (begun words : Dictionary) (first : AllComeFirst begun words) where
-  row_kept : (long : ℕ) (entries : List Entry) → ComeFirst (row begun long) entries → AllComeFirst begun (with_row words long entries)
+  row_kept : (long : ℕ) (entries : List Entry) → ComeFirst (known_words begun long) entries → AllComeFirst begun (with_row words long entries)
   row_kept long entries good count =
       elim (cases_eq count long) [
         | inl here ↦
             elim (cases_lt long (length words.rows)) [
               | inl within ↦
-                  subst (ComeFirst (row begun count)) (sym (ap (row (with_row words long entries)) here ∙ get_or-set_same words.rows long entries [] within)) (subst (λ n. ComeFirst (row begun n) entries) (sym here) good)
+                  subst (ComeFirst (known_words begun count)) (sym (ap (known_words (with_row words long entries)) here ∙ get_or-set_same words.rows long entries [] within)) (subst (λ n. ComeFirst (known_words begun n) entries) (sym here) good)
               | inr past ↦
                   let beyond : length (set words.rows long entries) ≤ count = omega (arith, past, here, length-set words.rows long entries) in
-                  subst (ComeFirst (row begun count)) (get_or_past words.rows count [] (omega (arith, past, here)) ∙ sym (get_or_past (set words.rows long entries) count [] beyond)) (first count)
+                  subst (ComeFirst (known_words begun count)) (get_or_past words.rows count [] (omega (arith, past, here)) ∙ sym (get_or_past (set words.rows long entries) count [] beyond)) (first count)
             ]
-        | inr other ↦ subst (ComeFirst (row begun count)) (sym (get_or-set_other words.rows long count entries [] other)) (first count)
+        | inr other ↦ subst (ComeFirst (known_words begun count)) (sym (get_or-set_other words.rows long count entries [] other)) (first count)
       ]
 
   module _ (word : List ℕ) where
     abbrev these : List Entry
-    these = row words (length word)
+    these = known_words words (length word)
 
     pub added_kept : (given : Option ℕ) (answer : Result Added WordFault) (next : Dictionary) → answered (after_add words word given) answer ≡ Ok next → AllComeFirst begun next
     added_kept given (Ok added) next e =
         let same : after_add words word given added ≡ next = cc in
-        subst (AllComeFirst begun) same (row_kept (length word) (with_added words.least these word given added) (still_first (row begun (length word)) these _ (first (length word)) (added_later words.least these word given added)))
+        subst (AllComeFirst begun) same (row_kept (length word) (with_added words.least these word given added) (still_first (known_words begun (length word)) these _ (first (length word)) (added_later words.least these word given added)))
     added_kept given (Err fault) next e = cc
 
     pub struck_kept : (answer : Result ℕ WordFault) (next : Dictionary) → answered (after_strike words word) answer ≡ Ok next → AllComeFirst begun next
     struck_kept (Ok index) next e =
         let same : after_strike words word index ≡ next = cc in
         subst (AllComeFirst begun) same
-        (row_kept (length word) (with_struck these index) (still_first (row begun (length word)) these _ (first (length word)) (set_later these index (struck (entry_at these index)) (struck_later (entry_at these index)))))
+        (row_kept (length word) (with_struck these index) (still_first (known_words begun (length word)) these _ (first (length word)) (set_later these index (struck (entry_at these index)) (struck_later (entry_at these index)))))
     struck_kept (Err fault) next e = cc
 
   pub limited_kept : (number : ℕ) → AllComeFirst begun (with_least number words)
   limited_kept number count =
-      let same : row (with_least number words) count ≡ all_limited (capped number) (row words count) =
+      let same : known_words (with_least number words) count ≡ all_limited (capped number) (known_words words count) =
       elim (cases_lt count (length words.rows)) [
         | inl within ↦ get_or-map (all_limited (capped number)) words.rows count [] [] within
         | inr past ↦
             let beyond : length (map (all_limited (capped number)) words.rows) ≤ count = omega (arith, past, length-map words.rows (all_limited (capped number))) in
             get_or_past (map (all_limited (capped number)) words.rows) count [] beyond ∙ ap (all_limited (capped number)) (sym (get_or_past words.rows count [] past))
       ] in
-      subst (ComeFirst (row begun count)) (sym same) (still_first (row begun count) (row words count) _ (first count) (all_later (capped number) (row words count)))
+      subst (ComeFirst (known_words begun count)) (sym same) (still_first (known_words begun count) (known_words words count) _ (first count) (all_later (capped number) (known_words words count)))

@@ -7,7 +7,7 @@ use Rattle.std.proofs.lemmas.Bool.{cases_lt}
 use Rattle.std.proofs.lemmas.List.{length-drop, length-take, get_or-drop}
 use Rattle.std.proofs.lemmas.List.Elements.{All-get_or}
 use Rattle.std.proofs.lemmas.List.FromFn.{get_or-range_with_len, length-range_with_len}
-use Rattle.xw_words.specs.Dictionary.{Dictionary, Entry, IsDictionary, row, no_entry, best_grade}
+use Rattle.xw_words.specs.Dictionary.{Dictionary, Entry, IsDictionary, known_words, no_entry, best_grade}
 use Rattle.xw_grid.specs.declared.cell.Cell.{Cell}
 use Rattle.xw_grid.specs.declared.cell.Direction.{Direction}
 use Rattle.xw_grid.specs.declared.cell.Square.{Square}
@@ -86,11 +86,11 @@ row_recorded entries n known =
     (each_recorded regrade_commands no_entry entries (λ k within. regrade_recorded (get_or entries k no_entry) (get_or entries k no_entry).regraded (known k within)))
     (each_recorded strike_commands no_entry entries (λ k within. strike_recorded (get_or entries k no_entry) (get_or entries k no_entry).struck (known k within))))
 
-known_in_row : (words : Dictionary) (count : ℕ) → IsDictionary words → count < 256 → (k : ℕ) → k < length (row words count) → IsKnown (get_or (row words count) k no_entry)
+known_in_row : (words : Dictionary) (count : ℕ) → IsDictionary words → count < 256 → (k : ℕ) → k < length (known_words words count) → IsKnown (get_or (known_words words count) k no_entry)
 known_in_row words count is below k within =
     let are = is.words count in
-    let size : length (get_or (row words count) k no_entry).word ≡ count = are.long k no_entry within in
-    let several : 2 ≤ count = at_least (row words count) (is.none_shorter count) within in
+    let size : length (get_or (known_words words count) k no_entry).word ≡ count = are.long k no_entry within in
+    let several : 2 ≤ count = at_least (known_words words count) (is.none_shorter count) within in
     ((are.letters k no_entry within, omega (arith, size, several), omega (arith, size, below)), are.graded k no_entry within)
   where
     at_least : (entries : List Entry) → (count < 2 → entries ≡ []) → k < length entries → 2 ≤ count
@@ -104,7 +104,7 @@ words_recorded begun words is n most =
     each_recorded (length_commands begun words) 0 (range_with_len 0 n) (λ i within.
     let below : i < n = omega (arith, within, length-range_with_len 0 n) in
     let at : get_or (range_with_len 0 n) i 0 ≡ i = get_or-range_with_len 0 n i 0 below ∙ zero-add i in
-    subst (λ count. AreRecorded (length_commands begun words count)) (sym at) (row_recorded (row words i) (get_or begun i 0) (known_in_row words i is (omega (arith, below, most)))))
+    subst (λ count. AreRecorded (length_commands begun words count)) (sym at) (row_recorded (known_words words i) (get_or begun i 0) (known_in_row words i is (omega (arith, below, most)))))
 
 least_recorded : (least : ℕ) (b : Bool) → least ≤ best_grade → AreRecorded (if b then [] else changes.Least least ∷ [])
 least_recorded least true small = tt

@@ -18,7 +18,7 @@ use Rattle.xw_commands.specs.declared.command.Field.{Field}
 use Rattle.xw_commands.specs.Command.{command_of}
 use Rattle.xw_lines.specs.declared.outcome.Step.{Step}
 use Rattle.xw_lines.specs.declared.outcome.Step.TheVariants.{Silent, Accepted, Refused}
-use Rattle.xw_lines.specs.Spoken.{refusals as refused_count}
+use Rattle.xw_lines.specs.Spoken.{refusals as spoken_refusals}
 use Rattle.xw_answers.specs.declared.refusal.CommandRefusal.{CommandRefusal}
 use Rattle.xw_answers.specs.declared.refusal.CommandRefusal.TheVariants as refusals
 use Rattle.xw_session.specs.declared.resuming.Stop.TheVariants.{NoCommand, Memory}
@@ -142,7 +142,7 @@ no_fault state next (Err fault) e = cc
 
 -- ---- one line
 
-not_counted : (step : Step) → (step ≡ Refused → ⊥) → refused_count step ≡ 0
+not_counted : (step : Step) → (step ≡ Refused → ⊥) → spoken_refusals step ≡ 0
 not_counted Silent other = refl
 not_counted Accepted other = refl
 not_counted Refused other = absurd (other refl)

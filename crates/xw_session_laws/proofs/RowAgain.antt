@@ -9,12 +9,12 @@ use Rattle.std.proofs.lemmas.Bool.{cases_lt, cases_eq}
 use Rattle.std.proofs.lemmas.Bool.Decides.{nat_tests}
 use Rattle.std.proofs.lemmas.List.{take_more, take_all, length-take-le, length-drop, length-append, get_or-take, length-map, set-set, set-get_or, get_or-map, get_or-drop, get_or_append_left, get_or-append_right, get_or-set_other}
 use Rattle.std.proofs.lemmas.Slice.Eq.{bytes_eq-Decides}
-use Rattle.xw_words.specs.Dictionary.{Entry, AreWords, row, with_row, no_entry, entry_at, index_in, most_words, best_grade, grade_given, new_entry, returned, struck, with_struck, limited, all_limited}
+use Rattle.xw_words.specs.Dictionary.{Entry, AreWords, known_words, with_row, no_entry, entry_at, index_in, most_words, best_grade, grade_given, new_entry, returned, struck, with_struck, limited, all_limited}
 use Rattle.xw_text.proofs.Position.{position_is_some, position_is_none}
 use Rattle.xw_commands.specs.declared.change.Change.{Change}
 use Rattle.xw_commands.specs.declared.change.Change.TheVariants.{Add, Strike}
 use Rattle.xw_session.specs.State.{SessionState}
-use Rattle.xw_session.specs.Reply.{changed as reply_of_change}
+use Rattle.xw_session.specs.Reply.{changed as reply_changed}
 use Rattle.xw_answers.specs.Record.{named_grade, add_command, regrade_commands, strike_commands, row_commands}
 use Rattle.xw_session_laws.specs.Replay.{state_left, replayed, with_words, fresh, IsSince, ComeFirst}
 use Rattle.xw_session_laws.proofs.Replaying.{replayed_both, next_done}
@@ -74,7 +74,7 @@ module _ (state : SessionState) (count : ℕ) (entries : List Entry) (are : AreW
   abbrev with_these : List Entry → SessionState
   with_these es = with_words state (with_row state.engine.words count es)
 
-  row_is : (es : List Entry) → row (with_these es).engine.words count ≡ es
+  row_is : (es : List Entry) → known_words (with_these es).engine.words count ≡ es
   row_is es = get_or-set_same state.engine.words.rows count es [] (omega (arith, short, long))
 
   -- the words at the same places
@@ -101,8 +101,8 @@ module _ (state : SessionState) (count : ℕ) (entries : List Entry) (are : AreW
         ((bytes_eq-Decides _ one.word).1 (same.1 k here))
 
     module _ (es : List Entry) where
-      at : row (with_these es).engine.words (length one.word) ≡ es
-      at = ap (row (with_these es).engine.words) size ∙ row_is es
+      at : known_words (with_these es).engine.words (length one.word) ≡ es
+      at = ap (known_words (with_these es).engine.words) size ∙ row_is es
 
       -- the state after these words changed again
       changed : (next : List Entry) → with_words (with_these es) (with_row (with_these es).engine.words (length one.word) next) ≡ with_these next
@@ -110,20 +110,20 @@ module _ (state : SessionState) (count : ℕ) (entries : List Entry) (are : AreW
           ap (λ m. with_words state (with_row (with_these es).engine.words m next)) size
           ∙ ap (λ rows. with_words state (record { rows = rows; least = state.engine.words.least })) (set-set state.engine.words.rows count es next)
 
-      add_new : index_in es one.word ≡ None → length es < most_words → state_left (reply_of_change (with_these es) (Add one.word (named_grade one.grade))) ≡ Some (with_these (es ++ fresh one.word one.grade ∷ []))
+      add_new : index_in es one.word ≡ None → length es < most_words → state_left (reply_changed (with_these es) (Add one.word (named_grade one.grade))) ≡ Some (with_these (es ++ fresh one.word one.grade ∷ []))
       add_new new room =
           added_again (with_these es) one.word es itself at (named_grade one.grade) new room
           ∙ ap Some (changed _)
           ∙ ap (λ least. Some (with_these (es ++ new_entry least one.word (named_grade one.grade) ∷ []))) none_out
           ∙ ap (λ e. Some (with_these (es ++ e ∷ []))) (new_fresh one.word one.grade small)
 
-      add_back : AreSame es → (entry_at es k).active ≡ false → state_left (reply_of_change (with_these es) (Add one.word (Some one.grade))) ≡ Some (with_these (set es k (returned 0 (Some one.grade) (entry_at es k))))
+      add_back : AreSame es → (entry_at es k).active ≡ false → state_left (reply_changed (with_these es) (Add one.word (Some one.grade))) ≡ Some (with_these (set es k (returned 0 (Some one.grade) (entry_at es k))))
       add_back same off =
           returned_again (with_these es) one.word es itself at (Some one.grade) k (its_index es same) off
           ∙ ap Some (changed _)
           ∙ ap (λ least. Some (with_these (set es k (returned least (Some one.grade) (entry_at es k))))) none_out
 
-      strike : AreSame es → (entry_at es k).struck ≡ false → state_left (reply_of_change (with_these es) (Strike one.word)) ≡ Some (with_these (with_struck es k))
+      strike : AreSame es → (entry_at es k).struck ≡ false → state_left (reply_changed (with_these es) (Strike one.word)) ≡ Some (with_these (with_struck es k))
       strike same off = struck_again (with_these es) one.word es itself at k (its_index es same) off ∙ ap Some (changed _)
 
   -- ---- added
@@ -314,7 +314,7 @@ module _ (state : SessionState) (count : ℕ) (entries : List Entry) (are : AreW
         ∙ ap (λ es. Some (with_these es)) (mixed_all settled all_eased (length entries) length-settled (sym (length-map entries (limited 0))))
 
     -- the words as they are, while no word is left out
-    pub row_again : row state.engine.words count ≡ begun → replayed state (row_commands entries (length begun)) ≡ Some (with_these settled)
+    pub row_again : known_words state.engine.words count ≡ begun → replayed state (row_commands entries (length begun)) ≡ Some (with_these settled)
     row_again start =
         let begins : with_these begun ≡ state =
         ap (λ es. with_these es) (sym start) ∙ ap (λ rows. with_words state (record { rows = rows; least = state.engine.words.least })) (set-get_or state.engine.words.rows count []) in

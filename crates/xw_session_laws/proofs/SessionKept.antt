@@ -1,6 +1,6 @@
 -- The properties of a session hold after every line.
 use Rattle.std.proofs.Common.{◌≡◌, ℕ, ◌<◌, Bool, true, false, not, ◌&&◌, ◌||◌, List, [], ◌∷◌, ◌++◌, map, get_or, Some, None, refl, sym, ◌∙◌, ap, subst, arith}
-use Rattle.std.specs.Prelude.{Option, option_map, Result, Ok, Err, nat_eq, nat_le, nat_lt, position as bad_at, if◌then◌else◌, slice_get, slice_index_or}
+use Rattle.std.specs.Prelude.{Option, option_map, Result, Ok, Err, nat_eq, nat_le, nat_lt, position, if◌then◌else◌, slice_get, slice_index_or}
 use Rattle.std.specs.Option.{option_and_then}
 use Rattle.std.proofs.lemmas.List.Folds.{list_any-append}
 use Rattle.std.proofs.lemmas.Option.{slice_get_within, get_or_from_slice_get}
@@ -21,7 +21,7 @@ use Rattle.xw_grid.specs.Clue.{ClueMap, no_clues, with_clue, with_circle, is_cir
 use Rattle.xw_grid.specs.Light.{lights_of, no_light, index_named, cells_of}
 use Rattle.xw_grid.proofs.OrderLemmas.{lights_are_made, made_inside}
 use Rattle.xw_feas.specs.declared.edit.Refusal.{Refusal}
-use Rattle.xw_feas.specs.State.{State, Action, letter_set, cell_cleared, word_placed, list_written, block_toggled, bar_toggled, symmetry_chosen, word_added, word_struck, least_chosen, after, with_grid as with_edited, with_words as with_dictionary, by_fault, with_letters, spelled_in, placed_in, then_write, write_list}
+use Rattle.xw_feas.specs.State.{State, Action, letter_set, cell_cleared, word_placed, list_written, block_toggled, bar_toggled, symmetry_chosen, word_added, word_struck, least_chosen, after, with_grid, with_words, by_fault, with_letters, spelled_in, placed_in, then_write, write_list}
 use Rattle.xw_feas.specs.WellFormed.{IsWellFormed}
 use Rattle.xw_fill.specs.Position.{position_of, filled_in}
 use Rattle.xw_fill.specs.Search.{found, due, end}
@@ -112,45 +112,45 @@ ok_words one other e = cc
 
 module _ (begun : Dictionary) (engine next : State) (is : IsGrid engine.grid) (only : BarsAreOnEdges engine.grid) (first : AllComeFirst begun engine.words) where
   -- an edit of the grid
-  to_grid : (grid : Grid) → GridKept engine.grid grid → with_edited engine (Ok grid) ≡ Ok next → PositionKept begun engine next
+  to_grid : (grid : Grid) → GridKept engine.grid grid → with_grid engine (Ok grid) ≡ Ok next → PositionKept begun engine next
   to_grid grid kept e =
       let same : record engine { grid = grid } ≡ next = cc in
       subst (PositionKept begun engine) same (record { grid = kept; first = first })
 
-  to_words : (words : Result Dictionary WordFault) → ((made : Dictionary) → words ≡ Ok made → AllComeFirst begun made) → with_dictionary engine words ≡ Ok next → PositionKept begun engine next
+  to_words : (words : Result Dictionary WordFault) → ((made : Dictionary) → words ≡ Ok made → AllComeFirst begun made) → with_words engine words ≡ Ok next → PositionKept begun engine next
   to_words (Ok words) kept e =
       let same : record engine { words = words } ≡ next = cc in
       subst (PositionKept begun engine) same (record { grid = framed engine.grid engine.grid (refl, refl, refl, refl) only; first = kept words refl })
   to_words (Err fault) kept e = cc
 
-  by_two : (a b : Bool) (one other : GridFault) (grid : Grid) → GridKept engine.grid grid → with_edited engine (by_fault (if not a then Err one else if b then Err other else Ok grid)) ≡ Ok next → PositionKept begun engine next
+  by_two : (a b : Bool) (one other : GridFault) (grid : Grid) → GridKept engine.grid grid → with_grid engine (by_fault (if not a then Err one else if b then Err other else Ok grid)) ≡ Ok next → PositionKept begun engine next
   by_two true false one other grid kept e = to_grid grid kept e
   by_two true true one other grid kept e = cc
   by_two false b one other grid kept e = cc
 
-  by_edge : (a b : Bool) (grid : Grid) → (b ≡ true → GridKept engine.grid grid) → with_edited engine (by_fault (if not a then Err grids.OutOfGrid else if not b then Err grids.Border else Ok grid)) ≡ Ok next → PositionKept begun engine next
+  by_edge : (a b : Bool) (grid : Grid) → (b ≡ true → GridKept engine.grid grid) → with_grid engine (by_fault (if not a then Err grids.OutOfGrid else if not b then Err grids.Border else Ok grid)) ≡ Ok next → PositionKept begun engine next
   by_edge true true grid kept e = to_grid grid (kept refl) e
   by_edge true false grid kept e = cc
   by_edge false b grid kept e = cc
 
-  by_one : (a : Bool) (grid : Grid) → GridKept engine.grid grid → with_edited engine (by_fault (if a then Err grids.NotSquare else Ok grid)) ≡ Ok next → PositionKept begun engine next
+  by_one : (a : Bool) (grid : Grid) → GridKept engine.grid grid → with_grid engine (by_fault (if a then Err grids.NotSquare else Ok grid)) ≡ Ok next → PositionKept begun engine next
   by_one false grid kept e = to_grid grid kept e
   by_one true grid kept e = cc
 
-  by_length : (a : Bool) (one : Refusal) (grid : Grid) → GridKept engine.grid grid → with_edited engine (if a then Ok grid else Err one) ≡ Ok next → PositionKept begun engine next
+  by_length : (a : Bool) (one : Refusal) (grid : Grid) → GridKept engine.grid grid → with_grid engine (if a then Ok grid else Err one) ≡ Ok next → PositionKept begun engine next
   by_length true one grid kept e = to_grid grid kept e
   by_length false one grid kept e = cc
 
-  by_spelling : (light : Light) (bad : Option ℕ) (bytes : List ℕ) → with_edited engine (spelled_in engine.grid light bad bytes) ≡ Ok next → PositionKept begun engine next
+  by_spelling : (light : Light) (bad : Option ℕ) (bytes : List ℕ) → with_grid engine (spelled_in engine.grid light bad bytes) ≡ Ok next → PositionKept begun engine next
   by_spelling light (Some at) bytes e = cc
   by_spelling light None bytes e =
       by_length _ _ (with_letters engine.grid (cells_of light) (map folded bytes)) (framed engine.grid _ (letters_framed (cells_of light) engine.grid (map folded bytes)) only) e
 
-  by_index : (index : Option ℕ) (bytes : List ℕ) → with_edited engine (placed_in engine.grid index bytes) ≡ Ok next → PositionKept begun engine next
+  by_index : (index : Option ℕ) (bytes : List ℕ) → with_grid engine (placed_in engine.grid index bytes) ≡ Ok next → PositionKept begun engine next
   by_index None bytes e = cc
-  by_index (Some index) bytes e = by_spelling (slice_index_or (lights_of engine.grid) index no_light) (bad_at is_bad_letter bytes) bytes e
+  by_index (Some index) bytes e = by_spelling (slice_index_or (lights_of engine.grid) index no_light) (position is_bad_letter bytes) bytes e
 
-  by_list : (list : List (Cell × Option ℕ)) (written : Result Grid GridFault) → write_list list engine.grid ≡ written → with_edited engine (by_fault written) ≡ Ok next → PositionKept begun engine next
+  by_list : (list : List (Cell × Option ℕ)) (written : Result Grid GridFault) → write_list list engine.grid ≡ written → with_grid engine (by_fault written) ≡ Ok next → PositionKept begun engine next
   by_list list (Ok grid) made e = to_grid grid (framed engine.grid grid (list_framed list engine.grid grid made) only) e
   by_list list (Err fault) made e = cc
 

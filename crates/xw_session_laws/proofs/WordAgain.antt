@@ -13,9 +13,9 @@ use Rattle.xw_words.specs.declared.bank.Added.{Added}
 use Rattle.xw_words.specs.declared.bank.Added.TheVariants.{New, Returned}
 use Rattle.xw_letters.specs.Letter.{IsLetter, folded}
 use Rattle.xw_words.specs.Word.{is_bad_letter, word_of, judged}
-use Rattle.xw_words.specs.Dictionary.{Dictionary, Entry, row, with_row, entry_at, index_in, most_words, new_entry, returned, with_added, with_struck, added_at, add_to, add_answer, after_add, struck_at, strike_from, strike_answer, after_strike, answer_on}
+use Rattle.xw_words.specs.Dictionary.{Dictionary, Entry, known_words, with_row, entry_at, index_in, most_words, new_entry, returned, with_added, with_struck, added_at, add_to, add_answer, after_add, struck_at, strike_from, strike_answer, after_strike, answer_on}
 use Rattle.xw_text.proofs.Position.{position_is_none}
-use Rattle.xw_feas.specs.State.{answered, with_words as with_dictionary}
+use Rattle.xw_feas.specs.State.{answered, with_words as state_with_words}
 use Rattle.xw_commands.specs.declared.change.Change.{Change}
 use Rattle.xw_commands.specs.declared.change.Change.TheVariants.{Add, Strike}
 use Rattle.xw_session.specs.State.{SessionState}
@@ -77,7 +77,7 @@ unlike a b other = elim (cases_Bool (bytes_eq a b)) [ inl same ↦ absurd (other
 
 -- ---- adding a word, and striking a word
 
-module _ (state : SessionState) (word : List ℕ) (entries : List Entry) (fine : IsItself word) (at : row state.engine.words (length word) ≡ entries) where
+module _ (state : SessionState) (word : List ℕ) (entries : List Entry) (fine : IsItself word) (at : known_words state.engine.words (length word) ≡ entries) where
   abbrev words : Dictionary
   words = state.engine.words
 
@@ -87,10 +87,10 @@ module _ (state : SessionState) (word : List ℕ) (entries : List Entry) (fine :
 
   added_so : (grade : Option ℕ) (added : Added) → added_at entries (index_in entries word) ≡ Ok added → state_left (changed state (Add word grade)) ≡ Some (with_these (with_added words.least entries word grade added))
   added_so grade added is =
-      let left : Result Added WordFault → Option SessionState = λ answer. state_left (moved state (with_dictionary state.engine (answered (after_add words (map folded word) grade) answer))) in
+      let left : Result Added WordFault → Option SessionState = λ answer. state_left (moved state (state_with_words state.engine (answered (after_add words (map folded word) grade) answer))) in
       let answer : add_answer words word ≡ Ok added = ap (answer_on add_to words) fine.0 ∙ ap (λ es. add_to es word) at ∙ is in
       ap left answer
-      ∙ ap (λ w. Some (with_words state (with_row words (length w) (with_added words.least (row words (length w)) w grade added)))) fine.1
+      ∙ ap (λ w. Some (with_words state (with_row words (length w) (with_added words.least (known_words words (length w)) w grade added)))) fine.1
       ∙ ap (λ es. Some (with_these (with_added words.least es word grade added))) at
 
   -- a new word
@@ -106,9 +106,9 @@ module _ (state : SessionState) (word : List ℕ) (entries : List Entry) (fine :
 
   pub struck_again : (index : ℕ) → index_in entries word ≡ Some index → (entry_at entries index).struck ≡ false → state_left (changed state (Strike word)) ≡ Some (with_these (with_struck entries index))
   struck_again index known off =
-      let left : Result ℕ WordFault → Option SessionState = λ answer. state_left (moved state (with_dictionary state.engine (answered (after_strike words (map folded word)) answer))) in
+      let left : Result ℕ WordFault → Option SessionState = λ answer. state_left (moved state (state_with_words state.engine (answered (after_strike words (map folded word)) answer))) in
       let answer : strike_answer words word ≡ Ok index =
       ap (answer_on strike_from words) fine.0 ∙ ap (λ es. strike_from es word) at ∙ ap (struck_at entries) known ∙ ap (λ b. if b then Err Unknown else Ok index) off in
       ap left answer
-      ∙ ap (λ w. Some (with_words state (with_row words (length w) (with_struck (row words (length w)) index)))) fine.1
+      ∙ ap (λ w. Some (with_words state (with_row words (length w) (with_struck (known_words words (length w)) index)))) fine.1
       ∙ ap (λ es. Some (with_these (with_struck es index))) at

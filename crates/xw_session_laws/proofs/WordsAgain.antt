@@ -8,7 +8,7 @@ use Rattle.std.proofs.lemmas.Bool.{cases_lt}
 use Rattle.std.proofs.lemmas.Bool.Decides.{nat_tests}
 use Rattle.std.proofs.lemmas.List.{length-map, get_or-map, get_or_default, same_lists}
 use Rattle.std.proofs.lemmas.List.FromFn.{get_or-range_with_len, length-range_with_len, get_or-map-range_with_len}
-use Rattle.xw_words.specs.Dictionary.{Dictionary, Entry, IsDictionary, AreLeft, row, capped, limited, all_limited, with_least}
+use Rattle.xw_words.specs.Dictionary.{Dictionary, Entry, IsDictionary, AreLeft, known_words, capped, limited, all_limited, with_least}
 use Rattle.xw_commands.specs.declared.change.Change.TheVariants.{Least}
 use Rattle.xw_session.specs.State.{SessionState}
 use Rattle.xw_answers.specs.Record.{known_counts, row_commands, length_commands, least_commands, word_commands}
@@ -61,7 +61,7 @@ module _ (words : Dictionary) (is : IsDictionary words) where
       let same : map (all_limited 0) words.rows ≡ words.rows =
       same_lists (map (all_limited 0) words.rows) words.rows (length-map words.rows (all_limited 0)) (λ k d within.
       let here : k < length words.rows = omega (arith, within, length-map words.rows (all_limited 0)) in
-      get_or-map (all_limited 0) words.rows k [] d here ∙ limited_once (get_or words.rows k []) (subst (λ n. AreLeft n (row words k)) least (is.left k)) ∙ get_or_default words.rows k [] d here) in
+      get_or-map (all_limited 0) words.rows k [] d here ∙ limited_once (get_or words.rows k []) (subst (λ n. AreLeft n (known_words words k)) least (is.left k)) ∙ get_or_default words.rows k [] d here) in
       ap (λ rows. record { rows = rows; least = 0 }) same ∙ ap (λ n. record { rows = words.rows; least = n }) (sym least)
 
   least_again : with_least words.least (all_in words) ≡ words
@@ -84,7 +84,7 @@ module _ (words : Dictionary) (is : IsDictionary words) where
 -- ---- the whole dictionary
 
 module _ (state : SessionState) (begun words : Dictionary) (is : IsDictionary words) (was : length begun.rows ≡ 256) (least : begun.least ≡ 0) (now : state.engine.words ≡ begun)
-    (first : (count : ℕ) → ComeFirst (row begun count) (row words count)) where
+    (first : (count : ℕ) → ComeFirst (known_words begun count) (known_words words count)) where
   abbrev settled : List (List Entry)
   settled = map (all_limited 0) words.rows
 
@@ -101,29 +101,29 @@ module _ (state : SessionState) (begun words : Dictionary) (is : IsDictionary wo
     within : k < length settled
     within = omega (arith, below, length-settled)
 
-    row_now : row (after k).engine.words k ≡ row begun k
+    row_now : known_words (after k).engine.words k ≡ known_words begun k
     row_now = mixed_next settled begun.rows as_many k [] within
 
-    row_settled : get_or settled k [] ≡ all_limited 0 (row words k)
+    row_settled : get_or settled k [] ≡ all_limited 0 (known_words words k)
     row_settled = get_or-map (all_limited 0) words.rows k [] [] (omega (arith, below, is.lengths))
 
-    length_again : replayed (after k) (row_commands (row words k) (length (row begun k))) ≡ Some (after (k + 1))
+    length_again : replayed (after k) (row_commands (known_words words k) (length (known_words begun k))) ≡ Some (after (k + 1))
     length_again = elim (cases_lt k 2) [
       | inl short ↦
-          let none : row words k ≡ [] = is.none_shorter k short in
-          let none_before : row begun k ≡ [] = none_begun (row begun k) (omega (arith, (first k).few, ap length none)) in
-          ap (λ es. replayed (after k) (row_commands es (length (row begun k)))) none
-          ∙ ap (replayed (after k)) (none_to_add (length (row begun k)))
+          let none : known_words words k ≡ [] = is.none_shorter k short in
+          let none_before : known_words begun k ≡ [] = none_begun (known_words begun k) (omega (arith, (first k).few, ap length none)) in
+          ap (λ es. replayed (after k) (row_commands es (length (known_words begun k)))) none
+          ∙ ap (replayed (after k)) (none_to_add (length (known_words begun k)))
           ∙ ap (λ rows. Some (with_words state (record { rows = rows; least = begun.least })))
           (sym (mixed_same settled begun.rows as_many k [] within (none_before ∙ sym (row_settled ∙ ap (all_limited 0) none))))
       | inr several ↦
           let long : length (after k).engine.words.rows ≡ 256 = length-mixed settled begun.rows as_many k [] within ∙ length-settled in
-          row_again (after k) k (row words k) (is.words k) several (omega (arith, below)) long least (row begun k) (first k) row_now
+          row_again (after k) k (known_words words k) (is.words k) several (omega (arith, below)) long least (known_words begun k) (first k) row_now
           ∙ ap (λ rows. Some (with_words state (record { rows = rows; least = begun.least })))
           (ap (set (mixed settled begun.rows k) k) (sym row_settled) ∙ sym (mixed_more settled begun.rows as_many k [] within))
     ]
 
-  some_lengths : (n : ℕ) → n ≤ 256 → (counts : List ℕ) → ((k : ℕ) → k < n → get_or counts k 0 ≡ length (row begun k))
+  some_lengths : (n : ℕ) → n ≤ 256 → (counts : List ℕ) → ((k : ℕ) → k < n → get_or counts k 0 ≡ length (known_words begun k))
       → replayed state (flat_map (length_commands counts words) (range_with_len 0 n)) ≡ Some (after n)
   some_lengths n most counts are =
       let start : state ≡ after 0 = ap (λ ws. with_words state ws) now in
@@ -133,13 +133,13 @@ module _ (state : SessionState) (begun words : Dictionary) (is : IsDictionary wo
       let below : i < n = omega (arith, inside, size) in
       let at : get_or (range_with_len 0 n) i 0 ≡ i = get_or-range_with_len 0 n i 0 below ∙ zero-add i in
       ap (λ k. replayed (after i) (length_commands counts words k)) at
-      ∙ ap (λ m. replayed (after i) (row_commands (row words i) m)) (are i below)
+      ∙ ap (λ m. replayed (after i) (row_commands (known_words words i) m)) (are i below)
       ∙ length_again i (omega (arith, below, most)))
       ∙ ap (λ m. Some (after m)) size
 
   all_lengths : replayed state (flat_map (length_commands (known_counts begun) words) (range_with_len 0 256)) ≡ Some (with_words state (all_in words))
   all_lengths =
-      some_lengths 256 (omega arith) (known_counts begun) (λ k below. get_or-map-range_with_len (λ count. length (row begun count)) 0 256 k k 0 below (zero-add k))
+      some_lengths 256 (omega arith) (known_counts begun) (λ k below. get_or-map-range_with_len (λ count. length (known_words begun count)) 0 256 k k 0 below (zero-add k))
       ∙ ap (λ rows. Some (with_words state (record { rows = rows; least = begun.least }))) (mixed_all settled begun.rows 256 as_many (sym length-settled))
       ∙ ap (λ n. Some (with_words state (record { rows = settled; least = n }))) least
 

@@ -1,7 +1,7 @@
 -- Executing commands one after another when no allocation fails, and the laws of records.
 use Rattle.std.specs.Prelude.{◌≡◌, ℕ, ◌+◌, ◌<◌, ◌≤◌, true, false, List, [], ◌∷◌, ◌++◌, map, length, slice_index_or, Option, Some, None, Result, Ok, Err}
 use Rattle.std.specs.Option.{option_and_then}
-use Rattle.xw_words.specs.Dictionary.{Dictionary, Entry, IsDictionary, row, entry_at}
+use Rattle.xw_words.specs.Dictionary.{Dictionary, Entry, IsDictionary, known_words, entry_at}
 use Rattle.xw_grid.specs.declared.cell.Square.{Square}
 use Rattle.xw_grid.specs.declared.cell.Square.TheVariants.{Block, Open}
 use Rattle.xw_grid.specs.declared.cell.Cell.{Cell}
@@ -125,7 +125,7 @@ pub record BeganWith (words : Dictionary) (state : SessionState) : Type 0 where
   pub known : IsDictionary words
   pub least : words.least ≡ 0
   pub dictionary : IsDictionary state.engine.words
-  pub first : (count : ℕ) → ComeFirst (row words count) (row state.engine.words count)
+  pub first : (count : ℕ) → ComeFirst (known_words words count) (known_words state.engine.words count)
   pub begun : state.begun ≡ known_counts words
   pub texts : (name : TextField) → has_nul (text_of_field state.texts name) ≡ false
   pub clues : (direction : Direction) → AreTextsFrom state.engine.grid 0 (clues_of state.clues direction)
@@ -134,7 +134,7 @@ pub record BeganWith (words : Dictionary) (state : SessionState) : Type 0 where
 -- no word is left out or struck, and none came back with another grade
 pub record IsFresh (words : Dictionary) : Type 0 where
   pub least : words.least ≡ 0
-  pub first : (count : ℕ) → ComeFirst (row words count) (row words count)
+  pub first : (count : ℕ) → ComeFirst (known_words words count) (known_words words count)
 
 -- a session started on a dictionary to which nothing was done, with no texts, clues and circles, meets the invariant
 abbrev pub SessionsBegin : Type 0

@@ -4,7 +4,7 @@
 
 ghost use Rattle.std.specs.Prelude.{◌≡◌, ℕ, ◌++◌, ◌*◌, List, [], map, replicate, filter, None, Some, true, false};
 ghost use Rattle.std.specs.Option.{option_and_then};
-ghost use Rattle.xw_words.specs.Dictionary.{IsDictionary, row, no_words};
+ghost use Rattle.xw_words.specs.Dictionary.{IsDictionary, known_words, no_words};
 ghost use Rattle.xw_words.specs.WordList.{listed_in};
 ghost use Rattle.xw_grid.specs.declared.cell.Direction.{Direction};
 ghost use Rattle.xw_grid.specs.declared.cell.Direction.TheVariants.{Across, Down};
@@ -69,7 +69,7 @@ pub fn words_are_made_again()
     ensures { (state made : SessionState) → IsDictionary state.engine.words → IsDictionary made.engine.words
         → state.engine.words.least ≡ 0
         → made.begun ≡ known_counts state.engine.words
-        → ((count : ℕ) → ComeFirst (row state.engine.words count) (row made.engine.words count))
+        → ((count : ℕ) → ComeFirst (known_words state.engine.words count) (known_words made.engine.words count))
         → replayed state (section_commands made sections.Words) ≡ Some (with_words state made.engine.words) }
 {}
 

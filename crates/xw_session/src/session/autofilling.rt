@@ -1,7 +1,7 @@
 //! Answers `autofill`.
 ghost use Rattle.std.specs.Prelude.{◌≡◌, ◌+◌, ◌≤◌, IfOk, IfErr, OnOk, OnErr};
 ghost use Rattle.xw_fill.specs.NamedFill.{IsAutofilled, is_named, AreLights};
-ghost use Rattle.xw_session.specs.NamedSearch.{names_of as names_of_lights, IsUnsearched};
+ghost use Rattle.xw_session.specs.NamedSearch.{names_of as spec_names_of, IsUnsearched};
 ghost use Rattle.xw_session.specs.Answer.{AnswersSearch};
 
 use crate::lookup::names_of;
@@ -10,6 +10,7 @@ use crate::session::ending::{Ended, answer_lines};
 use std::alloc::Global;
 use xw_commands::lights::LightArgs;
 use xw_feas::edit::Refusal;
+use xw_feas::progress::{News, Task};
 use xw_feas::searchable::Searchable;
 use xw_fill::allowance::Allowance;
 use xw_fill::named_lights::{Hint, autofill};
@@ -27,9 +28,9 @@ fn filled<E: Searchable>(
     seed: u64,
     hint: &mut Option<Hint>,
 ) -> Result<Filling, Refusal>
-    ensures ok { IfOk result (IsAutofilled (is_named (E.state engine.old) (names_of_lights lights.entry)) (E.state engine.old) (E.state engine.new)) }
-    ensures known { OnOk result (AreLights (E.state engine.old) (names_of_lights lights.entry)) }
-    ensures refused { IfErr result (IsUnsearched (E.state engine.old) (names_of_lights lights.entry)) }
+    ensures ok { IfOk result (IsAutofilled (is_named (E.state engine.old) (spec_names_of lights.entry)) (E.state engine.old) (E.state engine.new)) }
+    ensures known { OnOk result (AreLights (E.state engine.old) (spec_names_of lights.entry)) }
+    ensures refused { IfErr result (IsUnsearched (E.state engine.old) (spec_names_of lights.entry)) }
     ensures unchanged { OnErr result (E.state engine.new ≡ E.state engine.old) }
     ensures idle { limit ≡ 0 → E.state engine.new ≡ E.state engine.old }
     ensures within { E.placed engine.new ≤ limit + E.placed engine.old }
@@ -53,6 +54,7 @@ impl<E: Searchable> Session<E> {
     ) -> Result<Ended, WriteFailed>
         ensures { AnswersSearch W.transcript W.failures self.old (searches.Autofill limit seed lights.entry) result self.new sink.old sink.new }
     {
+        self.engine.tell(News::Begins(Task::Autofill));
         let filled = filled(
             self.alloc,
             &mut self.engine,
@@ -61,6 +63,7 @@ impl<E: Searchable> Session<E> {
             seed,
             &mut self.hints.autofill,
         );
+        self.engine.tell(News::Ends);
         self.hints
             .end_autofill_if(matches!(filled, Ok(Filling::Filled)));
         answer_lines(sink, filled)

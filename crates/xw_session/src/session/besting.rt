@@ -5,7 +5,7 @@ ghost use Rattle.xw_fill.specs.Best.{IsBest};
 ghost use Rattle.xw_fill.specs.OneSearch.{IsBestWithin};
 ghost use Rattle.xw_lines.specs.Sends.{Sends};
 ghost use Rattle.xw_answers.specs.Text.{number_line};
-ghost use Rattle.xw_session.specs.NamedSearch.{names_of as names_of_lights, IsUnsearched};
+ghost use Rattle.xw_session.specs.NamedSearch.{names_of as spec_names_of, IsUnsearched};
 ghost use Rattle.xw_session.specs.Answer.{AnswersSearch};
 
 use crate::lookup::names_of;
@@ -15,6 +15,7 @@ use std::alloc::Global;
 use xw_answers::text;
 use xw_commands::lights::LightArgs;
 use xw_feas::edit::Refusal;
+use xw_feas::progress::{News, Task};
 use xw_feas::searchable::Searchable;
 use xw_fill::allowance::Allowance;
 use xw_fill::best::{Best, BestHint, best_fill};
@@ -32,10 +33,10 @@ fn best_filled<E: Searchable>(
     seed: u64,
     hint: &mut Option<BestHint>,
 ) -> Result<Best, Refusal>
-    ensures ok { IfOk result (IsBest (is_named (E.state engine.old) (names_of_lights lights.entry)) (E.state engine.old) (E.state engine.new)) }
-    ensures within { IfOk result (IsBestWithin E.state E.saved (is_named (E.state engine.old) (names_of_lights lights.entry)) engine.old engine.new limit) }
-    ensures known { OnOk result (AreLights (E.state engine.old) (names_of_lights lights.entry)) }
-    ensures refused { IfErr result (IsUnsearched (E.state engine.old) (names_of_lights lights.entry)) }
+    ensures ok { IfOk result (IsBest (is_named (E.state engine.old) (spec_names_of lights.entry)) (E.state engine.old) (E.state engine.new)) }
+    ensures within { IfOk result (IsBestWithin E.state E.saved (is_named (E.state engine.old) (spec_names_of lights.entry)) engine.old engine.new limit) }
+    ensures known { OnOk result (AreLights (E.state engine.old) (spec_names_of lights.entry)) }
+    ensures refused { IfErr result (IsUnsearched (E.state engine.old) (spec_names_of lights.entry)) }
     ensures unchanged { OnErr result (E.state engine.new ≡ E.state engine.old) }
     ensures idle { limit ≡ 0 → E.state engine.new ≡ E.state engine.old }
     ensures placed { E.placed engine.new ≤ limit + E.placed engine.old }
@@ -86,6 +87,7 @@ impl<E: Searchable> Session<E> {
     ) -> Result<Ended, WriteFailed>
         ensures { AnswersSearch W.transcript W.failures self.old (searches.Best limit seed lights.entry) result self.new sink.old sink.new }
     {
+        self.engine.tell(News::Begins(Task::Best));
         let best = best_filled(
             self.alloc,
             &mut self.engine,
@@ -94,6 +96,7 @@ impl<E: Searchable> Session<E> {
             seed,
             &mut self.hints.best,
         );
+        self.engine.tell(News::Ends);
         self.hints
             .end_autofill_if(matches!(best, Ok(Best::Filled { .. })));
         answer_lines(sink, best)

@@ -1,11 +1,11 @@
 //! Commands that change the grid's size, texts, clues, circles or the watch.
 ghost use Rattle.std.specs.Prelude.{◌≡◌, IfOk, IfErr, OnOk, OnErr, IsOk, IsOkUnless, [], Some, Err, true, false, not};
-ghost use Rattle.xw_grid.specs.Grid.{Grid as AnyGrid, is_inside, is_open as is_open_cell};
+ghost use Rattle.xw_grid.specs.Grid.{Grid as SpecGrid, is_inside, is_open as spec_is_open};
 ghost use Rattle.xw_grid.specs.Light.{lights_of};
 ghost use Rattle.xw_grid.specs.Clue.{is_circled, with_circle};
-ghost use Rattle.xw_answers.specs.Escape.{has_nul as has_nul_byte};
-ghost use Rattle.xw_session.specs.Reply.{light_named as light_named_so, start_named, circle_toggled};
-ghost use Rattle.xw_session.specs.State.{SessionState, cell_of, drawn, with_text_in};
+ghost use Rattle.xw_answers.specs.Escape.{has_nul as spec_has_nul};
+ghost use Rattle.xw_session.specs.Reply.{light_named as spec_light_named, start_named, circle_toggled};
+ghost use Rattle.xw_session.specs.State.{SessionState, cell_of, drawn, seen, with_text_in};
 ghost use Rattle.xw_session.specs.Answer.{Edits};
 
 use crate::lookup::light_name;
@@ -21,7 +21,7 @@ use xw_grid::{Cell, Circles, Clues, Grid, GridFault, Light, Lights};
 
 /// Returns whether a text has a NUL.
 pub(crate) fn has_nul(text: &[u8]) -> bool
-    ensures { result ≡ has_nul_byte text.now }
+    ensures { result ≡ spec_has_nul text.now }
 {
     text.iter().any(|byte| *byte == 0)
 }
@@ -39,8 +39,8 @@ fn kept(alloc: Global, text: &[u8]) -> Result<Vec<u8>, GridFault>
 }
 
 /// Returns the cell at a row and column, which must be an open one. Returns `OutOfGrid`, then `OnBlock`.
-pub(crate) fn circle_cell(grid: &Grid, spot: CellArg) -> Result<Cell, Refusal>
-    ensures ok { IfOk result (λ cell. (cell ≡ cell_of spot) × (is_inside grid.now (cell_of spot) ≡ true) × (is_open_cell grid.now (cell_of spot) ≡ true)) }
+fn circle_cell(grid: &Grid, spot: CellArg) -> Result<Cell, Refusal>
+    ensures ok { IfOk result (λ cell. (cell ≡ cell_of spot) × (is_inside grid.now (cell_of spot) ≡ true) × (spec_is_open grid.now (cell_of spot) ≡ true)) }
     ensures refused { (state : SessionState) → state.engine.grid ≡ grid.now → IfErr result (λ refusal. circle_toggled state (cell_of spot) ≡ Err (CommandRefusal.Engine refusal)) }
 {
     let cell = cell_in(grid, spot)?;
@@ -53,7 +53,7 @@ pub(crate) fn circle_cell(grid: &Grid, spot: CellArg) -> Result<Cell, Refusal>
 /// Returns the light that a command names in a grid with these lights.
 fn light_in(grid: &Grid, lights: &Lights, named: LightArg) -> Option<Light>
     requires { lights.now ≡ lights_of grid.now }
-    ensures { result ≡ light_named_so grid.now named }
+    ensures { result ≡ spec_light_named grid.now named }
 {
     grid.well_formed();
     match light_name(named) {
@@ -88,7 +88,7 @@ impl<E: Feasible> Session<E> {
     }
 
     pub(crate) fn light(&self, named: LightArg) -> Option<Light>
-        ensures { result ≡ light_named_so self.now.engine.grid named }
+        ensures { result ≡ spec_light_named self.now.engine.grid named }
     {
         light_in(self.engine.grid(), self.engine.lights(), named)
     }
@@ -108,7 +108,7 @@ impl<E: Feasible> Session<E> {
 
     /// Replaces the clue of a light of any grid that begins at a cell, or refuses this if there is no light.
     pub(crate) fn keep_clue(&mut self, named: LightArg, start: Option<Cell>, text: &[u8]) -> Ended
-        ensures done { (grid : AnyGrid) → start_named grid named ≡ start → Edits (drawn self.old grid) (changes.Clue named text.now) result (drawn self.new grid) }
+        ensures done { (grid : SpecGrid) → start_named grid named ≡ start → Edits (drawn self.old grid) (changes.Clue named text.now) result (drawn self.new grid) }
         ensures engine { self.new.engine ≡ self.old.engine }
         ensures begun { self.new.begun ≡ self.old.begun }
     {
@@ -122,16 +122,19 @@ impl<E: Feasible> Session<E> {
         Ok(())
     }
 
-    pub(crate) fn toggle_circle(&mut self, spot: CellArg) -> Ended
-        ensures { Edits self.old (changes.Circle spot) result self.new }
+    /// Toggles the circle of a cell of the draft, or of the grid if there is no draft.
+    pub(crate) fn toggle_circle(&mut self, draft: Option<&Grid>, spot: CellArg) -> Ended
+        ensures done { Edits (seen self.old draft.entry) (changes.Circle spot) result (seen self.new draft.entry) }
+        ensures engine { self.new.engine ≡ self.old.engine }
+        ensures begun { self.new.begun ≡ self.old.begun }
     {
-        let cell = circle_cell(self.engine.grid(), spot)?;
+        let cell = circle_cell(self.grid_of(draft), spot)?;
         self.flip_circle(cell)?;
         Ok(())
     }
 
     /// Toggles the circle of a cell. Fails only if an allocation fails, and then changes nothing.
-    pub(crate) fn flip_circle(&mut self, cell: Cell) -> Result<(), GridFault>
+    fn flip_circle(&mut self, cell: Cell) -> Result<(), GridFault>
         ensures ok { OnOk result (self.new ≡ record self.old { circles = with_circle self.old.circles cell (not (is_circled self.old.circles cell)) }) }
         ensures err { OnErr result (self.new ≡ self.old) }
         ensures memory { IfErr result (λ fault. (fault ≡ GridFault.Memory) × (is_circled self.old.circles cell ≡ false)) }
@@ -142,7 +145,7 @@ impl<E: Feasible> Session<E> {
 
     /// Replaces a text of the puzzle.
     pub(crate) fn write(&mut self, field: TextField, text: &[u8]) -> Ended
-        ensures done { (grid : AnyGrid) → Edits (drawn self.old grid) (changes.Write field text.now) result (drawn self.new grid) }
+        ensures done { (grid : SpecGrid) → Edits (drawn self.old grid) (changes.Write field text.now) result (drawn self.new grid) }
         ensures engine { self.new.engine ≡ self.old.engine }
         ensures begun { self.new.begun ≡ self.old.begun }
     {
@@ -166,7 +169,7 @@ impl<E: Feasible> Session<E> {
     }
 
     pub(crate) fn watch(&mut self, is_on: bool) -> Ended
-        ensures done { (grid : AnyGrid) → Edits (drawn self.old grid) (changes.Watch is_on) result (drawn self.new grid) }
+        ensures done { (grid : SpecGrid) → Edits (drawn self.old grid) (changes.Watch is_on) result (drawn self.new grid) }
         ensures engine { self.new.engine ≡ self.old.engine }
         ensures begun { self.new.begun ≡ self.old.begun }
     {

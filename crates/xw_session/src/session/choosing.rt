@@ -1,12 +1,12 @@
 //! Answers `choices`.
 ghost use Rattle.std.specs.Prelude.{◌≡◌, ◌<◌, ℕ, true, false, length, slice_index_or, [], ◌∷◌, Some, None, IfSome};
 ghost use Rattle.xw_grid.specs.Light.{lights_of, index_named};
-ghost use Rattle.xw_fill.specs.Choices.{fewest_after as fewest_words_after};
-ghost use Rattle.xw_fill.specs.OfState.{light_count, is_entered as is_entered_light, IsTriedAt, spellings_at};
+ghost use Rattle.xw_fill.specs.Choices.{fewest_after as spec_fewest_after};
+ghost use Rattle.xw_fill.specs.OfState.{light_count, is_entered as spec_is_entered, IsTriedAt, spellings_at};
 ghost use Rattle.xw_lines.specs.Sends.{Sends};
 ghost use Rattle.xw_answers.specs.Text.{line_of};
 ghost use Rattle.xw_answers.specs.Token.{token_bytes};
-ghost use Rattle.xw_session.specs.Choices.{number_or_done as number_or_a_done, choice_line, choice_lines, first_index};
+ghost use Rattle.xw_session.specs.Choices.{number_or_done as spec_number_or_done, choice_line, choice_lines, first_index};
 ghost use Rattle.xw_session.specs.Reply.{name_of_light};
 ghost use Rattle.xw_session.specs.Answer.{AnswersQuery};
 
@@ -19,6 +19,8 @@ use xw_answers::text::Pattern;
 use xw_commands::command::{LightArg, Text};
 use xw_feas::edit::Refusal;
 use xw_feas::feasible::Feasible;
+use xw_feas::progress::{News, Task};
+use xw_feas::searchable::Searchable;
 use xw_fill::choices::{fewest_after, fewest_after_any, fewest_words};
 use xw_fill::scan::{is_entered, light_at, name_at, next_word_index, word_count};
 use xw_letters::Letter;
@@ -28,7 +30,7 @@ use xw_words::word::{LONGEST, bad_letter, spell};
 
 /// Returns a number, or `done` if there is none, as a word of a line.
 fn number_or_done(number: Option<usize>) -> Token<'static>
-    ensures { token_bytes result ≡ number_or_a_done number }
+    ensures { token_bytes result ≡ spec_number_or_done number }
 {
     match number {
         Some(number) => Token::Number(number as u64),
@@ -42,7 +44,7 @@ fn write_choice<W: Sink>(
     word: &[Letter],
     fewest: Option<usize>,
 ) -> Result<(), WriteFailed>
-    ensures { Sends W.transcript W.failures sink.old sink.new result (line_of (word.now ∷ number_or_a_done fewest ∷ [])) }
+    ensures { Sends W.transcript W.failures sink.old sink.new result (line_of (word.now ∷ spec_number_or_done fewest ∷ [])) }
 {
     write_line(sink, &[Token::Letters(word), number_or_done(fewest)])
 }
@@ -53,7 +55,7 @@ fn write_entered_choice<W: Sink>(
     word: &[u8],
     fewest: Option<usize>,
 ) -> Result<(), WriteFailed>
-    ensures { Sends W.transcript W.failures sink.old sink.new result (line_of (word.now ∷ number_or_a_done fewest ∷ [])) }
+    ensures { Sends W.transcript W.failures sink.old sink.new result (line_of (word.now ∷ spec_number_or_done fewest ∷ [])) }
 {
     write_line(sink, &[Token::Bytes(word), number_or_done(fewest)])
 }
@@ -78,8 +80,8 @@ fn fewest_at<E: Feasible>(
 ) -> Option<usize>
     requires tried { IsTriedAt (E.state engine.old) light index }
     requires any { IfSome any (λ fewest. (index : ℕ) → IsTriedAt (E.state engine.old) light index
-        → fewest ≡ fewest_words_after (E.state engine.old) light (slice_index_or (spellings_at (E.state engine.old) light) index [])) }
-    ensures fewest { result ≡ fewest_words_after (E.state engine.old) light (slice_index_or (spellings_at (E.state engine.old) light) index []) }
+        → fewest ≡ spec_fewest_after (E.state engine.old) light (slice_index_or (spellings_at (E.state engine.old) light) index [])) }
+    ensures fewest { result ≡ spec_fewest_after (E.state engine.old) light (slice_index_or (spellings_at (E.state engine.old) light) index []) }
     ensures unchanged { E.state engine.new ≡ E.state engine.old }
 {
     match any {
@@ -98,7 +100,7 @@ fn write_choice_at<E: Feasible, W: Sink>(
 ) -> Result<(), WriteFailed>
     requires tried { IsTriedAt (E.state engine.old) light index }
     requires any { IfSome any (λ fewest. (index : ℕ) → IsTriedAt (E.state engine.old) light index
-        → fewest ≡ fewest_words_after (E.state engine.old) light (slice_index_or (spellings_at (E.state engine.old) light) index [])) }
+        → fewest ≡ spec_fewest_after (E.state engine.old) light (slice_index_or (spellings_at (E.state engine.old) light) index [])) }
     ensures sends { Sends W.transcript W.failures sink.old sink.new result (choice_line (E.state engine.old) light (slice_index_or (spellings_at (E.state engine.old) light) index [])) }
     ensures unchanged { E.state engine.new ≡ E.state engine.old }
 {
@@ -106,9 +108,16 @@ fn write_choice_at<E: Feasible, W: Sink>(
     write_choice(sink, known_word(engine, light, index), fewest)
 }
 
+/// Tells how many words were placed, unless none has to be: `any` is what each leaves, if all leave the same.
+fn tell_placed<E: Searchable>(engine: &E, any: Option<Option<usize>>, made: u64, limit: u64) {
+    if any.is_none() {
+        engine.tell(News::Placed { made, limit });
+    }
+}
+
 /// Writes the first feasible words from an index on, at most `most`, of a light that is not wholly entered. `any` is
 /// what each of them leaves, if all leave the same. Leaves the engine's state as it was.
-fn write_choices<E: Feasible, W: Sink>(
+fn write_choices<E: Searchable, W: Sink>(
     sink: &mut W,
     engine: &mut E,
     light: usize,
@@ -117,12 +126,13 @@ fn write_choices<E: Feasible, W: Sink>(
     any: Option<Option<usize>>,
 ) -> Result<(), WriteFailed>
     requires light { light < light_count (E.state engine.old) }
-    requires not_entered { is_entered_light (E.state engine.old) light ≡ false }
+    requires not_entered { spec_is_entered (E.state engine.old) light ≡ false }
     requires any { IfSome any (λ fewest. (index : ℕ) → IsTriedAt (E.state engine.old) light index
-        → fewest ≡ fewest_words_after (E.state engine.old) light (slice_index_or (spellings_at (E.state engine.old) light) index [])) }
+        → fewest ≡ spec_fewest_after (E.state engine.old) light (slice_index_or (spellings_at (E.state engine.old) light) index [])) }
     ensures sends { Sends W.transcript W.failures sink.old sink.new result (choice_lines (E.state engine.old) light first most) }
     ensures unchanged { E.state engine.new ≡ E.state engine.old }
 {
+    let limit = most.min(word_count(engine, light) as u64);
     let mut from = first.unwrap_or(0);
     let mut left = most;
     while left > 0 {
@@ -132,13 +142,14 @@ fn write_choices<E: Feasible, W: Sink>(
         write_choice_at(sink, engine, light, index, any)?;
         from = index + 1;
         left -= 1;
+        tell_placed(engine, any, most.saturating_sub(left), limit);
     }
     Ok(())
 }
 
 /// Writes the first feasible words from an index on, at most `most`, of a light that is not wholly entered. Leaves the
 /// engine's state as it was.
-fn write_unentered<E: Feasible, W: Sink>(
+fn write_unentered<E: Searchable, W: Sink>(
     sink: &mut W,
     engine: &mut E,
     light: usize,
@@ -146,12 +157,15 @@ fn write_unentered<E: Feasible, W: Sink>(
     most: u64,
 ) -> Result<(), WriteFailed>
     requires light { light < light_count (E.state engine.old) }
-    requires not_entered { is_entered_light (E.state engine.old) light ≡ false }
+    requires not_entered { spec_is_entered (E.state engine.old) light ≡ false }
     ensures sends { Sends W.transcript W.failures sink.old sink.new result (choice_lines (E.state engine.old) light first most) }
     ensures unchanged { E.state engine.new ≡ E.state engine.old }
 {
+    engine.tell(News::Begins(Task::Choices));
     let any = fewest_after_any(engine, light);
-    write_choices(sink, engine, light, first, most, any)
+    let written = write_choices(sink, engine, light, first, most, any);
+    engine.tell(News::Ends);
+    written
 }
 
 /// Writes the word of a wholly entered light, if it is feasible and at least one word is asked for.
@@ -162,7 +176,7 @@ fn write_entered<E: Feasible, W: Sink>(
     most: u64,
 ) -> Result<(), WriteFailed>
     requires light { light < light_count (E.state engine.now) }
-    requires entered { is_entered_light (E.state engine.now) light ≡ true }
+    requires entered { spec_is_entered (E.state engine.now) light ≡ true }
     ensures { Sends W.transcript W.failures sink.old sink.new result (choice_lines (E.state engine.now) light None most) }
 {
     if most == 0 || word_count(engine, light) == 0 {
@@ -174,7 +188,7 @@ fn write_entered<E: Feasible, W: Sink>(
 
 /// Writes the first feasible words of a light from an index on, at most `most`, with what each leaves. Leaves the
 /// engine's state as it was.
-fn write_weighed<E: Feasible, W: Sink>(
+fn write_weighed<E: Searchable, W: Sink>(
     sink: &mut W,
     engine: &mut E,
     light: usize,
@@ -231,7 +245,7 @@ fn first_index<E: Feasible>(
     }
 }
 
-impl<E: Feasible> Session<E> {
+impl<E: Searchable> Session<E> {
     ghost use Rattle.xw_commands.specs.declared.query.Query.TheVariants as queries;
 
     /// Returns the index of the light that a command names.

@@ -1,6 +1,6 @@
 //! Answers `erase`.
 ghost use Rattle.std.specs.Prelude.{◌≡◌, ◌+◌, ◌<◌, ◌≤◌, [], ◌∷◌, ◌++◌, None, length, true, false};
-ghost use Rattle.xw_session.specs.Erase.{crossing as crossing_direction, is_held as is_held_cell, is_erased as is_erased_cell, erased_if, erased_cells as erased_cells_of, emptied};
+ghost use Rattle.xw_session.specs.Erase.{crossing as spec_crossing, is_held as spec_is_held, is_erased as spec_is_erased, erased_if, erased_cells as spec_erased_cells, emptied};
 ghost use Rattle.xw_session.specs.Answer.{AnswersChange};
 
 use crate::session::Session;
@@ -26,9 +26,9 @@ struct Emptied {
 
 impl Model for Emptied {
     ghost use Rattle.std.specs.Prelude.{ℕ, ◌≤◌, List, Option, take};
-    ghost use Rattle.xw_grid.specs.declared.cell.Cell.{Cell as AnyCell};
+    ghost use Rattle.xw_grid.specs.declared.cell.Cell.{Cell as SpecCell};
 
-    ghost Value = { List (AnyCell × Option ℕ) };
+    ghost Value = { List (SpecCell × Option ℕ) };
 
     ghost view = { λ emptied. take emptied.count emptied.cells };
 
@@ -62,7 +62,7 @@ impl Emptied {
 
 /// Returns the direction of the lights that cross those of a direction.
 fn crossing(direction: Direction) -> Direction
-    ensures { result ≡ crossing_direction direction }
+    ensures { result ≡ spec_crossing direction }
 {
     match direction {
         Direction::Across => Direction::Down,
@@ -72,7 +72,7 @@ fn crossing(direction: Direction) -> Direction
 
 /// Returns whether the light that crosses those of a direction at a cell is wholly entered.
 fn is_held<E: Feasible>(engine: &E, direction: Direction, cell: Cell) -> bool
-    ensures { result ≡ is_held_cell (E.state engine.now) direction cell }
+    ensures { result ≡ spec_is_held (E.state engine.now) direction cell }
 {
     match light_through(engine.lights(), crossing(direction), cell) {
         Some(light) => is_entered(engine, light),
@@ -82,7 +82,7 @@ fn is_held<E: Feasible>(engine: &E, direction: Direction, cell: Cell) -> bool
 
 /// Returns whether a cell has a letter and, if `spares` is set, no complete word crosses there.
 fn is_erased<E: Feasible>(engine: &E, spares: bool, direction: Direction, cell: Cell) -> bool
-    ensures { result ≡ is_erased_cell (E.state engine.now) spares direction cell }
+    ensures { result ≡ spec_is_erased (E.state engine.now) spares direction cell }
 {
     engine.grid().entry(cell).is_some() && !(spares && is_held(engine, direction, cell))
 }
@@ -107,7 +107,7 @@ fn cells_erased<E: Feasible>(engine: &E, spares: bool, light: &Light) -> Emptied
 fn erased_cells<E: Feasible>(engine: &E, light: &Light) -> Emptied
     requires short { light.now.size ≤ 255 }
     requires inside { (light.now.start.row ≤ 255) × (light.now.start.col ≤ 255) }
-    ensures { result ≡ emptied (erased_cells_of (E.state engine.now) light.now) }
+    ensures { result ≡ emptied (spec_erased_cells (E.state engine.now) light.now) }
 {
     let loose = cells_erased(engine, true, light);
     if loose.list().is_empty() {

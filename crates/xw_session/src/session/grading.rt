@@ -1,4 +1,4 @@
-//! Answers `grades`.
+//! Answers `grade` and `grades`.
 ghost use Rattle.std.specs.Prelude.{◌≡◌, ◌<◌, true, flat_map, is_some};
 ghost use Rattle.std.specs.Option.{option_and_then};
 ghost use Rattle.xw_grid.specs.Light.{lights_of, index_named};
@@ -13,6 +13,7 @@ ghost use Rattle.xw_session.specs.Answer.{AnswersQuery};
 use crate::lookup::{are_lights, known_name};
 use crate::session::Session;
 use crate::session::ending::{Ended, end_answer};
+use xw_answers::answer_line::{Token, write_line};
 use xw_answers::refusal::CommandRefusal;
 use xw_answers::text;
 use xw_commands::command::LightArg;
@@ -106,6 +107,23 @@ fn write_grades<E: Feasible, W: Sink>(
 
 impl<E: Feasible> Session<E> {
     ghost use Rattle.xw_commands.specs.declared.query.Query.TheVariants as queries;
+
+    /// Answers `grade`: the grade of a known word.
+    pub(crate) fn answer_grade<W: Sink>(
+        &self,
+        word: &[u8],
+        sink: &mut W,
+    ) -> Result<Ended, WriteFailed>
+        ensures { AnswersQuery W.transcript W.failures self.now (queries.Grade word.now) result sink.old sink.new }
+    {
+        match self.engine.bank().grade_of(word) {
+            Ok(grade) => {
+                write_line(sink, &[Token::Number(grade as u64)])?;
+                end_answer(sink, Ok(()))
+            }
+            Err(fault) => end_answer(sink, Err(CommandRefusal::Engine(Refusal::Word(fault)))),
+        }
+    }
 
     /// Answers `grades`: the grades of the words of named lights, or of all wholly entered lights.
     pub(crate) fn answer_grades<W: Sink>(

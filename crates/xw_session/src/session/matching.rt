@@ -2,9 +2,9 @@
 ghost use Rattle.std.specs.Prelude.{◌≡◌, ◌<◌, true, false, length};
 ghost use Rattle.xw_feas.specs.Board.{board_of};
 ghost use Rattle.xw_feas.specs.Feasible.{base_words_at};
-ghost use Rattle.xw_fill.specs.OfState.{light_count, is_entered as is_entered_light};
+ghost use Rattle.xw_fill.specs.OfState.{light_count, is_entered as spec_is_entered};
 ghost use Rattle.xw_lines.specs.Sends.{Sends};
-ghost use Rattle.xw_session.specs.Unmatched.{is_unmatched as is_unmatched_light, unmatched_line, unmatched_lines};
+ghost use Rattle.xw_session.specs.Unmatched.{is_unmatched as spec_is_unmatched, unmatched_line, unmatched_lines};
 ghost use Rattle.xw_session.specs.Answer.{AnswersQuery};
 
 use crate::session::Session;
@@ -17,7 +17,7 @@ use xw_lines::device::{Sink, WriteFailed};
 /// Returns whether an active word agrees with the letters of a light that is not wholly entered.
 fn has_base_word<E: Feasible>(engine: &E, light: usize) -> bool
     requires light { light < light_count (E.state engine.now) }
-    requires not_entered { is_entered_light (E.state engine.now) light ≡ false }
+    requires not_entered { spec_is_entered (E.state engine.now) light ≡ false }
     ensures yes { result ≡ true → 0 < length (base_words_at (board_of (E.state engine.now).grid) (E.state engine.now).words light) }
     ensures no { result ≡ false → length (base_words_at (board_of (E.state engine.now).grid) (E.state engine.now).words light) ≡ 0 }
 {
@@ -31,7 +31,7 @@ fn has_base_word<E: Feasible>(engine: &E, light: usize) -> bool
 /// Returns whether a light is not wholly entered and no active word agrees with its letters.
 fn is_unmatched<E: Feasible>(engine: &E, light: usize) -> bool
     requires { light < light_count (E.state engine.now) }
-    ensures { result ≡ is_unmatched_light (E.state engine.now) light }
+    ensures { result ≡ spec_is_unmatched (E.state engine.now) light }
 {
     !is_entered(engine, light) && !has_base_word(engine, light)
 }

@@ -1,9 +1,9 @@
 //! The commands `text` and `more`, which put a text with escapes into a field.
 ghost use Rattle.std.specs.Prelude.{◌≡◌, ℕ, ◌++◌, List, [], true, false, Some, Err, IfOk, IfErr, IsOk, OnOk, OnErr, IsOkUnless};
 ghost use Rattle.xw_answers.specs.Escape.{text_spelled};
-ghost use Rattle.xw_session.specs.Put.{target_of, has_target, CanPut, text_at as text_at_target, with_text_at, with_piece};
-ghost use Rattle.xw_session.specs.Reply.{put as put_reply};
-ghost use Rattle.xw_session.specs.State.{SessionState};
+ghost use Rattle.xw_session.specs.Put.{target_of, has_target, CanPut, text_at as spec_text_at, with_text_at, with_piece};
+ghost use Rattle.xw_session.specs.Reply.{put as spec_put};
+ghost use Rattle.xw_session.specs.State.{SessionState, seen};
 ghost use Rattle.xw_session.specs.Answer.{Edits};
 
 use crate::session::changing::has_nul;
@@ -51,13 +51,9 @@ fn field_target(grid: &Grid, field: Field) -> Result<Target, Refusal>
 
 /// Returns the target of a field into which a spelling may be put. Returns the first refusal that applies, in the order
 /// `Escape`, `OutOfGrid`, `NulByte`.
-pub(crate) fn put_target(
-    grid: &Grid,
-    field: Field,
-    spelling: &[u8],
-) -> Result<Target, CommandRefusal>
+fn put_target(grid: &Grid, field: Field, spelling: &[u8]) -> Result<Target, CommandRefusal>
     ensures ok { IfOk result (λ target. CanPut grid.now field spelling.now target) }
-    ensures refused { IfErr result (λ refusal. (state : SessionState) (putting : TextMode) → state.engine.grid ≡ grid.now → put_reply state putting field (text_spelled spelling.now) ≡ Err refusal) }
+    ensures refused { IfErr result (λ refusal. (state : SessionState) (putting : TextMode) → state.engine.grid ≡ grid.now → spec_put state putting field (text_spelled spelling.now) ≡ Err refusal) }
 {
     if !escape::is_spelling(spelling) {
         return Err(CommandRefusal::Escape);
@@ -73,7 +69,7 @@ impl<E: Feasible> Session<E> {
     ghost use Rattle.xw_commands.specs.declared.change.Change.TheVariants as changes;
 
     pub(crate) fn text_at(&self, target: Target) -> &[u8]
-        ensures { result.now ≡ text_at_target self.now target }
+        ensures { result.now ≡ spec_text_at self.now target }
     {
         match target {
             Target::Text(TextField::Title) => &self.texts.title,
@@ -100,17 +96,25 @@ impl<E: Feasible> Session<E> {
         }
     }
 
-    /// Replaces a field by the text of a spelling, or appends it. Returns the first refusal that applies, in the order
-    /// `Escape`, `OutOfGrid`, `NulByte`, `Memory`.
-    pub(crate) fn put(&mut self, putting: TextMode, field: Field, spelling: &[u8]) -> Ended
-        ensures { Edits self.old (changes.Put putting field spelling.now) result self.new }
+    /// Replaces a field of a draft, or of the puzzle if there is no draft, by the text of a spelling, or appends it.
+    /// Returns the first refusal that applies, in the order `Escape`, `OutOfGrid`, `NulByte`, `Memory`.
+    pub(crate) fn put(
+        &mut self,
+        draft: Option<&Grid>,
+        putting: TextMode,
+        field: Field,
+        spelling: &[u8],
+    ) -> Ended
+        ensures done { Edits (seen self.old draft.entry) (changes.Put putting field spelling.now) result (seen self.new draft.entry) }
+        ensures engine { self.new.engine ≡ self.old.engine }
+        ensures begun { self.new.begun ≡ self.old.begun }
     {
-        let target = put_target(self.engine.grid(), field, spelling)?;
+        let target = put_target(self.grid_of(draft), field, spelling)?;
         self.put_text(putting, target, spelling)?;
         Ok(())
     }
 
-    pub(crate) fn put_text(
+    fn put_text(
         &mut self,
         putting: TextMode,
         target: Target,
@@ -155,7 +159,7 @@ impl<E: Feasible> Session<E> {
 
     /// Appends the text of a spelling to a text of the puzzle.
     fn append_text(&mut self, field: TextField, spelling: &[u8]) -> Result<(), AllocError>
-        ensures ok { OnOk result ((piece : List ℕ) → text_spelled spelling.now ≡ Some piece → self.new ≡ with_text_at self.old (Target.Text field) (text_at_target self.old (Target.Text field) ++ piece)) }
+        ensures ok { OnOk result ((piece : List ℕ) → text_spelled spelling.now ≡ Some piece → self.new ≡ with_text_at self.old (Target.Text field) (spec_text_at self.old (Target.Text field) ++ piece)) }
         ensures err { OnErr result (self.new ≡ self.old) }
     {
         match field {
@@ -173,7 +177,7 @@ impl<E: Feasible> Session<E> {
         direction: Direction,
         spelling: &[u8],
     ) -> Result<(), GridFault>
-        ensures ok { OnOk result ((piece : List ℕ) → text_spelled spelling.now ≡ Some piece → self.new ≡ with_text_at self.old (Target.Clue cell direction) (text_at_target self.old (Target.Clue cell direction) ++ piece)) }
+        ensures ok { OnOk result ((piece : List ℕ) → text_spelled spelling.now ≡ Some piece → self.new ≡ with_text_at self.old (Target.Clue cell direction) (spec_text_at self.old (Target.Clue cell direction) ++ piece)) }
         ensures err { OnErr result (self.new ≡ self.old) }
         ensures memory { IsOkUnless result GridFault.Memory }
     {

@@ -7,8 +7,8 @@ ghost use Rattle.xw_fill.specs.OfState.{feasible_words};
 ghost use Rattle.xw_lines.specs.Sends.{Sends};
 ghost use Rattle.xw_commands.specs.Names.{direction_name};
 ghost use Rattle.xw_answers.specs.Text.{line_of, counted_lines, letters_line};
-ghost use Rattle.xw_session.specs.Found.{duplicate_line, suggestion_line, word_at as known_word_at};
-ghost use Rattle.xw_session.specs.Reply.{first_words, name_of_light, filling_name as name_of_filling, cell_of, lettered};
+ghost use Rattle.xw_session.specs.Found.{duplicate_line, suggestion_line, word_at as spec_word_at};
+ghost use Rattle.xw_session.specs.Reply.{first_words, name_of_light, filling_name as spec_filling_name, cell_of, lettered};
 ghost use Rattle.xw_session.specs.Answer.{AnswersQuery, AnswersSearch};
 
 use crate::lookup::light_name;
@@ -22,6 +22,7 @@ use xw_commands::command::{CellArg, LightArg};
 use xw_commands::names::Named;
 use xw_feas::edit::Refusal;
 use xw_feas::feasible::Feasible;
+use xw_feas::progress::{News, Task};
 use xw_feas::searchable::Searchable;
 use xw_feas::word_iter::{WordIter, words};
 use xw_fill::listing::{Duplicate, duplicates, unlisted};
@@ -49,7 +50,7 @@ fn write_counted<E: Feasible, W: Sink>(
 
 /// Returns the known word at an index among those of the light's length.
 fn word_at<E: Feasible>(engine: &E, name: LightName, index: usize) -> &[Letter]
-    ensures { result.now ≡ known_word_at (E.state engine.now) name index }
+    ensures { result.now ≡ spec_word_at (E.state engine.now) name index }
 {
     let size = match light_named(engine.lights(), name) {
         Some(light) => light.size as usize,
@@ -116,7 +117,7 @@ fn write_suggestion<E: Feasible, W: Sink>(
 }
 
 fn filling_name(filling: Filling) -> &'static str
-    ensures { result.now ≡ name_of_filling filling }
+    ensures { result.now ≡ spec_filling_name filling }
 {
     match filling {
         Filling::Filled => "filled",
@@ -315,7 +316,9 @@ impl<E: Searchable> Session<E> {
     ) -> Result<Ended, WriteFailed>
         ensures { AnswersSearch W.transcript W.failures self.old (searches.Fill limit) result self.new sink.old sink.new }
     {
+        self.engine.tell(News::Begins(Task::Fill));
         let filled = fill(self.alloc, &mut self.engine, limit);
+        self.engine.tell(News::Ends);
         self.hints
             .end_autofill_if(matches!(filled, Ok(Filling::Filled)));
         answer_lines(sink, filled)

@@ -3,7 +3,7 @@ ghost use Rattle.std.specs.Prelude.{◌≡◌, IfOk, IfErr};
 ghost use Rattle.xw_fill.specs.Reason.{entry_in, IsReasonOf, IsRefused};
 ghost use Rattle.xw_lines.specs.Sends.{Sends};
 ghost use Rattle.xw_session.specs.Reply.{name_of_light};
-ghost use Rattle.xw_session.specs.Why.{entry_lines, refusal_without_reason as refusal_where_none};
+ghost use Rattle.xw_session.specs.Why.{entry_lines, refusal_without_reason as spec_refusal_without_reason};
 ghost use Rattle.xw_session.specs.State.{SessionState};
 ghost use Rattle.xw_session.specs.Answer.{AnswersQuery, why_reply, text_of, ended_by};
 
@@ -48,7 +48,7 @@ fn write_entries<W: Sink>(
 
 /// Returns the refusal for a search that found no reason.
 fn refusal_without_reason(refusal: NoReason) -> CommandRefusal
-    ensures { result ≡ refusal_where_none refusal }
+    ensures { result ≡ spec_refusal_without_reason refusal }
 {
     match refusal {
         NoReason::NoLight => CommandRefusal::Engine(Refusal::NoLight),

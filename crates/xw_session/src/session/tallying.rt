@@ -5,8 +5,8 @@ ghost use Rattle.xw_grid.specs.Light.{lights_of, index_through};
 ghost use Rattle.xw_lines.specs.Sends.{Sends};
 ghost use Rattle.xw_answers.specs.Text.{line_of};
 ghost use Rattle.xw_answers.specs.Token.{token_bytes};
-ghost use Rattle.xw_session.specs.Tally.{distance as distance_of, words_with as count_of_words_with, tally_at as tally_in, number_or_dash as number_or_a_dash, tally_line};
-ghost use Rattle.xw_session.specs.Reply.{cell_of, tallied as tallied_so};
+ghost use Rattle.xw_session.specs.Tally.{distance as spec_distance, words_with as spec_words_with, tally_at as spec_tally_at, number_or_dash as spec_number_or_dash, tally_line};
+ghost use Rattle.xw_session.specs.Reply.{cell_of, tallied as spec_tallied};
 ghost use Rattle.xw_session.specs.Answer.{AnswersQuery};
 
 use crate::session::Session;
@@ -32,7 +32,7 @@ pub(crate) fn light_through(lights: &Lights, direction: Direction, cell: Cell) -
 
 /// Returns how far a cell of a light is from the first cell of the light.
 fn distance(direction: Direction, first: Cell, cell: Cell) -> u32
-    ensures { result ≡ distance_of direction first cell }
+    ensures { result ≡ spec_distance direction first cell }
 {
     match direction {
         Direction::Across => cell.col.saturating_sub(first.col),
@@ -49,7 +49,7 @@ fn words_with<E: Searchable>(
     light: usize,
 ) -> usize
     requires { index_through (lights_of (E.state engine.now).grid) direction cell ≡ Some light }
-    ensures { result ≡ count_of_words_with (E.state engine.now) direction cell letter light }
+    ensures { result ≡ spec_words_with (E.state engine.now) direction cell letter light }
 {
     let found = engine.lights().at(light);
     let position = distance(direction, found.start, cell);
@@ -64,7 +64,7 @@ fn tally_at<E: Searchable>(
     cell: Cell,
     letter: Letter,
 ) -> Option<usize>
-    ensures { result ≡ tally_in (E.state engine.now) direction cell letter }
+    ensures { result ≡ spec_tally_at (E.state engine.now) direction cell letter }
 {
     match light_through(engine.lights(), direction, cell) {
         Some(light) => Some(words_with(engine, direction, cell, letter, light)),
@@ -74,7 +74,7 @@ fn tally_at<E: Searchable>(
 
 /// Returns a number, or a dash if there is none, as a word of a line.
 fn number_or_dash(number: Option<usize>) -> Token<'static>
-    ensures { token_bytes result ≡ number_or_a_dash number }
+    ensures { token_bytes result ≡ spec_number_or_dash number }
 {
     match number {
         Some(number) => Token::Number(number as u64),
@@ -89,7 +89,7 @@ fn write_counts<W: Sink>(
     across: Option<usize>,
     down: Option<usize>,
 ) -> Result<(), WriteFailed>
-    ensures { Sends W.transcript W.failures sink.old sink.new result (line_of (letter.now ∷ number_or_a_dash across ∷ number_or_a_dash down ∷ [])) }
+    ensures { Sends W.transcript W.failures sink.old sink.new result (line_of (letter.now ∷ spec_number_or_dash across ∷ spec_number_or_dash down ∷ [])) }
 {
     write_line(
         sink,
@@ -135,8 +135,8 @@ impl<E: Searchable> Session<E> {
 
     /// Returns a cell with its feasible letters. Returns `OutOfGrid` or `OnBlock` if it has none.
     fn tallied(&self, spot: CellArg) -> Result<(Cell, LetterSet), Refusal>
-        ensures ok { IfOk result (λ found. tallied_so self.now (cell_of spot) ≡ Ok (flat_map (tally_line self.now.engine found.0) (letters_in found.1))) }
-        ensures refused { IfErr result (λ refusal. tallied_so self.now (cell_of spot) ≡ Err (CommandRefusal.Engine refusal)) }
+        ensures ok { IfOk result (λ found. spec_tallied self.now (cell_of spot) ≡ Ok (flat_map (tally_line self.now.engine found.0) (letters_in found.1))) }
+        ensures refused { IfErr result (λ refusal. spec_tallied self.now (cell_of spot) ≡ Err (CommandRefusal.Engine refusal)) }
     {
         let cell = self.cell(spot)?;
         let letters = self.engine.letters(cell)?;

@@ -2,7 +2,7 @@
 ghost use Rattle.std.specs.Prelude.{◌≡◌, ◌<◌, length};
 ghost use Rattle.xw_grid.specs.Light.{lights_of};
 ghost use Rattle.xw_lines.specs.Sends.{Sends};
-ghost use Rattle.xw_session.specs.Told.{letters_told, cell_lines, count_line, count_lines, text_lines, unless_longer as unless_longer_one, longest as longest_light, longest_line, told_lines};
+ghost use Rattle.xw_session.specs.Told.{letters_told, cell_lines, count_line, count_lines, text_lines, unless_longer as spec_unless_longer, longest as spec_longest, longest_line, told_lines};
 ghost use Rattle.xw_answers.specs.Stats.{stat_lines};
 ghost use Rattle.xw_session.specs.Answer.{AnswersQuery};
 
@@ -67,7 +67,7 @@ fn write_counts<E: Feasible, W: Sink>(sink: &mut W, engine: &E) -> Result<(), Wr
 
 /// Returns the second light if it is longer, and otherwise the first.
 fn unless_longer(light: Light, other: Option<Light>) -> Option<Light>
-    ensures { result ≡ unless_longer_one light other }
+    ensures { result ≡ spec_unless_longer light other }
 {
     match other {
         Some(other) if light.size < other.size => Some(other),
@@ -78,7 +78,7 @@ fn unless_longer(light: Light, other: Option<Light>) -> Option<Light>
 /// Returns the first of the longest lights, if there is any.
 #[tactic(auto, using(std::proofs::lemmas::List::drop_more))]
 fn longest(lights: &Lights) -> Option<Light>
-    ensures { result ≡ longest_light lights.now }
+    ensures { result ≡ spec_longest lights.now }
 {
     let mut found = None;
     let mut index = lights.len();

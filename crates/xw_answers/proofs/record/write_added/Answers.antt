@@ -1,7 +1,7 @@
 use Rattle.std.proofs.Common.{◌≡◌, ◌<◌, ◌≤◌, ◌+◌, ◌-◌, ◌++◌, ◌∙◌, ap, sym, subst, ℕ, List, length, get_or, take, drop, flat_map, arith}
 use Rattle.std.proofs.lemmas.Result.{err_from_is_err_and}
 use Rattle.std.proofs.lemmas.List.{get_or-drop, length-drop}
-use Rattle.xw_words.specs.Dictionary.{Entry, row, no_entry}
+use Rattle.xw_words.specs.Dictionary.{Entry, known_words, no_entry}
 use Rattle.xw_commands.specs.declared.change.Change.TheVariants.{Add}
 use Rattle.xw_answers.specs.Spelling.{command_line}
 use Rattle.xw_answers.specs.Record.{named_grade, add_command}
@@ -13,7 +13,7 @@ pub loop-index-preserved : goal.loop-index-preserved
 loop-index-preserved g c =
     let begun = c.args.begun in
     let index = c.loop-index.index in
-    let entries = row c.args.bank.now.words c.args.count in
+    let entries = known_words c.args.bank.now.words c.args.count in
     let later = drop begun entries in
     let text : Entry → List ℕ = λ entry. command_line (add_command entry) in
     let below : index < length entries = omega (arith, c.loop-index-test.true, c.known-index-end.ensures) in
@@ -38,7 +38,7 @@ returns-in_err-write_add g c =
     let e = err_from_is_err_and c.from_residual.result c.from_residual.ensures.1 in
     let begun = c.args.begun in
     let index = c.loop-index.index in
-    let entries = row c.args.bank.now.words c.args.count in
+    let entries = known_words c.args.bank.now.words c.args.count in
     let later = drop begun entries in
     let text : Entry → List ℕ = λ entry. command_line (add_command entry) in
     let below : index < length entries = omega (arith, c.loop-index-test.true, c.known-index-end.ensures) in
@@ -56,7 +56,7 @@ returns-in_err-write_add g c =
 pub returns : goal.returns
 returns g c =
     let begun = c.args.begun in
-    let entries = row c.args.bank.now.words c.args.count in
+    let entries = known_words c.args.bank.now.words c.args.count in
     let later = drop begun entries in
     let text : Entry → List ℕ = λ entry. command_line (add_command entry) in
     let past : length later ≤ c.loop-index.index - begun = omega (arith, c.loop-index-test.false, c.known-index-end.ensures, length-drop begun entries, c.loop-index.invariant.from) in

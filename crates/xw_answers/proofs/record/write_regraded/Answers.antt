@@ -1,6 +1,6 @@
 use Rattle.std.proofs.Common.{◌<◌, ◌∙◌, ℕ, List, length, arith}
 use Rattle.std.proofs.lemmas.Result.{err_from_is_err_and}
-use Rattle.xw_words.specs.Dictionary.{Entry, row, no_entry}
+use Rattle.xw_words.specs.Dictionary.{Entry, known_words, no_entry}
 use Rattle.xw_answers.specs.Record.{command_lines, regrade_commands}
 use Rattle.xw_answers.proofs.Recording.{lines_of_each, sent_as, stops_as}
 use Rattle.xw_lines.proofs.SendsLemmas.{each_sent, each_stops, each_all}
@@ -8,7 +8,7 @@ use Rattle.xw_answers.proofs.record.write_regraded.Goals as goal
 
 pub loop-index-preserved : goal.loop-index-preserved
 loop-index-preserved g c =
-    let entries = row c.args.bank.now.words c.args.count in
+    let entries = known_words c.args.bank.now.words c.args.count in
     let text : Entry → List ℕ = λ entry. command_lines (regrade_commands entry) in
     let within : c.loop-index.index < length entries = omega (arith, c.loop-index-test.true, c.known-index-end.ensures) in
     let wrote = c.in_ok-write_regraded_at.ensures in
@@ -20,7 +20,7 @@ loop-index-preserved g c =
 pub returns-in_err-write_regraded_at : goal.returns-in_err-write_regraded_at
 returns-in_err-write_regraded_at g c =
     let e = err_from_is_err_and c.from_residual.result c.from_residual.ensures.1 in
-    let entries = row c.args.bank.now.words c.args.count in
+    let entries = known_words c.args.bank.now.words c.args.count in
     let text : Entry → List ℕ = λ entry. command_lines (regrade_commands entry) in
     let within : c.loop-index.index < length entries = omega (arith, c.loop-index-test.true, c.known-index-end.ensures) in
     rw e.1 (stops_as g.W.Sink.transcript g.W.Sink.failures _ _ _ _ (lines_of_each regrade_commands entries)
@@ -28,7 +28,7 @@ returns-in_err-write_regraded_at g c =
 
 pub returns : goal.returns
 returns g c =
-    let entries = row c.args.bank.now.words c.args.count in
+    let entries = known_words c.args.bank.now.words c.args.count in
     let text : Entry → List ℕ = λ entry. command_lines (regrade_commands entry) in
     sent_as g.W.Sink.transcript g.W.Sink.failures _ _ _ _ (lines_of_each regrade_commands entries)
     (each_all g.W.Sink.transcript g.W.Sink.failures text entries _ _ c.loop-index.index (omega (arith, c.loop-index-test.false, c.known-index-end.ensures)) (c.loop-index.invariant.transcript, c.loop-index.invariant.quiet))

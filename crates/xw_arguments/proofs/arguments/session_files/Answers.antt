@@ -14,5 +14,6 @@ returns-clause-files c =
       save_file = c.get_str-5.ensures ∙ first_value-rows found (codes "save");
       journal_file = c.get_str-6.ensures ∙ first_value-rows found (codes "journal");
       synced = c.is_set.ensures;
+      progress = c.is_set-2.ensures;
       fits = sym c.clash_found.ensures ∙ c.in_default.is;
     }

@@ -9,7 +9,7 @@ returns-in_err-session g c =
     rw (e.1, e.2) (inr (inl c.in_err-session.ensures.err))
 
 pub returns-in-Some : goal.returns-in-Some
-returns-in-Some g c = edits c.args.named _ c.in_ok-session.session c.answer_journaled.result c.args.desk.now c.open.new.desk c.answer_journaled.new.desk c.in_ok-session.ensures.ok c.in-Some.is c.answer_journaled.ensures
+returns-in-Some g c = edits c.args.named _ c.in_ok-session.session c.answer_journaled.result c.args.desk.now c.open_observed.new.desk c.answer_journaled.new.desk c.in_ok-session.ensures.ok c.in-Some.is c.answer_journaled.ensures
 
 pub returns-in-None : goal.returns-in-None
-returns-in-None g c = edits c.args.named _ c.in_ok-session.session c.answer.result c.args.desk.now c.open.new.desk c.answer.new.desk c.in_ok-session.ensures.ok c.in-None.is c.answer.ensures
+returns-in-None g c = edits c.args.named _ c.in_ok-session.session c.answer.result c.args.desk.now c.open_observed.new.desk c.answer.new.desk c.in_ok-session.ensures.ok c.in-None.is c.answer.ensures

@@ -24,13 +24,13 @@ pub loop-rest-preserved : goal.loop-rest-preserved
 loop-rest-preserved g c = record {
   numbered = omega arith;
   counted = omega (arith, c.in_ok-refused.ensures.once);
-  goes = goes-on g.E.Sink.transcript g.E.Sink.failures _ _ _ _ _ _ _ _ _ _ _ _ _ _ (first_of_both c.loop-rest.rest.now c.first_line.result.0.now c.first_line.result.1.now c.first_line.ensures.lines) c.in_ok-refused.ensures.done (goes-still g.E.Sink.transcript g.E.Sink.failures _ _ _ _ _ _ _ _ _ _ c.in_default.ensures.none c.loop-rest.invariant.goes);
+  goes = goes-on g.E.Sink.transcript g.E.Sink.failures _ _ _ _ _ _ _ _ c.resume_line.new.reports.items _ _ _ _ _ _ (first_of_both c.loop-rest.rest.now c.first_line.result.0.now c.first_line.result.1.now c.first_line.ensures.lines) (rw c.new-reports.ensures.items at c.in_ok-refused.ensures.done) (rw c.as_slice-in-loop-rest.ensures.value at c.tell-in-loop-rest.ensures) (goes-still g.E.Sink.transcript g.E.Sink.failures _ _ _ _ _ _ _ _ _ _ c.in_default.ensures.none c.loop-rest.invariant.goes);
 }
 
 pub returns-in_err-refused : goal.returns-in_err-refused
 returns-in_err-refused g c =
     let e = err_from_is_err_and c.from_residual.result c.from_residual.ensures.1 in
-    rw (e.1, e.2) (goes-stop g.E.Sink.transcript g.E.Sink.failures _ _ _ _ _ _ c.first_line.result.1.now _ _ _ _ _ _ _ (first_of_both c.loop-rest.rest.now c.first_line.result.0.now c.first_line.result.1.now c.first_line.ensures.lines) c.in_err-refused.ensures.done (goes-still g.E.Sink.transcript g.E.Sink.failures _ _ _ _ _ _ _ _ _ _ c.in_default.ensures.none c.loop-rest.invariant.goes))
+    rw (e.1, e.2) (goes-stop g.E.Sink.transcript g.E.Sink.failures _ _ _ _ _ _ c.first_line.result.1.now _ _ _ _ _ _ _ (first_of_both c.loop-rest.rest.now c.first_line.result.0.now c.first_line.result.1.now c.first_line.ensures.lines) (rw c.new-reports.ensures.items at c.in_err-refused.ensures.done) (goes-still g.E.Sink.transcript g.E.Sink.failures _ _ _ _ _ _ _ _ _ _ c.in_default.ensures.none c.loop-rest.invariant.goes))
 
 pub returns : goal.returns
 returns g c =

@@ -33,9 +33,9 @@ use Rattle.std_alloc.proofs.BoxSteps.Steps.{box_out, box_in}
 use Rattle.std.proofs.raw_atomic.Walks.{proved_at, leaves}
 use Rattle.xw_c.proofs.Boxes.{beside, Parts, parts_typed, parts_open}
 use Rattle.std_alloc.specs.contracts.boxed.Box.from_raw as again
-use Rattle.std_alloc.proofs.boxed.Box.from_raw.Met.{met as again_met}
+use Rattle.std_alloc.proofs.boxed.Box.from_raw.Met.{met}
 use Rattle.xw_c.specs.contracts.box_at.BoxAt.into_box.{ended, clauses}
-use Rattle.xw_c.specs.contracts.box_at.BoxAt.into_box.Key.{name as #self}
+use Rattle.xw_c.specs.contracts.box_at.BoxAt.into_box.Key.{name}
 use Rattle.xw_c.proofs.box_at.BoxAt.into_box.Statement.{statement}
 use Rattle.xw_c.proofs.box_at.BoxAt.into_box.Code as code
 
@@ -54,7 +54,7 @@ into_box_spec 𝓤 𝓛 𝓜 𝓡 wired T A L LA g d dx dd allocator glue glued 
     let 𝓣 = tables 𝓤 𝓛.H 𝓜 𝓡 𝓡.env in
     let stays : Stays signed.signature.params signed.kept = (stay_dropped (plain (λ _. Parts R Z LZ g)) no, tt) in
     let goes = Goes-blank 𝓛 2 (plain (λ _. Parts R Z LZ g)) no (λ κs x f. tt) in
-    proved_at 𝓛 signed stays c 𝓜 𝓡 (goes, tt) (#self bounds_at) fn (code.unfolded 𝓤 𝓛.H 𝓜 𝓡 wired (T, (A, tt)) d dx dd) (λ z are.
+    proved_at 𝓛 signed stays c 𝓜 𝓡 (goes, tt) (name bounds_at) fn (code.unfolded 𝓤 𝓛.H 𝓜 𝓡 wired (T, (A, tt)) d dx dd) (λ z are.
     let κs = z.0.0 in let qs = z.0.1 in let parts = z.0.3.0 in let alloc = parts.alloc in let x = parts.held in
     let Post : Val → SProp 𝓤 = (walk_of 𝓛 signed stays c).post z in
     let Run : List Val → SProp 𝓤 = λ ws. WpFn 𝓤 𝓛.H 𝓣.C 𝓣.Λ fn ws Post in
@@ -75,7 +75,7 @@ into_box_spec 𝓤 𝓛 𝓜 𝓡 wired T A L LA g d dx dd allocator glue glued 
     let locals = env fn.locals l in
     sets ! (of_opd ! (get_in ! (fld ! refl (stop !)) (sub ! 0 refl (whole !)))) refl (tt, tt) $ sets ! (of_opd ! (get_in ! (fld ! refl (stop !)) (sub ! 1 refl (whole !)))) refl fits $
     first ! $ blocks ! $ sets ! (of_opd ! (get ! refl)) refl fits $
-    calls_at_last ! (fm 𝓛 𝓜 𝓡) call (again_met 𝓤 𝓛 𝓜 𝓡 (code.calls-std_alloc::boxed::Box::from_raw 𝓡.env wired) T A L LA g d dd allocator glued) y (and_then ! (get ! refl) (and_then ! (get ! refl) (no_more !))) (λ u.
+    calls_at_last ! (fm 𝓛 𝓜 𝓡) call (met 𝓤 𝓛 𝓜 𝓡 (code.calls-std_alloc::boxed::Box::from_raw 𝓡.env wired) T A L LA g d dd allocator glued) y (and_then ! (get ! refl) (and_then ! (get ! refl) (no_more !))) (λ u.
     -- what it gives: the tokens, the box, and that it has the value and the allocator
     let Given : B.Denot → _ = λ r. (tokens ⊛ ‵ (B.own_val r (u ∷ []))) ⊛ some (λ (ls : Lasts (again.ended T A g d dd) κs y.0.3). ‵ (lasts (again.ended T A g d dd) κs y.0.3 ls) ⊛ (raw (fact 𝓤 (r.value ≡ x)) ⊛ raw (fact 𝓤 (r.alloc ≡ alloc)))) in
     use1 𝓛 (later (some Given)) (id⊢ 𝓤 (call.post y u)) $

@@ -1,7 +1,7 @@
 -- `of`: the call takes the box apart, and the struct owns what the call gave.
 use Rattle.std.proofs.Common.{◌≡◌, ◌∙◌, List, [], ◌∷◌, ◌++◌, ap, refl, sym, subst}
 use mir.Syntax.{a_type, dcons, dnil}
-use mir.Raw.{raw as bare}
+use mir.Raw.{raw as mir_raw}
 use mir.Val.{Val, vptr, vstruct, of_list}
 use mir.MapTy.{inst_fn}
 use base.Logic.{SProp, ent, emp, never, id⊢, fst∗}
@@ -34,9 +34,9 @@ use Rattle.std_alloc.proofs.BoxSteps.Steps.{box_out, box_in}
 use Rattle.std.proofs.raw_atomic.Walks.{proved_at, leaves}
 use Rattle.xw_c.proofs.Boxes.{beside, parts_typed, parts_close}
 use Rattle.std_alloc.specs.contracts.boxed.Box.into_raw_with_allocator as apart
-use Rattle.std_alloc.proofs.boxed.Box.into_raw_with_allocator.Met.{met as apart_met}
+use Rattle.std_alloc.proofs.boxed.Box.into_raw_with_allocator.Met.{met}
 use Rattle.xw_c.specs.contracts.box_at.BoxAt.of.{ended, clauses}
-use Rattle.xw_c.specs.contracts.box_at.BoxAt.of.Key.{name as #self}
+use Rattle.xw_c.specs.contracts.box_at.BoxAt.of.Key.{name}
 use Rattle.xw_c.proofs.box_at.BoxAt.of.Statement.{statement}
 use Rattle.xw_c.proofs.box_at.BoxAt.of.Code as code
 
@@ -54,13 +54,13 @@ of_spec 𝓤 𝓛 𝓜 𝓡 wired T A L LA g d dx dd allocator glue glued =
     let 𝓣 = tables 𝓤 𝓛.H 𝓜 𝓡 𝓡.env in
     let stays : Stays signed.signature.params signed.kept = (stay_dropped (plain (λ _. box.B form)) no, tt) in
     let goes = Goes-blank 𝓛 2 (plain (λ _. box.B form)) no (λ κs x f. tt) in
-    proved_at 𝓛 signed stays c 𝓜 𝓡 (goes, tt) (#self bounds_at) fn (code.unfolded 𝓤 𝓛.H 𝓜 𝓡 wired (T, (A, tt)) d dx dd) (λ z are.
+    proved_at 𝓛 signed stays c 𝓜 𝓡 (goes, tt) (name bounds_at) fn (code.unfolded 𝓤 𝓛.H 𝓜 𝓡 wired (T, (A, tt)) d dx dd) (λ z are.
     let κs = z.0.0 in let qs = z.0.1 in let boxed = z.0.3.0 in let alloc = boxed.alloc in let x = boxed.value in
     let Post : Val → SProp 𝓤 = (walk_of 𝓛 signed stays c).post z in
     let Run : List Val → SProp 𝓤 = λ ws. WpFn 𝓤 𝓛.H 𝓣.C 𝓣.Λ fn ws Post in
     let tokens = ‵ (flft κs.0 qs.0) ⊛ ‵ (flft κs.1.0 qs.1.0) ⊛ ‵ ftrue in
     let asked = raw ((c κs z.0.3).requires z.1) in
-    let not_null = fst∗ 𝓤 (never 𝓤) (sem 𝓛 (g.dealloc_token alloc (bare (layout T)) null_ptr)) in
+    let not_null = fst∗ 𝓤 (never 𝓤) (sem 𝓛 (g.dealloc_token alloc (mir_raw (layout T)) null_ptr)) in
     qed 𝓛 ((tokens ⊛ ‵ (owns (types_at signed.signature.params κs) z.0.3 z.0.4)) ∷ asked ∷ []) ∵
     -- the machine value of the box
     split ! $ move ! (1 ∷ []) $ fsplit ! $ box_out form ! boxed z.0.4.0 (λ b o h e ws fits. box_in form ! boxed b o x e refl $
@@ -72,7 +72,7 @@ of_spec 𝓤 𝓛 𝓜 𝓡 wired T A L LA g d dx dd allocator glue glued =
     fjoin ! $ move ! (1 ∷ 0 ∷ []) $ join ! $ join ! $ use1 𝓛 (raw (call.pre y)) (id⊢ 𝓤 _) $
     suffices ! (Run (w ∷ [])) (subst (λ (us : List Val). ent 𝓤 (Run (w ∷ [])) (Run us)) (sym (λ i. ws i ++ [])) (id⊢ 𝓤 (Run (w ∷ [])))) $
     enter ! 𝓣.C 𝓣.Λ fn (w ∷ []) Post $ alloc_all ! (λ l. pass_all ! refl (typed, tt) $ sets ! (of_opd ! (get ! refl)) refl typed $
-    calls_at ! (fm 𝓛 𝓜 𝓡) call (apart_met 𝓤 𝓛 𝓜 𝓡 (code.calls-std_alloc::boxed::Box::into_raw_with_allocator 𝓡.env wired) T A L LA g d dd dx allocator glued glue) y (and_then ! (get ! refl) (no_more !)) (λ u.
+    calls_at ! (fm 𝓛 𝓜 𝓡) call (met 𝓤 𝓛 𝓜 𝓡 (code.calls-std_alloc::boxed::Box::into_raw_with_allocator 𝓡.env wired) T A L LA g d dd dx allocator glued glue) y (and_then ! (get ! refl) (no_more !)) (λ u.
     -- what it gives: the tokens, a pair, the allocator's value, and what the address owns
     let Pair = Tuple (RawPtr ∷ Z ∷ []) in
     let Given : Ptr × A.Denot → _ = λ r. (tokens ⊛ ‵ (Pair.own_val r (u ∷ []))) ⊛ some (λ (_ : (Unit {0} × (Unit {0} × Unit {0})) × Unit {0}). ‵ (fsep (fsep ftrue (fsep ftrue ftrue)) ftrue) ⊛ (raw (fact 𝓤 (r.1 ≡ alloc)) ⊛ ‵ (box_owns (g.dealloc_token alloc) R r.0 x))) in

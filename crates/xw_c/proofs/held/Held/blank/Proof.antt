@@ -25,7 +25,7 @@ use Rattle.xw_c.specs.Held.{held}
 use Rattle.xw_c.specs.contracts.open_session.OpenSession as open_session
 use Rattle.xw_c.specs.contracts.held.Held as held_row
 use Rattle.xw_c.specs.contracts.held.Held.blank.{ended, clauses}
-use Rattle.xw_c.specs.contracts.held.Held.blank.Key.{name as #self}
+use Rattle.xw_c.specs.contracts.held.Held.blank.Key.{name}
 use Rattle.xw_c.proofs.held.Held.blank.Statement.{statement}
 use Rattle.xw_c.proofs.held.Held.blank.Code as code
 
@@ -34,7 +34,7 @@ unfolding held
 blank_spec 𝓤 𝓛 𝓜 𝓡 wired =
     let H = 𝓛.H in let 𝓣 = tables 𝓤 H 𝓜 𝓡 𝓡.env in let c = clauses 𝓛 𝓜.mem 𝓡.returns in let fn = code.function in
     let hs : Stays ended.signature.params ended.kept = (stay_dropped (plain (λ _. RawPtr)) yes, tt) in
-    proved 𝓛 ended hs c 𝓜 𝓡 (Goes-dropped 𝓛 0 (plain (λ _. RawPtr)) yes (λ κs x f. refl), tt) #self fn (code.unfolded 𝓤 H 𝓜 𝓡 wired)
+    proved 𝓛 ended hs c 𝓜 𝓡 (Goes-dropped 𝓛 0 (plain (λ _. RawPtr)) yes (λ κs x f. refl), tt) name fn (code.unfolded 𝓤 H 𝓜 𝓡 wired)
     (λ κs. (rawptr_vals, tt)) (λ κs. (rawptr_Tells, tt)) (λ κs qs bounds a n are.
     let p = a.0 in let z : (walk_of 𝓛 ended hs c).Ghost = ((κs, qs, bounds, a, (rawptr_vals p, tt)), n) in let Post : Val → SProp 𝓤 = (walk_of 𝓛 ended hs c).post z in
     let asked = raw ((c κs a).requires n) in let kept : Option open_session.the_row.Denot = None in let out : Val = vstruct (vcons (ptr_val p) vnil) in let ok = (rawptr_Lawful 𝓛).typed p (rawptr_vals p) refl in

@@ -28,7 +28,7 @@ use Rattle.std.specs.contracts.impls.GlobalAllocator.TheImpl as implemented
 use Rattle.std.proofs.alloc.Global.TheLaws as heap_laws
 use Rattle.xw_c.specs.contracts.held.Held as held_row
 use Rattle.xw_c.specs.contracts.held.Held.hidden.{ended, clauses}
-use Rattle.xw_c.specs.contracts.held.Held.hidden.Key.{name as #self}
+use Rattle.xw_c.specs.contracts.held.Held.hidden.Key.{name}
 use Rattle.xw_c.proofs.held.Held.hidden.Statement.{statement}
 use Rattle.xw_c.proofs.held.Held.hidden.Code as code
 
@@ -38,7 +38,7 @@ hidden_spec 𝓤 𝓛 𝓜 𝓡 wired =
     let H = 𝓛.H in let 𝓣 = tables 𝓤 H 𝓜 𝓡 𝓡.env in let c = clauses 𝓛 𝓜.mem 𝓡.returns in let fn = code.function in
     let R : RattleType = open_session.the_row in let Z : RattleType = heap.the_row in let L = heap_laws.the_row_laws in let g = implemented.ghosts in let Row : RattleType = Parts R Z L g in
     let hs : Stays ended.signature.params ended.kept = (stay_dropped (plain (λ _. Row)) yes, tt) in
-    proved_at 𝓛 ended hs c 𝓜 𝓡 (Goes-dropped 𝓛 0 (plain (λ _. Row)) yes (λ κs x f. refl), tt) #self fn (code.unfolded 𝓤 H 𝓜 𝓡 wired) (λ z are.
+    proved_at 𝓛 ended hs c 𝓜 𝓡 (Goes-dropped 𝓛 0 (plain (λ _. Row)) yes (λ κs x f. refl), tt) name fn (code.unfolded 𝓤 H 𝓜 𝓡 wired) (λ z are.
     let κs = z.0.0 in let v = z.0.3.0 in let Post : Val → SProp 𝓤 = (walk_of 𝓛 ended hs c).post z in let Run : List Val → SProp 𝓤 = λ ws. WpFn 𝓤 H 𝓣.C 𝓣.Λ fn ws Post in
     let asked = raw ((c κs z.0.3).requires z.1) in
     qed 𝓛 ((‵ ftrue ⊛ ‵ (owns (types_at ended.signature.params κs) z.0.3 z.0.4)) ∷ asked ∷ []) ∵ split ! $ move ! (1 ∷ []) $ fsplit ! $ parts_open R Z L g ! v z.0.4.0 (λ b o h ws fits.

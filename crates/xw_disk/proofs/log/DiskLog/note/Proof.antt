@@ -32,7 +32,7 @@ use Rattle.xw_disk.specs.declared.asked.Asked.{Asked}
 use Rattle.xw_disk.specs.Asked.{seen}
 use Rattle.xw_disk.specs.contracts.log.DiskLog as T
 use Rattle.xw_disk.specs.contracts.asked.Asked as Call
-use Rattle.xw_disk.specs.contracts.log.DiskLog.note.Key.{name as #it}
+use Rattle.xw_disk.specs.contracts.log.DiskLog.note.Key.{name}
 use Rattle.xw_disk.specs.contracts.log.DiskLog.note as it
 use Rattle.xw_disk.proofs.log.DiskLog.note.Statement as stated
 use Rattle.xw_disk.proofs.log.DiskLog.note.Code as code
@@ -107,5 +107,5 @@ pub note_spec : {M : Type 1} → stated.statement M
 unfolding tables_of
 note_spec 𝓤 𝓛 𝓜 𝓡 wired =
     entered 𝓤 𝓛.H (triple_of 𝓛 it.signature (it.spec 𝓛 𝓜.mem 𝓡.returns))
-    (tables 𝓤 𝓛.H 𝓜 𝓡 𝓡.env).C (tables 𝓤 𝓛.H 𝓜 𝓡 𝓡.env).Λ #it code.function (code.unfolded 𝓤 𝓛.H 𝓜 𝓡 wired)
+    (tables 𝓤 𝓛.H 𝓜 𝓡 𝓡.env).C (tables 𝓤 𝓛.H 𝓜 𝓡 𝓡.env).Λ name code.function (code.unfolded 𝓤 𝓛.H 𝓜 𝓡 wired)
     (meets 𝓛 𝓜.mem 𝓡.returns (tables_of 𝓤 𝓛.H 𝓜 (tables 𝓤 𝓛.H 𝓜 𝓡 𝓡.env)))

@@ -30,7 +30,7 @@ use denote.Triple.Table.{entered}
 use denote.Triple.Walked.{says, Stays, stay_ref, stay_none_slice, walk_of, AllGo, Goes-ref, Goes-none_slice, Walks, ends_at, walked, walk_Meets}
 use Rattle.xw_lines.specs.declared.history.History.{History}
 use Rattle.xw_lines.specs.contracts.history.History as T
-use Rattle.xw_lines.specs.contracts.history.History.note.Key.{name as #it}
+use Rattle.xw_lines.specs.contracts.history.History.note.Key.{name}
 use Rattle.xw_lines.specs.contracts.history.History.note as it
 use Rattle.xw_lines.proofs.history.History.note.Statement as stated
 use Rattle.xw_lines.proofs.history.History.note.Code as code
@@ -96,5 +96,5 @@ pub note_spec : {M : Type 1} → stated.statement M
 unfolding tables_of
 note_spec 𝓤 𝓛 𝓜 𝓡 wired =
     entered 𝓤 𝓛.H (triple_of 𝓛 it.signature (it.spec 𝓛 𝓜.mem 𝓡.returns))
-    (tables 𝓤 𝓛.H 𝓜 𝓡 𝓡.env).C (tables 𝓤 𝓛.H 𝓜 𝓡 𝓡.env).Λ #it code.function (code.unfolded 𝓤 𝓛.H 𝓜 𝓡 wired)
+    (tables 𝓤 𝓛.H 𝓜 𝓡 𝓡.env).C (tables 𝓤 𝓛.H 𝓜 𝓡 𝓡.env).Λ name code.function (code.unfolded 𝓤 𝓛.H 𝓜 𝓡 wired)
     (meets 𝓛 𝓜.mem 𝓡.returns (tables_of 𝓤 𝓛.H 𝓜 (tables 𝓤 𝓛.H 𝓜 𝓡 𝓡.env)))

@@ -28,7 +28,7 @@ use denote.Triple.Walked.{says, Stays, stay_ref, walk_of, AllGo, Goes-ref, Walks
 use Rattle.xw_lines.specs.Device.{flushed}
 use Rattle.xw_lines.specs.declared.history.History.{History}
 use Rattle.xw_lines.specs.contracts.history.History as T
-use Rattle.xw_lines.specs.contracts.history.History.note_flush.Key.{name as #it}
+use Rattle.xw_lines.specs.contracts.history.History.note_flush.Key.{name}
 use Rattle.xw_lines.specs.contracts.history.History.note_flush as it
 use Rattle.xw_lines.proofs.history.History.note_flush.Statement as stated
 use Rattle.xw_lines.proofs.history.History.note_flush.Code as code
@@ -94,5 +94,5 @@ pub note_flush_spec : {M : Type 1} → stated.statement M
 unfolding tables_of
 note_flush_spec 𝓤 𝓛 𝓜 𝓡 wired =
     entered 𝓤 𝓛.H (triple_of 𝓛 it.signature (it.spec 𝓛 𝓜.mem 𝓡.returns))
-    (tables 𝓤 𝓛.H 𝓜 𝓡 𝓡.env).C (tables 𝓤 𝓛.H 𝓜 𝓡 𝓡.env).Λ #it code.function (code.unfolded 𝓤 𝓛.H 𝓜 𝓡 wired)
+    (tables 𝓤 𝓛.H 𝓜 𝓡 𝓡.env).C (tables 𝓤 𝓛.H 𝓜 𝓡 𝓡.env).Λ name code.function (code.unfolded 𝓤 𝓛.H 𝓜 𝓡 wired)
     (meets 𝓛 𝓜.mem 𝓡.returns (tables_of 𝓤 𝓛.H 𝓜 (tables 𝓤 𝓛.H 𝓜 𝓡 𝓡.env)))

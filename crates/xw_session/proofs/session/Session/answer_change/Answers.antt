@@ -1,46 +1,49 @@
-use Rattle.std.proofs.Common.{ℕ, List, subst, sym}
+use Rattle.std.proofs.Common.{◌≡◌, None, subst}
+use Rattle.std.specs.Prelude.{Result, Ok, Err}
+use Rattle.xw_answers.specs.declared.refusal.CommandRefusal.{CommandRefusal}
+use Rattle.xw_commands.specs.declared.change.Change.{Change}
 use Rattle.xw_commands.specs.declared.change.Change.TheVariants as changes
-use Rattle.xw_session.specs.Answer.{Edits}
-use Rattle.xw_session.proofs.Answering.{edit_answers}
-use Rattle.xw_session.proofs.DrawnLines.{edits-back}
+use Rattle.xw_session.specs.Answer.{AnswersChange, AnswersEdit, Edits, IsBegun}
+use Rattle.xw_session.specs.State.{SessionState, seen}
+use Rattle.xw_session.specs.declared.session.asking.Asked.{Asked}
+use Rattle.xw_session.specs.declared.session.asking.Asked.TheVariants as asked_for
+use Rattle.xw_session.proofs.Answering.{asked_answers, edit_answers}
 use Rattle.xw_session.proofs.session.Session.answer_change.Goals as goal
 
-pub returns-in-Size : goal.returns-in-Size
-returns-in-Size g c =
-    rw c.in-Size.is (edit_answers g.W.Sink.transcript g.W.Sink.failures c.args.self.now c.resize.new.self (changes.Size c.in-Size.width c.in-Size.height) c.resize.result _ _ _ c.resize.ensures c.end_answer.ensures.sends c.end_answer.ensures.step)
+begun : (state after : SessionState) (change : Change) (result asked : Result Asked CommandRefusal) → result ≡ asked → IsBegun (seen state None) change result (seen after None) → IsBegun state change asked after
+begun state after change result asked is was = subst (λ (r : Result Asked CommandRefusal). IsBegun state change r after) is was
 
-pub returns-in-Clue : goal.returns-in-Clue
-returns-in-Clue g c =
-    rw c.in-Clue.is (edit_answers g.W.Sink.transcript g.W.Sink.failures c.args.self.now c.set_clue.new.self (changes.Clue c.in-Clue.named c.in-Clue.text) c.set_clue.result _ _ _ (subst (λ (text : List ℕ). Edits c.args.self.now (changes.Clue c.in-Clue.named text) c.set_clue.result c.set_clue.new.self) c.bytes-in-Clue.ensures c.set_clue.ensures) c.end_answer-in-Clue.ensures.sends c.end_answer-in-Clue.ensures.step)
+pub returns-in-Ok-Nothing : goal.returns-in-Ok-Nothing
+returns-in-Ok-Nothing g c =
+    let done = begun c.args.self.now c.begin.new.self c.args.change c.begin.result (Ok asked_for.Nothing) (cc) c.begin.ensures.begun in
+    edit_answers g.W.Sink.transcript g.W.Sink.failures c.args.self.now c.begin.new.self c.args.change (Ok (tt {0})) _ _ _ done c.end_answer.ensures.sends c.end_answer.ensures.step
 
-pub returns-in-Write : goal.returns-in-Write
-returns-in-Write g c =
-    rw c.in-Write.is (edit_answers g.W.Sink.transcript g.W.Sink.failures c.args.self.now c.write.new.self (changes.Write c.in-Write.field c.in-Write.text) c.write.result _ _ _ (subst (λ (text : List ℕ). Edits c.args.self.now (changes.Write c.in-Write.field text) c.write.result c.write.new.self) c.bytes-in-Write.ensures (edits-back c.args.self.now c.write.new.self (changes.Write c.in-Write.field c.bytes-in-Write.result.now) c.write.result c.write.ensures.engine (c.write.ensures.done c.args.self.now.engine.grid))) c.end_answer-in-Write.ensures.sends c.end_answer-in-Write.ensures.step)
+pub returns-in-Ok-Edit : goal.returns-in-Ok-Edit
+returns-in-Ok-Edit g c =
+    let asks = begun c.args.self.now c.begin.new.self c.args.change c.begin.result (Ok (asked_for.Edit c.in-Ok-Edit.edit)) (cc) c.begin.ensures.begun in
+    asked_answers g.W.Sink.transcript g.W.Sink.failures c.args.self.now c.answer_edit.new.self c.args.change c.in-Ok-Edit.edit c.answer_edit.result _ _ asks.0
+    (subst (λ (s : SessionState). AnswersEdit g.W.Sink.transcript g.W.Sink.failures s c.in-Ok-Edit.edit c.answer_edit.result c.answer_edit.new.self c.args.sink.now c.answer_edit.new.sink) asks.1 c.answer_edit.ensures)
 
-pub returns-in-Circle : goal.returns-in-Circle
-returns-in-Circle g c =
-    rw c.in-Circle.is (edit_answers g.W.Sink.transcript g.W.Sink.failures c.args.self.now c.toggle_circle.new.self (changes.Circle c.in-Circle.spot) c.toggle_circle.result _ _ _ c.toggle_circle.ensures c.end_answer-in-Circle.ensures.sends c.end_answer-in-Circle.ensures.step)
+pub returns-in-Ok-Clue : goal.returns-in-Ok-Clue
+returns-in-Ok-Clue g c =
+    let clue : Change = changes.Clue c.in-Ok-Clue.named c.in-Ok-Clue.text.now in
+    let asks = begun c.args.self.now c.begin.new.self c.args.change c.begin.result (Ok (asked_for.Clue c.in-Ok-Clue.named c.in-Ok-Clue.text)) (cc) c.begin.ensures.begun in
+    let done = subst (λ (s : SessionState). Edits s clue c.set_clue.result c.set_clue.new.self) asks.1 c.set_clue.ensures in
+    rw asks.0 (edit_answers g.W.Sink.transcript g.W.Sink.failures c.args.self.now c.set_clue.new.self clue c.set_clue.result _ _ _ done c.end_answer-in-Ok-Clue.ensures.sends c.end_answer-in-Ok-Clue.ensures.step)
 
-pub returns-in-Watch : goal.returns-in-Watch
-returns-in-Watch g c =
-    rw c.in-Watch.is (edit_answers g.W.Sink.transcript g.W.Sink.failures c.args.self.now c.watch.new.self (changes.Watch c.in-Watch.is_on) c.watch.result _ _ _ (edits-back c.args.self.now c.watch.new.self (changes.Watch c.in-Watch.is_on) c.watch.result c.watch.ensures.engine (c.watch.ensures.done c.args.self.now.engine.grid)) c.end_answer-in-Watch.ensures.sends c.end_answer-in-Watch.ensures.step)
+pub returns-in-Ok-Erase : goal.returns-in-Ok-Erase
+returns-in-Ok-Erase g c =
+    let asks = begun c.args.self.now c.begin.new.self c.args.change c.begin.result (Ok (asked_for.Erase c.in-Ok-Erase.named)) (cc) c.begin.ensures.begun in
+    rw asks.0 (subst (λ (s : SessionState). AnswersChange g.W.Sink.transcript g.W.Sink.failures s (changes.Erase c.in-Ok-Erase.named) c.answer_erase.result c.answer_erase.new.self c.args.sink.now c.answer_erase.new.sink) asks.1 c.answer_erase.ensures)
 
-pub returns-in-Put : goal.returns-in-Put
-returns-in-Put g c =
-    rw c.in-Put.is (edit_answers g.W.Sink.transcript g.W.Sink.failures c.args.self.now c.put.new.self (changes.Put c.in-Put.putting c.in-Put.field c.in-Put.text) c.put.result _ _ _ (subst (λ (text : List ℕ). Edits c.args.self.now (changes.Put c.in-Put.putting c.in-Put.field text) c.put.result c.put.new.self) c.bytes-in-Put.ensures c.put.ensures) c.end_answer-in-Put.ensures.sends c.end_answer-in-Put.ensures.step)
+pub returns-in-Ok-Size : goal.returns-in-Ok-Size
+returns-in-Ok-Size g c =
+    let size : Change = changes.Size c.in-Ok-Size.width c.in-Ok-Size.height in
+    let asks = begun c.args.self.now c.begin.new.self c.args.change c.begin.result (Ok (asked_for.Size c.in-Ok-Size.width c.in-Ok-Size.height)) (cc) c.begin.ensures.begun in
+    let done = subst (λ (s : SessionState). Edits s size c.resize.result c.resize.new.self) asks.1 c.resize.ensures in
+    rw asks.0 (edit_answers g.W.Sink.transcript g.W.Sink.failures c.args.self.now c.resize.new.self size c.resize.result _ _ _ done c.end_answer-in-Ok-Size.ensures.sends c.end_answer-in-Ok-Size.ensures.step)
 
-pub returns-in-Set : goal.returns-in-Set
-returns-in-Set g c = rw c.in-Set.is (c.edit-in-Set.ensures (changes.Set c.in-Set.spot c.in-Set.letter) (c.set.ensures c.args.self.now (sym c.grid.ensures)))
-
-pub returns-in-Clear : goal.returns-in-Clear
-returns-in-Clear g c = rw c.in-Clear.is (c.edit-in-Clear.ensures (changes.Clear c.in-Clear.spot) (c.clear.ensures c.args.self.now (sym c.grid-in-Clear.ensures)))
-
-pub returns-in-Block : goal.returns-in-Block
-returns-in-Block g c = rw c.in-Block.is (c.edit-in-Block.ensures (changes.Block c.in-Block.spot) (c.block.ensures c.args.self.now (sym c.grid-in-Block.ensures)))
-
-pub returns-in-Bar : goal.returns-in-Bar
-returns-in-Bar g c = rw c.in-Bar.is (c.edit-in-Bar.ensures (changes.Bar c.in-Bar.spot c.in-Bar.side) (c.bar.ensures c.args.self.now (sym c.grid-in-Bar.ensures)))
-
-pub returns-in-Place : goal.returns-in-Place
-returns-in-Place g c =
-    rw (c.in-Place.is, ← c.bytes-in-Place.ensures) (c.edit-in-Place.ensures (changes.Place c.in-Place.named c.bytes-in-Place.result.now) (c.place.ensures c.args.self.now (sym c.grid-in-Place.ensures)))
+pub returns-in-Err : goal.returns-in-Err
+returns-in-Err g c =
+    let done = begun c.args.self.now c.begin.new.self c.args.change c.begin.result (Err c.in-Err.refusal) (cc) c.begin.ensures.begun in
+    edit_answers {T = Unit {0}} g.W.Sink.transcript g.W.Sink.failures c.args.self.now c.begin.new.self c.args.change (Err c.in-Err.refusal) _ _ _ done c.end_answer-in-Err.ensures.sends c.end_answer-in-Err.ensures.step

@@ -1,5 +1,4 @@
-use Rattle.std.proofs.Common.{ap, subst, refl}
-use Rattle.std.proofs.lemmas.Result.{on_err_weaker}
+use Rattle.std.proofs.Common.{subst, refl}
 use Rattle.xw_grid.specs.Puzzle.{texts_view}
 use Rattle.xw_session.specs.State.{SessionState}
 use Rattle.xw_session.specs.Reply.{fill_tried}
@@ -20,7 +19,7 @@ returns g c =
       record {
         reply = _;
         fits = fill_fits start (g.E.Feasible.state now) c.args.limit c.fill-filled.result c.fill-filled.ensures.found c.fill-filled.ensures.memory;
-        effect = lines_effect _ start (g.E.Feasible.state now) c.fill-filled.result (on_err_weaker c.fill-filled.result (ap g.E.Feasible.state) c.fill-filled.ensures.unchanged);
+        effect = lines_effect _ start (g.E.Feasible.state now) c.fill-filled.result c.fill-filled.ensures.unchanged;
         sends = c.answer_lines.ensures.sends end;
         step = c.answer_lines.ensures.step end;
       },

@@ -1,6 +1,6 @@
 use Rattle.std.proofs.Common.{◌≡◌, length}
 use Rattle.xw_session.specs.State.{drawn}
-use Rattle.xw_session.specs.Redrawn.{IsRedrawn}
+use Rattle.xw_session.specs.Drafting.{IsRedrawn}
 use Rattle.xw_session.proofs.session.Session.draw.Given as goal
 
 abbrev pub invariant-loop-line : goal.invariant-loop-line

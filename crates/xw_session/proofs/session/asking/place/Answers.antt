@@ -1,4 +1,4 @@
-use Rattle.std.proofs.Common.{◌≡◌, None, ap, subst, sym}
+use Rattle.std.proofs.Common.{◌≡◌, None, ap, inl, refl, subst, sym}
 use Rattle.xw_grid.specs.Grid.{IsGrid}
 use Rattle.xw_grid.specs.Light.{lights_of, index_named}
 use Rattle.xw_feas.specs.State.{placed_in, with_grid}
@@ -10,4 +10,4 @@ pub returns-in-None : goal.returns-in-None
 returns-in-None c = λ state is.
     let formed : IsGrid state.engine.grid = subst IsGrid (sym is) c.well_formed-2.ensures in
     let none : index_named (lights_of state.engine.grid) (name_of_light c.args.named) ≡ None = no_such_number state.engine.grid (name_of_light c.args.named) formed c.in-None.ensures.none in
-    ap (λ light. moved state (with_grid state.engine (placed_in state.engine.grid light c.args.word.now))) none
+    (inl (ap (λ light. moved state (with_grid state.engine (placed_in state.engine.grid light c.args.word.now))) none), refl)

@@ -1,9 +1,0 @@
-use Rattle.std.proofs.Common.{inl, refl, sym}
-use Rattle.std.proofs.lemmas.Result.{err_from_is_err_and}
-use Rattle.xw_session.specs.State.{drawn}
-use Rattle.xw_session.proofs.session.Session.draft_circle.Goals as goal
-
-pub returns-in_err-cell-clause-done : goal.returns-in_err-cell-clause-done
-returns-in_err-cell-clause-done g c =
-    let e = err_from_is_err_and c.from_residual.result c.from_residual.ensures.1 in
-    rw (e.1, e.2) (inl (c.in_err-cell.ensures.refused (drawn c.args.self.now c.args.draft.now) (sym c.draft.view_is)), refl)
