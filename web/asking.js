@@ -62,6 +62,7 @@ const READERS = {
   unmatched: each((number, direction, pattern) => ({ light: name(number, direction), pattern })),
   dups: each((number, direction, earlier, other, word) => ({ light: name(number, direction), first: name(earlier, other), word })),
   unlisted: each((number, direction, word) => ({ light: name(number, direction), word })),
+  grade: ([grade]) => Number(grade),
   grades: each((number, direction, grade) => ({ light: name(number, direction), grade: count(grade) })),
   circles: each((row, column) => ({ row: Number(row), column: Number(column) })),
   why: each((_, row, column, letter) => ({ row: Number(row), column: Number(column), letter })),
@@ -95,7 +96,9 @@ export function ask(xw, command, ...given) {
 // ---- searches
 
 const isWhole = (value) => Number.isSafeInteger(value) && value >= 0;
+const isTime = (value) => value > 0 && Number.isFinite(value);
 const isSignal = (value) => typeof value?.throwIfAborted === 'function';
+const isFlag = (value) => value instanceof Int32Array && value.length > 0;
 const isNames = (value) => Array.isArray(value) && value.every((name) => typeof name === 'string');
 
 // The options of a search: what each may be, and the error for anything else.
@@ -104,16 +107,19 @@ const OPTIONS = {
   seed: [isWhole, RangeError, 'a whole number'],
   lights: [isNames, TypeError, 'an array of names of lights'],
   progress: [(value) => typeof value === 'function', TypeError, 'a function'],
-  every: [(value) => value > 0 && Number.isFinite(value), RangeError, 'a number of milliseconds above 0'],
+  every: [isTime, RangeError, 'a number of milliseconds above 0'],
+  milliseconds: [(value) => value === Infinity || isTime(value), RangeError, 'a number of milliseconds above 0, or Infinity'],
   signal: [isSignal, TypeError, 'an AbortSignal'],
+  stop: [isFlag, TypeError, 'an Int32Array with a number'],
   least: [(value) => isWhole(value) && value <= 100, RangeError, 'a grade from 0 to 100'],
 };
-const AUTOFILL = ['limit', 'seed', 'lights', 'progress', 'every', 'signal'];
-const BEST = [...AUTOFILL, 'least'];
+const AUTOFILL = ['limit', 'seed', 'lights', 'progress', 'every', 'milliseconds', 'signal', 'stop'];
+const NAMES = { autofill: AUTOFILL, best: [...AUTOFILL, 'least'] };
 
 // Throws a TypeError or a RangeError that names an option which the search does not take, or whose value it cannot have. An option that is undefined is left
 // out.
-function expectOptions(search, names, options) {
+export function expectOptions(search, options) {
+  const names = NAMES[search];
   if (!options || typeof options !== 'object') throw new TypeError(`the options of ${search} are not an object`);
   for (const [name, value] of Object.entries(options)) {
     if (!names.includes(name)) throw new TypeError(`${name} is not an option of ${search}, which takes ${names.slice(0, -1).join(', ')} and ${names.at(-1)}`);
@@ -123,25 +129,36 @@ function expectOptions(search, names, options) {
 }
 
 // The slices of a search with these options. They stay short if something may end the search between them.
-const slicesFor = ({ limit = Infinity, progress, signal, every = SPAN }) => new Slices(limit, progress || signal ? every : null);
+const slicesFor = ({ limit = Infinity, progress, signal, stop, every = SPAN, milliseconds }) =>
+  new Slices(limit, progress || signal || stop ? every : null, milliseconds);
+
+// Whether another thread has set the flag of a search.
+const isStopped = ({ stop }) => stop !== undefined && Atomics.load(stop, 0) !== 0;
+
+// Runs a slice of a command, and returns what it answers.
+function slice(xw, slices, options, command) {
+  const { seed = 0, lights = [] } = options;
+  if (isStopped(options)) slices.end();
+  return slices.run((placements) => ask(xw, command, placements, seed, ...lights));
+}
 
 // Lets other events come, such as a click on a stop button, and asks whether the search ends. Throws the reason of a signal that is aborted.
-async function isEnded({ progress, signal }, told) {
+async function isEnded(options, told) {
+  const { progress, signal } = options;
   await new Promise((next) => setTimeout(next));
   signal?.throwIfAborted();
   const isEnd = Boolean(progress && (await progress(told)));
   signal?.throwIfAborted();
-  return isEnd;
+  return isEnd || isStopped(options);
 }
 
 // Fills lights, in slices.
 export async function autofill(xw, options = {}) {
-  expectOptions('autofill', AUTOFILL, options);
-  const { seed = 0, lights = [], signal } = options;
-  signal?.throwIfAborted();
+  expectOptions('autofill', options);
+  options.signal?.throwIfAborted();
   const slices = slicesFor(options);
   do {
-    const answer = slices.run((placements) => ask(xw, 'autofill', placements, seed, ...lights));
+    const answer = slice(xw, slices, options, 'autofill');
     if (answer !== 'limit' || (await isEnded(options, { placements: slices.made, grade: null, bound: 101, rows: null }))) return answer;
   } while (!slices.isOver);
   return 'limit';
@@ -175,13 +192,13 @@ function meanOf(xw, entered) {
 // Yields better and better fills, each of which stands in the grid then, under the least grade of the search. Between two slices the grid is as it was at the
 // start. `told` has what was found.
 async function* climb(xw, told, options) {
-  const { seed = 0, lights = [], least = 0 } = options;
+  const { least = 0 } = options;
   const [start, entered] = [rowsOf(xw), enteredIn(xw)];
   const slices = slicesFor(options);
   do {
     const above = told.grade === null ? least : told.grade + 1;
     ask(xw, 'least', above);
-    const { answer, grade, bound } = slices.run((placements) => ask(xw, 'best', placements, seed, ...lights));
+    const { answer, grade, bound } = slice(xw, slices, options, 'best');
     told.bound = Math.min(told.bound, bound ?? above);
     if (answer === 'filled') {
       Object.assign(told, { answer, grade, rows: rowsOf(xw) });
@@ -197,7 +214,7 @@ async function* climb(xw, told, options) {
 // Yields better and better fills, in slices, and returns what `best` does. However it ends, also if it is left, the best fill stands in the grid whole, or the
 // grid is as it was.
 export async function* fills(xw, options = {}) {
-  expectOptions('best', BEST, options);
+  expectOptions('best', options);
   options.signal?.throwIfAborted();
   const told = { answer: 'limit', grade: null, bound: 101, rows: null };
   try {

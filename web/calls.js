@@ -4,7 +4,7 @@ import { Failure, USAGE, misused } from './failure.js';
 
 // What the words after the name of each command may be.
 const COMMANDS = {
-  edit: { options: ['--dict', '--from', '--resume', '--to', '--save', '--journal'], flags: ['--sync', '--explain'], operands: [] },
+  edit: { options: ['--dict', '--from', '--resume', '--to', '--save', '--journal'], flags: ['--sync', '--progress', '--explain'], operands: [] },
   convert: { options: [], flags: ['--explain'], operands: ['<FROM>', '<TO>'] },
   check: { options: [], flags: ['--explain'], operands: ['<FILE>...'] },
 };
@@ -54,6 +54,7 @@ Options:
       --resume <FILE>   Run the commands of this file first, without answers, as --save wrote them
       --to <FILE>       Write the puzzle here at the end: as .puz if the name ends in .puz, otherwise as text
       --save <FILE>     Write the session here at the end, as commands for --resume
+      --progress        Accepted, but searches of this command do not tell how far they are
   -h, --help            Print help
 
 The program has --journal, --sync and --explain too, which this command does not offer.
@@ -213,6 +214,7 @@ export function callOf(words) {
   const call = new Words(command, words.slice(1));
   if (call.take()) return { shown: HELPS[command] };
   expectSound(call);
-  const files = Object.fromEntries([...call.given].map(([option, value]) => [option.slice('--'.length), value]));
+  const named = [...call.given].filter(([, value]) => value !== true);
+  const files = Object.fromEntries(named.map(([option, value]) => [option.slice('--'.length), value]));
   return { command, files, operands: call.operands };
 }

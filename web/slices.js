@@ -12,19 +12,21 @@ const PART = 0.1;
 
 /**
  * The slices of a search, which has `limit` placements in all. Each takes about `span` milliseconds: it has as many placements as the last one made in this time,
- * and at most twice as many as the last one. Without a span the slices get longer with the search.
+ * and at most twice as many as the last one. Without a span the slices get longer with the search. No slice begins after `milliseconds` of search.
  */
 export class Slices {
   #limit;
   #span;
+  #milliseconds;
   #due = FIRST;
   #spent = 0;
   /** At most so many placements were made. */
   made = 0;
 
-  constructor(limit, span = null) {
+  constructor(limit, span = null, milliseconds = Infinity) {
     this.#limit = limit;
     this.#span = span;
+    this.#milliseconds = milliseconds;
   }
 
   /** Runs a slice, and returns what it found. The time between two slices does not count. */
@@ -41,13 +43,20 @@ export class Slices {
 
   // The placements of the slice after one that took so long.
   #after(placements, taken) {
-    const span = this.#span ?? Math.max(SPAN, PART * this.#spent);
+    // the last one ends about when the time is over
+    const left = Math.max(0, this.#milliseconds - this.#spent);
+    const span = Math.min(left, this.#span ?? Math.max(SPAN, PART * this.#spent));
     const growth = taken > 0 ? Math.min(2, span / taken) : 2;
     return Math.max(FEWEST, Math.min(Math.floor(placements * growth), Math.floor(span * FASTEST)));
   }
 
-  /** Whether all placements are made. */
+  /** Ends the search: a slice that still runs has no placements, and only tells what is wrong with the session or the lights. */
+  end() {
+    this.#limit = this.made;
+  }
+
+  /** Whether all placements are made, or the time is over. */
   get isOver() {
-    return this.made >= this.#limit;
+    return this.made >= this.#limit || this.#spent >= this.#milliseconds;
   }
 }

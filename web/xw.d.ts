@@ -182,6 +182,7 @@ export interface Answers {
   unmatched: { light: Light; pattern: string }[];
   dups: { light: Light; first: Light; word: string }[];
   unlisted: { light: Light; word: string }[];
+  grade: number;
   grades: { light: Light; grade: number | null }[];
   suggest: { kind: 'try' | 'noword' | 'dead' | 'done'; light: Light | null; word: string | null };
   why: { row: number; column: number; letter: string }[];
@@ -232,6 +233,7 @@ export interface Arguments {
   unmatched: Nothing;
   dups: Nothing;
   unlisted: Nothing;
+  grade: [word: string];
   grades: (Light | Whole)[];
   suggest: Nothing;
   why: Named;
@@ -302,17 +304,27 @@ export interface Search {
   /** The lights to fill, as `1 across`; all, if none is named. */
   lights?: readonly Light[];
   /**
-   * Is called after each slice. A true value ends the search, as if its placements were used up. Without it and a signal the slices get longer, up to a tenth
-   * of the time so far.
+   * Is called after each slice. A true value ends the search, as if its placements were used up. Without it, a signal and a flag the slices get longer, up to a
+   * tenth of the time so far.
    */
   progress?: (progress: Progress) => unknown;
-  /** A slice takes about so many milliseconds, where `progress` or `signal` may end the search after it; 100 by default. */
+  /** A slice takes about so many milliseconds, where `progress`, `signal` or `stop` may end the search after it; 100 by default. */
   every?: number;
+  /**
+   * Ends the search, as if its placements were used up, when its slices have taken so many milliseconds; a number above 0, or `Infinity`. The last slice ends
+   * about then. The time between two slices does not count.
+   */
+  milliseconds?: number;
   /**
    * Ends the search after a slice: it throws the reason of the signal. The best fill so far stands in the grid whole, or the grid is as it was. A search whose
    * signal is aborted before it begins does nothing.
    */
   signal?: AbortSignal;
+  /**
+   * A flag that another thread sets, in a `SharedArrayBuffer`: `Atomics.store(stop, 0, 1)` ends each search that has it after the slice that runs, and each one
+   * that begins later, as if its placements were used up.
+   */
+  stop?: Int32Array;
 }
 
 /**

@@ -65,8 +65,7 @@ const NOTES = `(() => {
   window.notes = [];
   let placements = 0;
   Worker.prototype.postMessage = function (message, transfer) {
-    const line = message.call === 'best' ? 'best ' + message.sent.limits : [message.sent?.line, ...(message.sent?.lines ?? [])].find((one) => /^(autofill|best) /.test(one));
-    if (line) placements += Number(line.split(' ')[1]);
+    if (['autofill', 'best', 'search'].includes(message.call)) placements += message.sent.given[0];
     post.call(this, message, transfer);
   };
   addEventListener('keydown', () => {

@@ -4,7 +4,7 @@ import { rmSync, writeFileSync } from 'node:fs';
 import { join } from 'node:path';
 import { Xw } from '../dist/xw.js';
 import { takeList } from './browser.mjs';
-import { LIST, browser, expect, module, page, picture, pictures, program, room } from './page.mjs';
+import { LIST, browser, expect, inPage, module, page, picture, pictures, program, room, the, untilInPage } from './page.mjs';
 
 export async function menu(name) {
   await browser.click('#file');
@@ -22,7 +22,7 @@ export const slideLeast = (grade, events = ['input', 'change']) => browser.value
 export const pointedAt = (word) => browser.until(`document.querySelector('#candidates [aria-selected=true]')?.dataset.word === '${word}'`);
 
 // An older message is taken away, so that what is waited for is a new one.
-export const hush = () => browser.value("document.getElementById('status').textContent = '', window.said.length = 0");
+export const hush = () => inPage(() => (document.getElementById('status').textContent = '', window.said.length = 0));
 
 export async function begin(pattern) {
   await menu('new');
@@ -49,8 +49,8 @@ export async function openFile(path) {
 
 // What the page says of a file with faults, once it asks whether to open it.
 export async function faultsShown() {
-  await browser.until("document.getElementById('repairs-dialog').open");
-  return browser.value("[...document.querySelectorAll('#repairs li')].map(({ textContent }) => textContent)");
+  await the('#repairs-dialog').isOpen();
+  return the('#repairs li').texts();
 }
 
 // Answers that: `open` or `cancel`.
@@ -80,12 +80,12 @@ export async function openRecord(record) {
 export async function writeClues() {
   await browser.press('F3');
   const count = await page.count('#clue-list textarea');
-  await browser.value("document.querySelector('#clue-list textarea').focus()");
+  await the('#clue-list textarea').focus();
   for (let at = 0; at < count; at++) {
     await browser.type(`clue ${at + 1}`);
     await browser.press('Enter');
   }
-  await browser.until("/every (light|entry) has a clue/.test(document.getElementById('clue-summary').textContent)");
+  await the('#clue-summary').says(/every (light|entry) has a clue/);
   return count;
 }
 
@@ -140,7 +140,7 @@ export function wordsOf(rows) {
 // Begins a blank grid.
 export async function beginBlank(width, height) {
   await menu('new');
-  await browser.value(`document.getElementById('new-width').value = ${width}, document.getElementById('new-height').value = ${height}`);
+  await page.wantSize(width, height);
   await browser.click('#new-blank');
   await page.factsAre(new RegExp(`^${width} × ${height} · 0 of`));
 }
@@ -163,20 +163,21 @@ export async function wantGrids(entries, style, { sym = 'half', size = 15, seeds
 }
 
 // Stops the search for grids, if it is not over.
-export const stopGrids = () => browser.value("document.getElementById('themes-stop').hidden || document.getElementById('themes-stop').click()");
+export const stopGrids = () => inPage(() => document.getElementById('themes-stop').hidden || document.getElementById('themes-stop').click());
 
-// Waits until so many grids are judged, and stops the search.
-export async function gridsAreJudged(enough) {
-  await browser.until(`[...document.querySelectorAll('#themes-grids .pattern')].filter((card) => !card.querySelector('.bad')).length >= ${enough}`);
+// Waits until so many grids are judged and so many of these fill, and stops the search.
+export async function gridsAreJudged(enough, filling = 0) {
+  const judged = `[...document.querySelectorAll('#themes-grids .pattern')].filter((card) => !card.querySelector('.bad'))`;
+  await browser.until(`((cards) => cards.length >= ${enough} && cards.filter((card) => card.querySelector('.here')).length >= ${filling})(${judged})`);
   await stopGrids();
 }
 
-// Shows grids around entries in the dialog, until there are enough or so many are there, and returns what is said of each.
-export async function showGrids(entries, style, { enough = 3, ...more } = {}) {
+// Shows grids around entries in the dialog, until there are enough of which so many fill, and returns what is said of each.
+export async function showGrids(entries, style, { enough = 3, filling = 0, ...more } = {}) {
   await wantGrids(entries, style, more);
   await browser.click('#themes-show');
-  await gridsAreJudged(enough);
-  return browser.value("[...document.querySelectorAll('#themes-grids .pattern small')].map((verdict) => verdict.textContent)");
+  await gridsAreJudged(enough, filling);
+  return inPage(() => [...document.querySelectorAll('#themes-grids .pattern small')].map((verdict) => verdict.textContent));
 }
 
 // Chooses a grid of which something is said.
@@ -190,9 +191,9 @@ export const hasWord = (rows, word) => rows.some((row) => row.includes(word)) ||
 
 // Prints what the dialog shows. The browser's own dialog would stand in the way.
 export async function print() {
-  await browser.value('window.isPrinted = false, window.print = () => { window.isPrinted = true; }, 0');
+  await inPage(() => (window.isPrinted = false, window.print = () => { window.isPrinted = true; }, 0));
   await browser.click('#print-dialog [value=print]');
-  await browser.until('window.isPrinted');
+  await untilInPage(() => window.isPrinted);
 }
 
 // Fills the grid that is here, writes its clues, prints it and saves it, by the page's own controls.
@@ -201,7 +202,7 @@ export async function wholePuzzle(name, title, form) {
   await page.statusIs(/^filled/);
   await picture(`${name}-filled`);
   await browser.press('F4');
-  await browser.until("document.activeElement.id === 'title'");
+  await the('#title').hasFocus();
   await browser.type(title);
   await browser.press('Tab');
   await browser.type('A. Setter');
@@ -209,13 +210,13 @@ export async function wholePuzzle(name, title, form) {
   const count = await writeClues();
   await picture(`${name}-clues`);
   await browser.click('#tab-puzzle');
-  await browser.until("document.querySelector('#checks li') && !/no clue|are empty/.test(document.getElementById('checks').textContent)");
+  await untilInPage(() => document.querySelector('#checks li') && !/no clue|are empty/.test(document.getElementById('checks').textContent));
   await picture(`${name}-checks`);
-  const warnings = await browser.value("[...document.querySelectorAll('#checks li:not(.good)')].map(({ textContent }) => textContent)");
+  const warnings = await the('#checks li:not(.good)').texts();
   // the clues have the word CLUE, which the grid may have
   expect(warnings.every((text) => /one root|share|has CLUE/.test(text)), `warned of: ${warnings}`);
   await browser.press('Control+p');
-  await browser.until(`document.querySelectorAll('#preview .page:first-child .clues p').length === ${count}`);
+  await the('#preview .page:first-child .clues p').are(count);
   await picture(`${name}-print`);
   await print();
   if (pictures) writeFileSync(join(pictures, `${name}.pdf`), await browser.pdf());

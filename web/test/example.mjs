@@ -1,23 +1,24 @@
-// Tests the example of docs/embedding.md in a page.
+// Tests the examples of docs/embedding.md in a page: a session in the page, and one in a worker.
 //
 //   node --experimental-websocket web/test/example.mjs
 //
 // It needs ./build web, Debian's package chromium, and a Node with WebSocket (20.10 with the option above, or 22). tests/page runs it.
-// tests/library runs the example in Node.
+// tests/library runs the examples in Node.
 import { deepStrictEqual } from 'node:assert/strict';
 import { readFileSync } from 'node:fs';
 import { createServer } from 'node:http';
 import { exampleOf } from '../../tests/web/example.mjs';
 import { Browser } from './browser.mjs';
 
-const { code, printed } = exampleOf('docs/embedding.md', "import { load, Xw } from './xw.js';");
+const BEGINNINGS = ["import { load, Xw } from './xw.js';", "import { RemoteXw } from './remote.js';"];
+const examples = BEGINNINGS.map((beginning) => exampleOf('docs/embedding.md', beginning));
+const SCRIPTS = ['xw.js', 'asking.js', 'slices.js', 'remote.js', 'worker.js'];
+const built = (name) => readFileSync(new URL(`../dist/${name}`, import.meta.url));
 const FILES = {
   '/': ['text/html', '<!doctype html><meta charset="utf-8"><title>example</title>'],
-  '/example.js': ['text/javascript', code],
-  '/xw.js': ['text/javascript', readFileSync(new URL('../dist/xw.js', import.meta.url))],
-  '/asking.js': ['text/javascript', readFileSync(new URL('../dist/asking.js', import.meta.url))],
-  '/slices.js': ['text/javascript', readFileSync(new URL('../dist/slices.js', import.meta.url))],
-  '/xw.wasm': ['application/wasm', readFileSync(new URL('../dist/xw.wasm', import.meta.url))],
+  ...Object.fromEntries(examples.map(({ code }, at) => [`/example${at}.js`, ['text/javascript', code]])),
+  ...Object.fromEntries(SCRIPTS.map((name) => [`/${name}`, ['text/javascript', built(name)]])),
+  '/xw.wasm': ['application/wasm', built('xw.wasm')],
 };
 
 const server = createServer((request, response) => {
@@ -30,13 +31,17 @@ const browser = await Browser.open();
 try {
   await browser.go(`http://127.0.0.1:${server.address().port}/`);
   const seen = await browser.value(`(async () => {
-    const seen = [];
-    console.log = (value) => seen.push(value);
-    await import('./example.js');
-    return seen;
+    const all = [];
+    for (let at = 0; at < ${examples.length}; at++) {
+      const seen = [];
+      console.log = (value) => seen.push(value);
+      await import('./example' + at + '.js');
+      all.push(seen);
+    }
+    return all;
   })()`);
-  deepStrictEqual(seen, printed);
-  console.log('1 passed, 0 failed');
+  deepStrictEqual(seen, examples.map(({ printed }) => printed));
+  console.log(`${examples.length} passed, 0 failed`);
 } finally {
   await browser.close();
   server.close();

@@ -9,11 +9,12 @@ import { Xw, load } from '../dist/xw.js';
 import { Count } from './count.mjs';
 import { pageModules } from './page-modules.mjs';
 
-const { Making, OUTLETS, PATTERNS, Search, Turns, checkWanted, gridFrom, limitsAt, mostUnchecked, movesIn, recordOf, recordOfGrid, rowsOf } = await pageModules(
-  'grids/making', 'grids/moves', 'grids/british', 'grids/search', 'grids/outlets', 'grids/grid', 'grids/symmetry', 'grids/barred', 'grids/patterns',
+const { Making, OUTLETS, PATTERNS, Search, Turns, checkWanted, gridFrom, limitsAt, loadModule, mostUnchecked, movesIn, open, recordOf, recordOfGrid, rowsOf } = await pageModules(
+  'engine/session', 'grids/making', 'grids/moves', 'grids/british', 'grids/search', 'grids/outlets', 'grids/grid', 'grids/symmetry', 'grids/barred', 'grids/patterns',
 );
 const SYMMETRIES = ['half', 'quarter', 'leftright', 'updown', 'none'];
-const module = await load(readFileSync(new URL('../dist/xw.wasm', import.meta.url)));
+const bytes = readFileSync(new URL('../dist/xw.wasm', import.meta.url));
+const module = await load(bytes);
 
 function expect(isSo, what) {
   if (!isSo) throw new Error(what);
@@ -188,12 +189,11 @@ const CASES = {
     }
   },
 
-  'what the engine says of a grid'() {
+  async 'what the engine says of a grid'() {
     // two fills: AB over CD, and AC over BD
-    const scores = new Map([['AB', 90], ['CD', 80], ['AC', 70], ['BD', 60]]);
-    const xw = Xw.open(module, { list: [...scores].map(([word, score]) => `${word};${score}`).join('\n') });
-    const ask = (line) => xw.line(line);
-    const making = new Making({ ask, asked: ({ line, read }) => read(ask(line).lines), scoreOf: (word) => scores.get(word) ?? null });
+    await loadModule({ bytes });
+    open({ sources: [{ bytes: Buffer.from('ab;90\ncd;80\nac;70\nbd;60\n') }], personal: '', least: 0, threes: 0, record: '' });
+    const making = new Making();
     const look = making.look({ lines: ['size 2 2'] });
     expect(!look.unmatched.length && !look.dead.length && look.fewest === 2, `of the empty grid it is said: ${JSON.stringify(look)}`);
     const fill = making.fill({ lines: ['size 2 2'], placements: 100, isScored: true });

@@ -1,10 +1,10 @@
 // What cases do between the page and its workers: they count messages, change them, and hold them back. And what the browser keeps.
-import { browser, expect } from './page.mjs';
+import { browser, expect, inPage, page, the, untilInPage } from './page.mjs';
 
 // Types a letter at the cursor, and counts its work: it is one edit, sent ahead of all else, and no cell is written to but those that the answer
 // names, and those of the cursor.
 export async function workOfLetter(letter) {
-  await browser.value(`(() => {
+  await inPage(() => {
     window.work = { sent: [], written: new Set(), told: null };
     const post = Worker.prototype.postMessage;
     // what was sent before the key is no work of the letter
@@ -21,13 +21,13 @@ export async function workOfLetter(letter) {
       for (const { target } of records) window.work.written.add((target.parentElement?.closest('.cell') ?? target).id);
     });
     for (const cell of document.querySelectorAll('.cell')) window.writes.observe(cell, { attributes: true, characterData: true, subtree: true });
-  })()`);
+  });
   await browser.press(letter);
-  await browser.until("window.work.told && document.querySelector('#candidates[aria-busy=false]')");
-  const { sent, written, changed } = await browser.value(`(window.writes.disconnect(),
-    { sent: window.work.sent, written: [...window.work.written].filter(Boolean), changed: window.work.told.changed })`);
+  await untilInPage(() => (window.work.told && document.querySelector('#candidates[aria-busy=false]')));
+  const { sent, written, changed } = await inPage(() => (window.writes.disconnect(),
+    { sent: window.work.sent, written: [...window.work.written].filter(Boolean), changed: window.work.told.changed }));
   expect(sent[0] === 'edit', `sent ahead of the letter: ${sent}`);
-  const named = changed.map((line) => `cell-${line.split(' ')[1]}-${line.split(' ')[2]}`);
+  const named = changed.map(({ row, column }) => `cell-${row}-${column}`);
   const others = written.filter((id) => !named.includes(id));
   expect(others.length <= 2, `cells are written to that did not change: ${others}`);
   return `${named.length} cells changed, ${written.length} written`;
@@ -87,15 +87,19 @@ export const changeEdit = (line, changed) => browser.value(`(() => {
 })()`);
 
 // Holds the first slice of a fill back until `heldFill` of the page is called, and leaves it no placement to end with.
-export const holdFill = () => browser.value(`(() => {
+export const holdFill = () => inPage(() => {
   window.heldFill = null;
   const post = Worker.prototype.postMessage;
   Worker.prototype.postMessage = function (message, transfer) {
-    if (!message.sent.lines?.[0]?.startsWith('autofill')) return post.call(this, message, transfer);
+    if (message.call !== 'autofill') return post.call(this, message, transfer);
     Worker.prototype.postMessage = post;
-    window.heldFill = () => post.call(this, { ...message, sent: { ...message.sent, lines: ['autofill 0 0'] } }, transfer);
+    window.heldFill = () => post.call(this, { ...message, sent: { given: [0, 0] } }, transfer);
   };
-})()`);
+});
+
+// Lets go of it.
+export const isFillHeld = () => untilInPage(() => window.heldFill);
+export const releaseFill = () => inPage(() => window.heldFill());
 
 // Holds the slices of the worker of the session back until another worker gives an answer, with so many cores; it then finds nothing itself.
 export const raceOthers = (answer, cores) => browser.value(`(() => {
@@ -113,18 +117,18 @@ export const raceOthers = (answer, cores) => browser.value(`(() => {
       race.workers.add(this);
       this.addEventListener('message', take);
     }
-    if (!message.sent.lines?.[0]?.startsWith('autofill')) return post.call(this, message, transfer);
+    if (message.call !== 'autofill') return post.call(this, message, transfer);
     race.release = () => {
       race.release = null;
-      post.call(this, { ...message, sent: { ...message.sent, lines: ['autofill 0 0'] } }, transfer);
+      post.call(this, { ...message, sent: { given: [0, 0] } }, transfer);
     };
     if (race.told) race.release();
   };
 })()`);
 
 // Takes away the end that comes by time to raisings, or gives it back: without it they go on until none is better.
-export const raiseToTheEnd = () => browser.value('window.inTime ??= window.setTimeout, window.setTimeout = (action, time, ...more) => (time === 2000 ? 0 : window.inTime(action, time, ...more)), 0');
-export const raiseInTime = () => browser.value('window.setTimeout = window.inTime, 0');
+export const raiseToTheEnd = () => inPage(() => (window.inTime ??= window.setTimeout, window.setTimeout = (action, time, ...more) => (time === 2000 ? 0 : window.inTime(action, time, ...more)), 0));
+export const raiseInTime = () => inPage(() => (window.setTimeout = window.inTime, 0));
 
 // Holds calls of a name back until `release` of the page is called.
 export const hold = (name) => browser.value(`(() => {
@@ -141,6 +145,9 @@ export const hold = (name) => browser.value(`(() => {
   };
 })()`);
 
+// Lets go of them.
+export const release = () => inPage(() => window.release());
+
 // Holds the slices of raisings back so, and takes their end by time away.
 export const holdRaising = () => raiseToTheEnd().then(() => hold('best'));
-export const isHeld = () => browser.until('window.held?.length > 0');
+export const isHeld = () => untilInPage(() => window.held?.length > 0);

@@ -7,8 +7,8 @@ import { readFileSync } from 'node:fs';
 import { Count } from './count.mjs';
 import { pageModules } from './page-modules.mjs';
 
-const { GradedCounts, OUTLETS, PATTERNS, Pool, Search, WordCounts, checkWanted, limitsAt, narrowest, rowsOf, wholeLimits } = await pageModules(
-  'grids/search', 'grids/counts', 'grids/outlets', 'grids/pool', 'grids/grid', 'grids/passage', 'grids/patterns',
+const { Board, Crossings, Frame, GradedCounts, OUTLETS, PATTERNS, Pool, Search, WordCounts, checkWanted, limitsAt, narrowest, rowsOf, wholeLimits } = await pageModules(
+  'grids/board', 'grids/crossings', 'grids/frame', 'grids/search', 'grids/counts', 'grids/outlets', 'grids/pool', 'grids/grid', 'grids/passage', 'grids/patterns',
 );
 const LIST = readFileSync('/usr/share/dict/american-english', 'latin1').split('\n').filter((word) => /^[a-z]{3,}$/.test(word)).map((word) => word.toUpperCase());
 const counts = new GradedCounts(LIST, () => true);
@@ -198,6 +198,15 @@ const CASES = {
     return `${judged(wantedFor(SUNDAY, { entries: wordsOfLengths([17, 15, 15, 13, 13]) }), 3)} boards`;
   },
 
+  'a 21 by 21 with seven theme entries, of 111 letters'() {
+    return `${judged(wantedFor(SUNDAY, { entries: wordsOfLengths([21, 17, 17, 15, 15, 13, 13]) }), 12)} boards`;
+  },
+
+  'eight theme entries in 15 by 15'() {
+    const sets = [[10, 10, 9, 9, 8, 8, 7, 7], [8, 8, 8, 8, 8, 8, 8, 8]];
+    return `${sets.map((lengths) => judged(wantedFor(DAILY, { entries: wordsOfLengths(lengths) }), 12, 1200))} boards`;
+  },
+
   'symmetries and rectangles'() {
     const works = [
       [15, 15, 'leftright', [11, 15, 9]], [15, 15, 'leftright', [15, 6, 6, 13]], [15, 15, 'updown', [9, 9, 11]], [15, 15, 'none', [14, 12, 9]], [15, 15, 'quarter', [9, 9]],
@@ -262,6 +271,23 @@ const CASES = {
       const good = all.filter((word) => word.includes('E')).length;
       expect(index.count(pattern) === all.length, `${text}: ${index.count(pattern)} words, and not ${all.length}`);
       expect(Math.abs(graded.count(pattern) - good - 0.05 * (all.length - good)) < 1e-9, `${text}: the good ones are counted wrongly`);
+    }
+  },
+
+  'what the lines across an entry cost'() {
+    // an entry in the middle row of three columns, which cross it
+    const costOf = (height, sym, count) => {
+      const frame = new Frame(3, height, sym);
+      const board = new Board(frame);
+      board.hold([{ word: 'TEA', run: frame.cellsOf({ isDown: false, line: (height - 1) / 2, from: 0, length: 3 }) }]);
+      return new Crossings(board, height, { count }).cost();
+    };
+    for (const sym of ['none', 'half', 'leftright', 'updown']) {
+      expect(costOf(3, sym, () => 1000) === 0, `${sym}: lights with words cost something`);
+      expect(costOf(3, sym, () => 0) === 60, `${sym}: three lights without a word cost ${costOf(3, sym, () => 0)}`);
+      // a light of three letters crosses it, and the four other cells are blocks
+      const told = costOf(7, sym, ({ length }) => (length === 3 ? 1000 : 0));
+      expect(told === 6, `${sym}: twelve blocks cost ${told}`);
     }
   },
 

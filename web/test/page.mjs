@@ -51,19 +51,83 @@ export function expect(isSo, what) {
   if (!isSo) throw new Error(what);
 }
 
+// A function with what it is given, as an expression of the page: values that JSON can spell, and patterns.
+const called = (action, given) => `(${action})(${given.map((one) => (one instanceof RegExp ? String(one) : JSON.stringify(one))).join()})`;
+
+// Has a function run in the page, and returns what it returns; or waits until that is true, and returns it.
+export const inPage = (action, ...given) => browser.value(called(action, given));
+export const untilInPage = (action, ...given) => browser.until(called(action, given));
+
+function tellValue(selector, value, event) {
+  const field = document.querySelector(selector);
+  field.value = value;
+  field.dispatchEvent(new Event(event, { bubbles: true }));
+}
+
+// What a selector finds in the page: the first one, or all of them. What begins with `is`, `has`, `are`, `say` or `hold` waits until it is so.
+export const the = (selector) => ({
+  text: () => inPage((one) => document.querySelector(one).textContent, selector),
+  texts: () => inPage((one) => [...document.querySelectorAll(one)].map(({ textContent }) => textContent), selector),
+  joined: (between = ',') => inPage((one, by) => [...document.querySelectorAll(one)].map(({ textContent }) => textContent).join(by), selector, between),
+  value: () => inPage((one) => document.querySelector(one).value, selector),
+  get: (name) => inPage((one, of) => document.querySelector(one)[of], selector, name),
+  matches: (other) => inPage((one, is) => document.querySelector(one).matches(is), selector, other),
+  focus: (at = 0) => inPage((one, of) => document.querySelectorAll(one)[of].focus(), selector, at),
+  press: (at = 0) => inPage((one, of) => document.querySelectorAll(one)[of].click(), selector, at),
+  put: (name, value) => inPage((one, of, now) => { document.querySelector(one)[of] = now; }, selector, name, value),
+  // gives a field another value, and tells the page as a browser does
+  choose: (value) => inPage(tellValue, selector, value, 'change'),
+  isThere: () => untilInPage((one) => document.querySelector(one) !== null, selector),
+  // there is none any more
+  isGone: () => untilInPage((one) => document.querySelector(one) === null, selector),
+  is: (other) => untilInPage((one, is) => document.querySelector(one)?.matches(is), selector, other),
+  isShown: () => untilInPage((one) => document.querySelector(one)?.hidden === false, selector),
+  isHidden: () => untilInPage((one) => document.querySelector(one)?.hidden, selector),
+  isOpen: () => untilInPage((one) => document.querySelector(one)?.open, selector),
+  isClosed: () => untilInPage((one) => document.querySelector(one)?.open === false, selector),
+  isEnabled: () => untilInPage((one) => document.querySelector(one)?.disabled === false, selector),
+  isDisabled: () => untilInPage((one) => document.querySelector(one)?.disabled, selector),
+  hasFocus: () => untilInPage((one) => document.activeElement.matches(one), selector),
+  are: (count) => untilInPage((one, so) => document.querySelectorAll(one).length === so, selector, count),
+  areAtLeast: (count) => untilInPage((one, so) => document.querySelectorAll(one).length >= so, selector, count),
+  // a text, or a pattern
+  says: (text) => untilInPage((one, so) => {
+    const told = document.querySelector(one)?.textContent;
+    return told !== undefined && (so instanceof RegExp ? so.test(told) : told === so);
+  }, selector, text),
+  begins: (text) => untilInPage((one, so) => document.querySelector(one)?.textContent.startsWith(so), selector, text),
+  ends: (text) => untilInPage((one, so) => document.querySelector(one)?.textContent.endsWith(so), selector, text),
+  has: (text) => untilInPage((one, so) => document.querySelector(one)?.textContent.includes(so), selector, text),
+  saysNot: (pattern) => untilInPage((one, so) => !so.test(document.querySelector(one).textContent), selector, pattern),
+  oneSays: (text) => untilInPage((one, so) => [...document.querySelectorAll(one)].some(({ textContent }) => textContent === so), selector, text),
+  // what a screen reader calls it
+  isCalled: (pattern) => untilInPage((one, so) => so.test(document.querySelector(one)?.ariaLabel), selector, pattern),
+  holds: (value) => untilInPage((one, so) => document.querySelector(one)?.value === so, selector, value),
+  // what all say or hold, with what stands between
+  say: (texts, between = ',') => untilInPage((one, so, by) => [...document.querySelectorAll(one)].map(({ textContent }) => textContent).join(by) === so, selector, texts, between),
+  hold: (values, between = ',') => untilInPage((one, so, by) => [...document.querySelectorAll(one)].map(({ value }) => value).join(by) === so, selector, values, between),
+});
+
 // What the page shows.
 export const page = {
-  status: () => browser.value("document.getElementById('status').textContent"),
-  facts: () => browser.value("document.getElementById('facts').textContent"),
+  status: () => inPage(() => document.getElementById('status').textContent),
+  facts: () => inPage(() => document.getElementById('facts').textContent),
+  count: (selector) => inPage((one) => document.querySelectorAll(one).length, selector),
   // the letters of the rows, with # for a block and . for no entry, all as they are at one moment
-  rows: () => browser.value(`[...document.querySelectorAll('#grid .row')].map((row) => [...row.querySelectorAll('.cell')].map((cell) => cell.classList.contains('block') ? '#' :
-    cell.matches('.only, .ghost') ? '.' : cell.querySelector('.letter').textContent || '.').join(''))`),
+  rows: () => inPage(() => [...document.querySelectorAll('#grid .row')].map((row) => [...row.querySelectorAll('.cell')].map((cell) => cell.classList.contains('block') ? '#' :
+    cell.matches('.only, .ghost') ? '.' : cell.querySelector('.letter').textContent || '.').join(''))),
   row: async (row) => (await page.rows())[row - 1],
   has: (cell, name) => browser.value(`document.getElementById('cell-${cell}').classList.contains('${name}')`),
-  count: (selector) => browser.value(`document.querySelectorAll(${JSON.stringify(selector)}).length`),
   // waits for one of the messages since the last key, click or file, and returns it: others may take its place at once
   statusIs: (pattern, tone = '') => browser.until(`window.messages().find(({ text, tone }) => ${pattern}.test(text) && (${!tone} || tone === '${tone}'))?.text`),
   factsAre: (pattern) => browser.until(`${pattern}.test(document.getElementById('facts').textContent)`),
+  runs: () => untilInPage(() => window.isRunning),
+  // the size of a blank grid, and a selection in the field that has the keys
+  wantSize: (width, height) => inPage((columns, rows) => {
+    document.getElementById('new-width').value = columns;
+    document.getElementById('new-height').value = rows;
+  }, width, height),
+  select: (from, to) => inPage((begin, end) => document.activeElement.setSelectionRange(begin, end), from, to),
   cursorAt: (cell) => browser.until(`document.querySelector('.cursor')?.id === 'cell-${cell}'`),
 };
 
@@ -108,12 +172,12 @@ const SLOWLY = `
 const SLOWER = 3;
 
 export async function ready() {
-  await browser.until("window.fault || /words$|word list$/.test(document.getElementById('facts').textContent) || /cannot start/.test(document.getElementById('status').textContent)");
-  expect(!(await browser.value('window.fault')), `the page fails: ${await browser.value('window.fault')}`);
+  await untilInPage(() => window.fault || /words$|word list$/.test(document.getElementById('facts').textContent) || /cannot start/.test(document.getElementById('status').textContent));
+  expect(!(await inPage(() => window.fault)), `the page fails: ${await inPage(() => window.fault)}`);
 }
 
 // Waits until the word lists that are in use are kept, so that the page can be left.
-export const areListsKept = () => browser.until("!document.querySelector('#lists[aria-busy=true]')");
+export const areListsKept = () => untilInPage(() => !document.querySelector('#lists[aria-busy=true]'));
 
 // Leaves the page for an empty one of the same origin, and takes all away that the browser keeps.
 export async function forget() {
@@ -121,7 +185,7 @@ export async function forget() {
   const blank = join(room, 'blank.html');
   writeFileSync(blank, '');
   await browser.go(server ? new URL('blank.html', PAGE).href : `file://${blank}`);
-  await browser.value(`new Promise((resolve, reject) => {
+  await inPage(() => new Promise((resolve, reject) => {
     localStorage.clear();
     sessionStorage.clear();
     const deleting = (name) => new Promise((resolve, reject) => {
@@ -130,7 +194,7 @@ export async function forget() {
       request.onerror = reject;
     });
     Promise.all(['xw-editor', 'xw-editor-clues', 'xw-editor-history'].map(deleting)).then(resolve, reject);
-  })`);
+  }));
 }
 
 // The page as a first visitor finds it.

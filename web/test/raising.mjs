@@ -55,9 +55,9 @@ class Session {
   engine = {
     call: async (name, { words, lines }) => {
       if (name === 'grades') return words.map((word) => this.grades[word] ?? null);
-      // a search of the session
+      if (name !== 'autofill') return { refusal: null, lines };
       this.#enter(this.first);
-      return { answers: [{ lines: ['filled'], refusal: null }], lines };
+      return { answer: 'filled' };
     },
   };
 
@@ -78,9 +78,21 @@ class Session {
     if (names.includes('step')) this.#steps.push(action);
   }
 
+  fill = { isRunning: false, isImproving: false, progress: null };
+  // how far the fill was, each time that it was told
+  progress = [];
+
+  change({ fill = null }) {
+    if (!fill) return;
+    this.fill = fill;
+    this.progress.push(fill.progress);
+  }
+
+  takes() {}
+
   inOrder = async (action) => action();
 
-  ask = async () => this.board.lights.map((light) => ({ name: light.name, grade: this.grades[this.board.spell(light)] }));
+  ask = async () => this.board.lights.map((light) => ({ light: light.name, grade: this.grades[this.board.spell(light)] }));
 
   #enter(lines) {
     for (const line of lines) {
@@ -168,20 +180,20 @@ function mending({ most = 1, ink = [] } = {}) {
 
 // The fills of an empty light of three letters: the session finds CAT first.
 function filling({ list = {} } = {}) {
-  const [session, workers, shown] = [new Session(boardOf('...'), { CAT: 10, COT: 30, TAR: 80 }), new Workers(1), []];
+  const [session, workers] = [new Session(boardOf('...'), { CAT: 10, COT: 30, TAR: 80 }), new Workers(1)];
   Object.assign(session, { first: lettersOf('CAT'), list: { ...session.list, target: null, sources: [], ...list } });
   Object.assign(workers, { rest() {}, warm() {} });
   const figures = { worst: '', boundOf: () => 101, prove: async ({ bound }) => `no fill has ${bound}` };
-  const filler = new Filler(session, workers, { add() {} }, { show: (progress) => shown.push(progress), explain() {}, figures, offer() {} });
+  const filler = new Filler(session, workers, { add() {} }, figures);
   said.length = 0;
-  return { session, workers, filler, shown };
+  return { session, workers, filler, shown: session.progress };
 }
 
 // A raising of the word CAT, which has grade 10, until no word is better.
 function improving({ most = 1, ...given } = {}) {
   const [session, workers, tried] = [new Session(boardOf('CAT'), { CAT: 10, COT: 30, TAR: 80 }), new Workers(most), []];
   const raiser = new Raiser(session, workers, () => {}, (told) => tried.push(told));
-  const run = { base: 'size 3 1\n', names: '', cells: ['1 1', '1 2', '1 3'], seed: 7, grade: 10, sum: 10, bound: 101, isEndless: true, ...given };
+  const run = { base: 'size 3 1\n', names: [], cells: ['1 1', '1 2', '1 3'], seed: 7, grade: 10, sum: 10, bound: 101, isEndless: true, ...given };
   return { session, workers, tried, raiser, ended: raiser.run(run) };
 }
 
@@ -302,7 +314,7 @@ const CASES = {
     same([(await workers.call(3)).at, workers.asked[3].sent.least], [0, 31]);
     // as many slices as it takes; one that finds nothing for long has its words again, and another seed
     for (let slice = 2; slice < 200; slice++) (await workers.call(slice)).answer(limit(95));
-    const seeds = new Set(workers.asked.map(({ sent }) => sent.limits));
+    const seeds = new Set(workers.asked.map(({ sent }) => sent.given.join(' ')));
     same([seeds.size > 2, workers.others.filter((name) => name === 'unstrike').length], [true, seeds.size - 2]);
     (await workers.call(200)).answer(found('TAR', 80, 81));
     same(await ended, { proved: 81, held: [{ names: ['1 across'], forced: [] }], isReached: false, isStopped: false, isChanged: false });
@@ -375,7 +387,7 @@ const CASES = {
     const { session, workers, raiser, ended } = improving();
     await workers.call(0);
     raiser.stop();
-    const other = raiser.run({ base: 'size 3 1\n', names: '', cells: ['1 1', '1 2', '1 3'], seed: 8, grade: 10, sum: 10, bound: 101, isEndless: true });
+    const other = raiser.run({ base: 'size 3 1\n', names: [], cells: ['1 1', '1 2', '1 3'], seed: 8, grade: 10, sum: 10, bound: 101, isEndless: true });
     same([(await ended).isStopped, raiser.isRunning], [true, true]);
     // what the first one finds late is none of the second
     (await workers.call(0)).answer(found('TAR', 80));
@@ -472,7 +484,7 @@ const CASES = {
   async 'better words around a light are an offer'() {
     const { session, workers, mender, ended } = mending();
     const { sent } = await workers.call(0);
-    same([sent.least, sent.limits, sent.cells], [41, '2000 7 1 across 2 down 3 across 4 down', ['1 1', '1 2', '1 3', '2 3', '3 3', '3 4', '3 5']]);
+    same([sent.least, sent.given, sent.cells], [41, [2000, 7, '1 across', '2 down', '3 across', '4 down'], ['1 1', '1 2', '1 3', '2 3', '3 3', '3 4', '3 5']]);
     same([mender.isRunning, workers.begun], [true, recordOf(session.board) + sent.cells.map((cell) => `clear ${cell}\n`).join('')]);
     workers.asked[0].answer({ answer: 'filled', grade: 60, sum: 210, bound: 61, letters: chainWith(['1 2', 'O'], ['2 3', 'I']) });
     const { offer, ...how } = await ended;

@@ -1,10 +1,10 @@
 // What the page has of a puzzle file, by the engine itself, for cases in Node.
 import { readFileSync } from 'node:fs';
-import { Xw, load, toText } from '../dist/xw.js';
+import { Xw, ask, load, toText } from '../dist/xw.js';
 import { pageModules } from './page-modules.mjs';
 
-const { Board, asVersion13, droppedOfPuz, entryOf, keptRebus, lights, originalsOf, rebusOf, unescapeText } = await pageModules(
-  'engine/answers', 'model/board', 'formats/dropped', 'formats/puz-sections', 'formats/puz-versions', 'model/rebus', 'model/record',
+const { Board, asVersion13, droppedOfPuz, entryOf, keptRebus, named, originalsOf, rebusOf } = await pageModules(
+  'engine/told', 'model/board', 'formats/dropped', 'formats/puz-sections', 'formats/puz-versions', 'model/rebus', 'model/record',
 );
 export const module = await load(readFileSync(new URL('../dist/xw.wasm', import.meta.url)));
 
@@ -17,17 +17,14 @@ const sorted = (_, value) => (value && typeof value === 'object' && !Array.isArr
 const spelled = (value) => JSON.stringify(value, sorted);
 export const same = (told, wanted) => expect(spelled(told) === spelled(wanted), `${spelled(told)}, and not ${spelled(wanted)}`);
 
-function lightsIn(xw) {
-  const { line, read } = lights();
-  return read(xw.line(line).lines);
-}
+// The lights with their first cells.
+const lightsIn = (xw) => ask(xw, 'lights').map(({ light, row, column }) => ({ ...named(light), row, column }));
 
 // The board that the engine has, and the texts of it as the page shows them.
 function boardOf(xw, originals = []) {
-  const lines = (line) => xw.line(line).lines;
-  const board = Board.of({ show: lines('show'), lights: lines('lights'), cells: lines('cells'), counts: [], circles: lines('circles'), texts: lines('texts') });
+  const board = Board.of({ show: ask(xw, 'show'), lights: ask(xw, 'lights'), cells: ask(xw, 'cells'), counts: [], circles: ask(xw, 'circles'), texts: ask(xw, 'texts') });
   const kept = new Map(originals);
-  const textOf = (field) => kept.get(field.startsWith('clue ') ? board.clueField(board.byName.get(field.slice(5))) : field) ?? unescapeText(board.texts.get(field) ?? '');
+  const textOf = (field) => kept.get(field.startsWith('clue ') ? board.clueField(board.byName.get(field.slice(5))) : field) ?? board.texts.get(field.replace('clue ', '')) ?? '';
   return { board, textOf, entries: (cell) => entryOf(cell, kept) };
 }
 

@@ -1,6 +1,5 @@
 // All words in use, for helpers that look through them: asked of the engine once for the lists and the words of the puzzle.
 import { wordsOf } from '../model/record.js';
-import { match } from './answers.js';
 
 // the lengths of words that are looked through
 const [LEAST, MOST] = [2, 21];
@@ -29,7 +28,7 @@ export class AllWords {
   // One length after another, so that edits are answered between them.
   async #ask() {
     const words = [];
-    for (let length = LEAST; length <= MOST; length++) words.push((await this.#editor.ask(match('.'.repeat(length)))) ?? []);
+    for (let length = LEAST; length <= MOST; length++) words.push((await this.#editor.ask('match', '.'.repeat(length))) ?? []);
     return words.flat();
   }
 }

@@ -5,14 +5,14 @@ import { rescore } from '../formats/rescoring.js';
 import { enumerationsOf } from '../formats/word-list.js';
 import { Making } from '../grids/making.js';
 import { withoutLeast } from '../model/record.js';
-import * as answers from './answers.js';
-import { best, fillsWithout, firstDead, forced, search, unstrike } from './searches.js';
-import { ask, asked, edit, file, knownOf, lightsOf, listGrades, loadModule, open, orbit, read, recordNow, scoreOf } from './session.js';
+import { autofill, best, fillsWithout, firstDead, forced, search, unstrike } from './searches.js';
+import { askOrNull, edit, file, knownOf, lightsOf, listGrades, loadModule, open, orbit, read, recordNow, scoreOf } from './session.js';
+import { packed } from './told.js';
 import { alternatives, probe } from './words-left.js';
 
 /** @typedef {{ id: number, call: string, sent: object }} Call */
 
-const making = new Making({ ask, asked, scoreOf });
+const making = new Making();
 
 /** @type {Record<string, (sent: any) => any>} */
 const calls = {
@@ -22,15 +22,16 @@ const calls = {
   read,
   lights: lightsOf,
   edit,
-  ask: ({ line }) => ask(line),
+  ask: askOrNull,
+  autofill,
   record: () => withoutLeast(recordNow()),
   file,
   orbit,
 
   // Words. Those of a light are packed, with the scores of those that have one, and the places of their lists.
   words({ light }) {
-    const words = asked(answers.words(light));
-    return { words: answers.packed(words), ...knownOf(words) };
+    const words = askOrNull({ command: 'words', given: [light] })?.words ?? [];
+    return { words: packed(words), ...knownOf(words) };
   },
   grades: ({ words }) => words.map(scoreOf),
   listGrades,

@@ -3,10 +3,10 @@
 import { gradeFrom, totalOf } from '../model/grades.js';
 import { closeNew } from '../model/kin.js';
 import { letterIn } from '../model/record.js';
+import { whenIdle } from '../views/idle.js';
 import { progressText } from '../views/improving.js';
 import { endingMessage, refuse, say } from '../views/messages.js';
 import { titleOf } from '../views/words.js';
-import { grades, outcomeOf } from './answers.js';
 import { statusOf } from './engine.js';
 import { Mender } from './mending.js';
 import { Raiser } from './raising.js';
@@ -35,7 +35,7 @@ const NEXT = 'another fill changes the letters in pencil (coloured), and keeps t
 const DECIDED = new Set(['filled', 'nofill']);
 
 /** @typedef {{ answer: string, letters?: string[] }} Slice */
-/** @typedef {{ placements: number, answer: string, letters: string[], isOver: boolean }} Racing */
+/** @typedef {{ names: string[], placements: number, answer: string, letters: string[], isOver: boolean }} Racing */
 /** @typedef {import('../model/board.js').Board} Board */
 /** @typedef {import('../model/board.js').Cell} Cell */
 /** @typedef {import('../model/board.js').Light} Light */
@@ -57,31 +57,38 @@ export class Filler {
   // the lists whose words other workers have loaded, for raisings
   /** @type {Uint8Array[]} */
   #warmed = [];
-  // whether a search has the worker of the session, so that nothing can be edited
-  isRunning = false;
 
-  // `fills` keeps what is found. `show` shows how far a fill is, `explain` where a dead end comes from; `figures` takes over what a raising proved, and
-  // returns what is said of the fill; `offer` shows better words around a light, or with null none.
+  // `fills` keeps what is found, and `figures` takes over what a raising proved, and returns what is said of the fill.
   /**
    * @param {import('../model/editor.js').Editor} editor
    * @param {import('./helpers.js').Helpers} helpers
    * @param {import('../views/fills.js').Fills} fills
-   * @param {{ show: (progress: Progress | null) => void, explain: () => void, figures: import('../views/figures.js').Figures, offer: (offer: Offer | null) => void }} actions
+   * @param {import('../views/figures.js').Figures} figures
    */
-  constructor(editor, helpers, fills, { show, explain, figures, offer }) {
+  constructor(editor, helpers, fills, figures) {
     this.#editor = editor;
     this.#helpers = helpers;
     this.#raiser = new Raiser(editor, helpers, () => fills.add(true), (tried) => this.#showTried(tried));
     this.#mender = new Mender(editor, helpers);
     this.fills = fills;
-    this.show = show;
-    this.explain = explain;
     this.figures = figures;
-    this.offer = offer;
     editor.on(['list'], () => {
       this.#warm();
       this.#raiser.aim(this.#target);
     });
+    editor.takes({ stopFill: () => this.stop(), mend: (light) => this.mend(light) });
+  }
+
+  // Tells how far a fill is.
+  /** @param {Progress | null} progress */
+  #show(progress, isRunning = this.isRunning) {
+    const isImproving = this.#isEndless && (isRunning || this.isRaising);
+    this.#editor.change({ fill: { isRunning, isImproving, progress } });
+  }
+
+  // Whether a search has the worker of the session, so that nothing can be edited.
+  get isRunning() {
+    return this.#editor.fill.isRunning;
   }
 
   // A fill of words with scores is raised in other workers, which load each new list ahead.
@@ -107,6 +114,11 @@ export class Filler {
   // Whether a fill is raised, or will be, until no fill is better.
   get isImproving() {
     return this.#isEndless && (this.isRunning || this.isRaising);
+  }
+
+  // Ends a raising, whose workers others are to have.
+  endRaising() {
+    if (this.isRaising) this.stop();
   }
 
   stop() {
@@ -161,7 +173,7 @@ export class Filler {
       await this.#raise(inPencil);
       return this.#rest();
     }
-    this.isRunning = true;
+    this.#show({ part: 0, placements: 0 }, true);
     if (isAnother) this.#seed++;
     /** @type {Cell[] | null} */
     let filled = null;
@@ -171,8 +183,7 @@ export class Filler {
       if (!statusOf(fault)) throw fault;
       refuse('the fill failed; the grid is kept');
     } finally {
-      this.isRunning = false;
-      this.show(null);
+      this.#show(null, false);
     }
     if (filled) await this.#raise(filled, isAnother);
     if (filled && isAnother) await this.#offer(filled);
@@ -182,10 +193,6 @@ export class Filler {
   // Lets the other workers rest, unless a later search has them.
   #rest() {
     if (!this.isRunning && !this.isRaising) this.#helpers.rest();
-  }
-
-  get #names() {
-    return [...this.#editor.chosen].map((name) => ` ${name}`).join('');
   }
 
   // Fills cells, and returns those that are filled; or says why not, and returns null.
@@ -198,8 +205,8 @@ export class Filler {
     const pencil = new Set(editor.pencil);
     const record = without(editor.state.record, emptied);
     const filled = cells.filter((cell) => !cell.letter || emptied.includes(cell));
-    if (emptied.length) await this.#send(emptied.map((cell) => `clear ${cell.coordinates}`));
-    const { answer, placements, letters } = await this.#race(this.#names, record);
+    if (emptied.length) await editor.inOrder(() => editor.engine.call('edit', { lines: emptied.map((cell) => `clear ${cell.coordinates}`), isWhole: false }));
+    const { answer, placements, letters } = await this.#race(record);
     if (answer !== 'filled') {
       await editor.restore();
       await this.#tellNone(answer, placements, editor.board.entered > emptied.length);
@@ -223,7 +230,7 @@ export class Filler {
     const own = new Set(filled.map(({ coordinates }) => coordinates));
     for (let slice = 1; slice <= MOST_PARTED && !this.#isStopped && closeNew(enteredIn(editor.board, own)).length; slice++) {
       const [begun] = this.#helpers.begin(record, 1);
-      const { letters } = await (await begun).call('search', { line: `autofill ${OFFERED} ${this.#seed + slice}${this.#names}`, cells: [...own], isApart: true });
+      const { letters } = await (await begun).call('search', { command: 'autofill', given: [OFFERED, this.#seed + slice, ...editor.chosen], cells: [...own], isApart: true });
       const others = letters.filter((/** @type {string} */ line) => editor.board.at(letterIn(line)[0])?.letter !== letterIn(line)[1]);
       if (letters.length) await editor.edit(others, { only: editor.record });
     }
@@ -253,20 +260,20 @@ export class Filler {
     const cells = filled.map((cell) => cell.coordinates);
     const lights = lightsWith(editor.board, cells).filter((light) => editor.board.isEntered(light));
     // an earlier raising may have a fill on its way into the grid
-    const told = lights.length ? await editor.inOrder(() => editor.ask(grades(lights.map(({ name }) => name)))) : [];
-    const known = (told ?? []).map(({ grade }) => grade);
+    const told = lights.length ? await editor.inOrder(() => editor.ask('grades', ...lights.map(({ name }) => name))) : [];
+    const known = (told ?? []).map(({ grade }) => grade ?? NaN);
     if (!known.length || known.some(Number.isNaN)) return say(`filled; ${NEXT}`, 'good');
     const names = [...editor.chosen];
     const fixed = new Map(editor.board.cells.filter(({ letter, coordinates }) => letter && !cells.includes(coordinates)).map(({ coordinates, letter }) => [coordinates, letter]));
     this.#endRaising();
     const raising = this.#raiser.run({
-      base: without(editor.record, filled), names: this.#names, cells, seed: this.#seed, grade: Math.min(...known), sum: totalOf(known),
+      base: without(editor.record, filled), names, cells, seed: this.#seed, grade: Math.min(...known), sum: totalOf(known),
       bound: this.figures.boundOf(names), isEndless: this.#isEndless, target: this.#target,
     });
     if (this.isRaising) this.#tellRaising();
     const { proved: bound, held, isReached, isStopped, isChanged } = await raising;
     if (this.isRunning || this.isRaising) return;
-    this.show(null);
+    this.#show(null);
     if (isChanged) return this.#endMessage();
     const isBack = isAnother && !isStopped && (await this.#putBack(filled));
     const text = await this.figures.prove({ bound, names, fixed, held });
@@ -280,7 +287,7 @@ export class Filler {
     if (this.#isEndless) say(`filled; its worst word is raised until ${target === null ? 'no fill is better' : `none is under ${target}`}, or Esc stops it`);
     else say('filled; its worst word is raised … Esc ends this', 'busy');
     this.#endMessage = endingMessage();
-    this.show({ isRaising: true, text: this.figures.worst });
+    this.#show({ isRaising: true, text: this.figures.worst });
   }
 
   // Looks for better words around a light, and offers them. Returns what was found, or null if something else came between.
@@ -288,7 +295,7 @@ export class Filler {
   async mend(light) {
     if (this.isRunning) return null;
     this.#endRaising();
-    this.offer(null);
+    this.#editor.change({ offer: null });
     [this.#isStopped, this.#isEndless] = [false, false];
     // a raising that ends may have a fill on its way into the grid
     await this.#editor.inOrder(() => {});
@@ -296,13 +303,13 @@ export class Filler {
     if (this.isRunning || this.isRaising || this.#isStopped || !there) return null;
     say(`better words are looked for around ${titleOf(there)} … Esc ends this`, 'busy');
     const mending = this.#mender.run(there, ++this.#seed);
-    this.show({ isRaising: true });
+    this.#show({ isRaising: true });
     const told = await mending.catch((fault) => {
       if (!statusOf(fault)) throw fault;
       return null;
     });
     if (this.isRunning || this.isRaising) return null;
-    this.show(null);
+    this.#show(null);
     this.#rest();
     if (told) this.#tellMended(there, told);
     else refuse('the search failed; the grid is kept');
@@ -318,7 +325,7 @@ export class Filler {
     if (isChanged) return say(`the grid was changed, so nothing is mended ${around}`);
     if (isLocked) return refuse(`every letter of ${titleOf(light)} is locked: put letters in pencil (=)`);
     if (!offer) return say(isProved ? `no fill ${around} is better, with the rest as it is` : `${this.#isStopped ? 'stopped: ' : ''}no better words were found ${around}`);
-    this.offer(offer);
+    this.#editor.change({ offer });
     return say(`better words are found ${around}: look at them in the tab Words`, 'good');
   }
 
@@ -326,7 +333,7 @@ export class Filler {
   /** @param {import('./raising.js').Sought} tried */
   #showTried(tried) {
     const text = progressText(tried, { worst: this.figures.worst, best: this.#editor.list.best });
-    if (tried.isEndless) this.show({ isRaising: true, text });
+    if (tried.isEndless) this.#show({ isRaising: true, text });
     else {
       say(`filled; its worst word is raised: ${text} … Esc ends this`, 'busy');
       this.#endMessage = endingMessage();
@@ -346,12 +353,13 @@ export class Filler {
     const editor = this.#editor;
     const { record } = editor;
     const isDue = () => !this.#isStopped && !this.isRunning && !this.isRaising && editor.record === record;
-    const [command, names] = [editor.list.scored ? 'best' : 'autofill', this.#names];
+    const command = editor.list.scored ? 'best' : 'autofill';
+    const names = [...editor.chosen];
     try {
       for (let slice = 1; slice <= MOST_OFFERED_SLICES && isDue() && this.fills.count < ENOUGH; slice++) {
         const [begun] = this.#helpers.begin(without(record, filled), 1);
-        const line = `${command} ${OFFERED} ${this.#seed + OTHER_SEEDS * slice}${names}`;
-        const { letters } = await (await begun).call('search', { line, cells: filled.map(({ coordinates }) => coordinates), isApart: editor.list.apart });
+        const given = [OFFERED, this.#seed + OTHER_SEEDS * slice, ...names];
+        const { letters } = await (await begun).call('search', { command, given, cells: filled.map(({ coordinates }) => coordinates), isApart: editor.list.apart });
         if (letters.length && isDue()) this.fills.offer(letters);
       }
     } catch (fault) {
@@ -360,27 +368,15 @@ export class Filler {
     }
   }
 
-  // Sends lines that are no step of the history.
-  /** @param {string[]} lines */
-  #send(lines) {
-    return this.#editor.inOrder(() => this.#editor.engine.call('edit', { lines, isWhole: false }));
-  }
-
   // Searches in the worker of the session, and after a while in others too. Returns the answer, and if another worker has the fill, the lines of
   // its letters. What the worker of the session finds is in its grid already. `record` is that of the grid to fill.
-  /**
-   * @param {string} names
-   * @param {string} record
-   */
-  async #race(names, record) {
+  /** @param {string} record */
+  async #race(record) {
+    const { engine, chosen } = this.#editor;
     /** @type {Racing} */
-    const race = { placements: 0, answer: 'limit', letters: [], isOver: false };
-    const own = async (/** @type {string} */ line) => {
-      const { answers: [told] } = await this.#send([line]);
-      return outcomeOf(told);
-    };
-    const joining = setTimeout(() => this.#join(race, names, record), ALONE);
-    const found = await this.#slices(race, this.#seed, names, own, true);
+    const race = { names: [...chosen], placements: 0, answer: 'limit', letters: [], isOver: false };
+    const joining = setTimeout(() => this.#join(race, record), ALONE);
+    const found = await this.#slices(race, this.#seed, (given) => this.#editor.inOrder(() => engine.call('autofill', { given })), true);
     clearTimeout(joining);
     // the others end with their slices
     race.isOver = true;
@@ -393,15 +389,14 @@ export class Filler {
   // Searches in as many workers as there are cores.
   /**
    * @param {Racing} race
-   * @param {string} names
    * @param {string} record
    */
-  #join(race, names, record) {
+  #join(race, record) {
     const engines = this.#helpers.begin(record, this.#helpers.most);
     return Promise.all(engines.map(async (begun, at) => {
       try {
         const engine = await begun;
-        await this.#slices(race, this.#seed + SEEDS * (at + 1), names, (line) => engine.call('search', { line }), false);
+        await this.#slices(race, this.#seed + SEEDS * (at + 1), (given) => engine.call('search', { command: 'autofill', given }), false);
       } catch (fault) {
         // a worker that fails leaves the race to the others
         if (!statusOf(fault)) throw fault;
@@ -413,16 +408,15 @@ export class Filler {
   /**
    * @param {Racing} race
    * @param {number} seed
-   * @param {string} names
+   * @param {(given: (number | string)[]) => Promise<Slice>} search
    * @param {boolean} isOwn
-   * @param {(line: string) => Promise<Slice>} search
    */
-  async #slices(race, seed, names, search, isOwn) {
+  async #slices(race, seed, search, isOwn) {
     for (let slice = 0; slice < MOST_SLICES; slice++) {
       if (race.isOver || this.#isStopped) return 'limit';
       const [, most] = SLICES.find(([until]) => slice < until) ?? SLICES[0];
-      if (isOwn) this.show({ part: slice / MOST_SLICES, placements: race.placements });
-      const { answer, letters = [] } = await search(`autofill ${most} ${seed}${names}`);
+      if (isOwn) this.#show({ part: slice / MOST_SLICES, placements: race.placements });
+      const { answer, letters = [] } = await search([most, seed, ...race.names]);
       race.placements += most;
       if (answer === 'limit') continue;
       if (!isOwn && DECIDED.has(answer) && !race.isOver) Object.assign(race, { answer, letters, isOver: true });
@@ -440,7 +434,7 @@ export class Filler {
    */
   async #explain(answer, isPart) {
     const { board } = this.#editor;
-    if (board.lights.some((light) => board.countOf(light) === 0 && !board.isEntered(light))) return this.explain();
+    if (board.lights.some((light) => board.countOf(light) === 0 && !board.isEntered(light))) return whenIdle(() => this.#editor.do('explainDeadEnd').catch(() => {}));
     if (answer === 'nofill' && !isPart && (await this.#takeBack())) return undefined;
     return isPart ? undefined : this.#showFirstDead(answer);
   }

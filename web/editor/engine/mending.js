@@ -151,7 +151,7 @@ export class Mender {
     /** @type {Search} */
     const search = { race: new Race({ grade, sum: Infinity, bound: Infinity, seed, workers }), letters: null, slices: 0, idle: 0, isFailed: false };
     const base = [this.#editor.record, ...cells.map((coordinates) => `clear ${coordinates}\n`)].join('');
-    const asked = { names: lights.map(({ name }) => ` ${name}`).join(''), cells };
+    const asked = { names: lights.map(({ name }) => name), cells };
     await Promise.all(this.#helpers.begin(base, workers).map((begun, at) => this.#work(run, search, asked, begun, at)));
     return { letters: search.letters, isProved: search.race.isBlocked && !search.letters };
   }
@@ -160,7 +160,7 @@ export class Mender {
   /**
    * @param {Run} run
    * @param {Search} search
-   * @param {{ names: string, cells: string[] }} asked
+   * @param {{ names: readonly string[], cells: string[] }} asked
    * @param {Promise<Engine>} begun
    * @param {number} at
    */
@@ -173,7 +173,7 @@ export class Mender {
         const asked = race.next(at);
         search.slices++;
         search.idle++;
-        const told = await engine.call('best', { least: asked.least, limits: `${PLACEMENTS} ${asked.seed}${names}`, cells, isApart: this.#editor.list.apart });
+        const told = await engine.call('best', { least: asked.least, given: [PLACEMENTS, asked.seed, ...names], cells, isApart: this.#editor.list.apart });
         this.#take(search, race.take(at, asked, told), told);
       }
     } catch (fault) {

@@ -3,7 +3,6 @@
 // raised; race.js decides. The fill that is in the grid can be edited meanwhile, which ends the raising; texts can be changed beside it.
 import { MOST, gradeOf, totalOf } from '../model/grades.js';
 import { letterIn, withoutTexts } from '../model/record.js';
-import { grades } from './answers.js';
 import { statusOf } from './engine.js';
 import { Race } from './race.js';
 
@@ -21,7 +20,7 @@ const TOLD_EACH = 500;
 /** @typedef {import('./engine.js').Engine} Engine */
 /**
  * @typedef {{
- *   race: Race, record: string, base: string, names: string, cells: string[], isEndless: boolean, isOver: boolean, isStopped: boolean, isChanged: boolean,
+ *   race: Race, record: string, base: string, names: readonly string[], cells: string[], isEndless: boolean, isOver: boolean, isStopped: boolean, isChanged: boolean,
  *   isEntering: boolean, pencil: string, entered: Promise<void>, end: () => void, begun: number, told: number, workers: number, isTimed: boolean,
  *   lines: string[], holding: Promise<void> | null,
  * }} Run `lines` enter the words that are held; `workers` is how many have not failed
@@ -98,10 +97,10 @@ export class Raiser {
     }
   }
 
-  // Raises the fill in the grid: `base` is the record without the letters of its cells, `names` are those of its lights, as a line has them, `grade` is that
+  // Raises the fill in the grid: `base` is the record without the letters of its cells, `names` are those of its lights, none for all, `grade` is that
   // of its worst word, `sum` that of all of them, and `bound` one at which no fill is known to be. With `isEndless` it goes on until no fill is better, or the worst
   // word has the grade `target`, which words that are held need not have. Returns what is known then, and how it ended.
-  /** @param {{ base: string, names: string, cells: string[], seed: number, grade: number, sum: number, bound: number, isEndless?: boolean, target?: number }} given */
+  /** @param {{ base: string, names: readonly string[], cells: string[], seed: number, grade: number, sum: number, bound: number, isEndless?: boolean, target?: number }} given */
   async run({ base, names, cells, seed, grade, sum, bound, isEndless = false, target = Infinity }) {
     const editor = this.#editor;
     const workers = Math.max(1, this.#helpers.most);
@@ -147,7 +146,7 @@ export class Raiser {
         if (race.catchesUp(at)) await engine.call('edit', { lines: run.lines, isWhole: false });
         this.#tell(run);
         const asked = race.next(at);
-        const told = await engine.call('best', { least: asked.least, limits: `${PLACEMENTS} ${asked.seed}${names}`, cells: run.cells, isApart: this.#editor.list.apart });
+        const told = await engine.call('best', { least: asked.least, given: [PLACEMENTS, asked.seed, ...names], cells: run.cells, isApart: this.#editor.list.apart });
         if (!run.isOver) await this.#take(run, race.take(at, asked, told), told);
       }
     } catch (fault) {
@@ -212,8 +211,7 @@ export class Raiser {
     const open = new Set(run.cells);
     const coordinatesOf = (/** @type {Light | undefined} */ light) => (light?.cells ?? []).map((cell) => board.cells[cell].coordinates);
     const lights = board.lights.filter((light) => coordinatesOf(light).some((coordinates) => open.has(coordinates)));
-    /** @type {{ name: string, grade: number }[] | null} */
-    const told = await editor.inOrder(() => editor.ask(grades(lights.map(({ name }) => name))));
+    const told = (await editor.inOrder(() => editor.ask('grades', ...lights.map(({ name }) => name))))?.map(({ light, grade }) => ({ name: light, grade: grade ?? NaN }));
     if (run.isOver) return;
     if (!told) return run.end();
     const words = Object.fromEntries(lights.map((light) => [light.name, editor.board.spell(light)]));

@@ -1,7 +1,6 @@
 // Dead ends: which lights have no word left, and which letters together are the reason.
 import { endingMessage, refuse, say } from '../views/messages.js';
 import { titleOf } from '../views/words.js';
-import { unmatched, why } from './answers.js';
 
 // how long after an edit into a dead end its reason is shown, in milliseconds
 const PATIENCE = 700;
@@ -22,14 +21,10 @@ export class Reasons {
   // takes away what was said of a dead end, if it stands still
   #endMessage = () => {};
 
-  // `isIdle` tells whether the engine is free for questions.
-  /**
-   * @param {import('../model/editor.js').Editor} editor
-   * @param {() => boolean} isIdle
-   */
-  constructor(editor, isIdle) {
+  /** @param {import('../model/editor.js').Editor} editor */
+  constructor(editor) {
     this.#editor = editor;
-    this.isIdle = isIdle;
+    editor.takes({ findDeadEnds: () => this.soon(), explainDeadEnd: () => this.ask() });
   }
 
   #isDead = (/** @type {Light} */ light) => {
@@ -109,10 +104,10 @@ export class Reasons {
   async #markUnmatched() {
     const editor = this.#editor;
     const { record } = editor;
-    const told = await editor.ask(unmatched());
+    const told = await editor.ask('unmatched');
     if (record !== editor.record) throw new Error('another edit came');
     const { board } = editor;
-    const names = (told ?? []).map(({ name }) => name);
+    const names = (told ?? []).map(({ light }) => light);
     const isWaiting = (/** @type {string} */ name) => {
       const light = board.byName.get(name);
       return board.isSparse && light !== undefined && board.isLongGap(light);
@@ -135,12 +130,12 @@ export class Reasons {
   /** @param {readonly Light[]} lights */
   async #explain(lights) {
     clearTimeout(this.#timer);
-    if (!this.isIdle()) return;
+    if (this.#editor.fill.isRunning) return;
     const editor = this.#editor;
     if (!lights.length) return say('every light has a word left', 'good');
     const { record } = editor;
     const asked = lights.slice(0, MOST_ASKED);
-    const answers = await Promise.all(asked.map((light) => editor.ask(why(light.name))));
+    const answers = await Promise.all(asked.map((light) => editor.ask('why', light.name)));
     if (record !== editor.record) return;
     const reasons = answers.flatMap((told, at) => this.#reasonOf(asked[at], told) ?? []);
     // one with letters of the last entry, and then one with letters in its own light, so that both are seen together; of these the shortest, and

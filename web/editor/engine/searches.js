@@ -2,12 +2,13 @@
 import { MOST, totalOf } from '../model/grades.js';
 import { closeNew } from '../model/kin.js';
 import { letterIn, lettersOf } from '../model/record.js';
-import * as answers from './answers.js';
 import { reachOf } from './reach.js';
-import { ask, asked, counts, isRefused, putBack, recordNow, scoreOf } from './session.js';
+import { ask, clear, counts, isRefused, outcome, putBack, recordNow, scoreOf, send } from './session.js';
+import { cellsOf, isWhole } from './told.js';
 
-/** @typedef {import('./answers.js').ToldLight} ToldLight */
-/** @typedef {{ answer: string, grade?: number | null, bound: number | null }} Found what a search answers */
+/** @typedef {import('./told.js').ToldLight} ToldLight */
+/** @typedef {import('./session.js').Found} Found */
+/** @typedef {import('../../xw.js').Arguments['best']} Asked what a search is given */
 
 // The most words of a light that are weighed, and the most lights without a word that are asked for the reason.
 const MOST_WEIGHED = 8;
@@ -22,11 +23,11 @@ const MOST_APART = 30;
 /** @param {{ cells: string[], most: number }} sent */
 export function fillsWithout({ cells, most }) {
   const before = lettersOf(recordNow());
-  for (const coordinates of cells) ask(`clear ${coordinates}`);
-  const { answer } = answers.outcomeOf(ask(`autofill ${most} 0`));
+  clear(cells);
+  const { answer } = outcome('autofill', most, 0);
   const [was, is] = [new Set(before), lettersOf(recordNow())];
-  for (const line of is) if (!was.has(line)) ask(`clear ${letterIn(line)[0]}`);
-  for (const line of before) if (!is.includes(line)) ask(line);
+  clear(is.filter((line) => !was.has(line)).map((line) => letterIn(line)[0]));
+  send(...before.filter((line) => !is.includes(line)));
   return answer === 'filled';
 }
 
@@ -35,9 +36,9 @@ export function fillsWithout({ cells, most }) {
 /** @param {{ most: number }} sent */
 export function firstDead({ most }) {
   for (let entered = 0; entered <= most; entered++) {
-    const { what, light, word } = asked(answers.suggest());
-    if (what === 'dead' || what === 'noword') return { light, entered };
-    if (what !== 'try') return null;
+    const { kind, light, word } = ask('suggest');
+    if (kind === 'dead' || kind === 'noword') return { light, entered };
+    if (!light || !word) return null;
     if (!enterNew(light, word)) return { light, entered };
   }
   return null;
@@ -49,23 +50,26 @@ export function firstDead({ most }) {
  * @param {string} word
  */
 function enterNew(light, word) {
-  const lights = asked(answers.lights());
+  const lights = ask('lights');
   const isNew = (/** @type {string} */ other) => !lights.some(({ letters }) => letters === other);
-  const others = () => asked(answers.words(light)).filter(isNew).slice(0, MOST_TRIED);
-  const here = lights.find(({ name }) => name === light);
-  const cells = here ? answers.cellsOf(here) : [];
+  const others = () => ask('words', light).words.filter(isNew).slice(0, MOST_TRIED);
+  const cells = lights.filter((one) => one.light === light).flatMap(cellsOf);
   for (const one of isNew(word) ? [word] : others()) {
-    ask(`place ${light} ${one}`);
+    send(`place ${light} ${one}`);
     if (Math.min(...counts()) > 0) return true;
     putBack(cells);
   }
   return false;
 }
 
+// A slice of a fill of the session.
+/** @param {{ given: Asked }} sent */
+export const autofill = ({ given }) => outcome('autofill', ...given);
+
 // A slice of a search in a worker that helps: what it answers, and if there is a fill, the lines of its letters.
-/** @param {{ line: string, cells?: string[], isApart?: boolean }} sent */
-export function search({ line, cells = [], isApart = false }) {
-  const { answer } = apart(isApart, cells, () => answers.outcomeOf(ask(line)));
+/** @param {{ command: 'autofill' | 'best', given: Asked, cells?: string[], isApart?: boolean }} sent */
+export function search({ command, given, cells = [], isApart = false }) {
+  const { answer } = apart(isApart, cells, () => outcome(command, ...given));
   return { answer, letters: answer === 'filled' ? lettersOf(recordNow()) : [] };
 }
 
@@ -75,8 +79,7 @@ const struck = [];
 
 // Takes back what searches struck.
 export function unstrike() {
-  if (struck.length) ask('least 0');
-  for (const word of struck.splice(0)) ask(`add ${word}`);
+  if (struck.length) send('least 0', ...struck.splice(0).map((word) => `add ${word}`));
 }
 
 // Has a search of some cells go on, if that is wanted, until it finds a fill whose new words are close to no others: the one with the lower score of two is
@@ -94,10 +97,10 @@ function apart(isWanted, cells, find) {
     if (!close.length) return { ...told, bound: struck.length ? null : told.bound };
     for (const { letters } of close) if (!isRefused(`strike ${letters}`)) struck.push(letters);
     const isOver = tries === MOST_APART;
-    for (const coordinates of isOver ? cells : near(close, cells)) ask(`clear ${coordinates}`);
+    clear(isOver ? cells : near(close, cells));
     if (!isOver) told = find();
-    if (told.answer !== 'filled' || isOver) for (const coordinates of cells) ask(`clear ${coordinates}`);
-    if (isOver) return { answer: 'limit', bound: null };
+    if (told.answer !== 'filled' || isOver) clear(cells);
+    if (isOver) return { answer: 'limit', grade: null, bound: null };
     if (told.answer !== 'filled') told = find();
   }
   return isWanted && struck.length ? { ...told, answer: 'limit', bound: null } : told;
@@ -106,7 +109,7 @@ function apart(isWanted, cells, find) {
 // The lights that are new with some cells, and whose words are close to others.
 /** @param {string[]} cells */
 function closeIn(cells) {
-  const whole = asked(answers.lights()).filter(answers.isWhole);
+  const whole = ask('lights').filter(isWhole);
   const isNew = isNewWith(cells);
   const close = new Set(closeNew(whole.map((light) => ({ word: light.letters, isNew: isNew(light), score: scoreOf(light.letters) ?? 0 }))));
   return whole.filter((light) => isNew(light) && close.has(light.letters));
@@ -119,7 +122,7 @@ function closeIn(cells) {
  */
 function isNewWith(cells) {
   const open = new Set(cells);
-  return (light) => answers.cellsOf(light).some(({ coordinates }) => open.has(coordinates));
+  return (light) => cellsOf(light).some(({ coordinates }) => open.has(coordinates));
 }
 
 // Those of some cells that are in lights, in the lights that cross these, or in those that cross these again.
@@ -128,8 +131,8 @@ function isNewWith(cells) {
  * @param {string[]} cells
  */
 function near(lights, cells) {
-  const all = asked(answers.lights()).map((light) => answers.cellsOf(light).map(({ coordinates }) => coordinates));
-  const found = reachOf(all, lights.flatMap(answers.cellsOf).map(({ coordinates }) => coordinates), 2);
+  const all = ask('lights').map((light) => cellsOf(light).map(({ coordinates }) => coordinates));
+  const found = reachOf(all, lights.flatMap(cellsOf).map(({ coordinates }) => coordinates), 2);
   return cells.filter((cell) => found.has(cell));
 }
 
@@ -137,29 +140,23 @@ function near(lights, cells) {
 /** @param {string[]} cells */
 function takenLetters(cells) {
   const letters = lettersOf(recordNow());
-  for (const coordinates of cells) ask(`clear ${coordinates}`);
+  clear(cells);
   return letters;
 }
 
 // A slice of a search that raises the worst word, in a worker that helps: a fill of words that have this grade at least, and what is proved. With
 // a fill it has the sum of their grades and its letters; the grid is then without those of the given cells again, so that the next slice goes on with what this one learned. Words that
 // are struck, for fills without words that are close to others, have it begin anew.
-/** @param {{ least: number, limits: string, cells: string[], isApart: boolean }} sent */
-export function best({ least, limits, cells, isApart }) {
-  ask(`least ${least}`);
-  const told = apart(isApart, cells, () => bestFill(limits));
+/** @param {{ least: number, given: Asked, cells: string[], isApart: boolean }} sent */
+export function best({ least, given, cells, isApart }) {
+  send(`least ${least}`);
+  const told = apart(isApart, cells, () => outcome('best', ...given));
   if (told.answer !== 'filled') return told;
-  const names = asked(answers.lights()).filter(isNewWith(cells)).filter(answers.isWhole).map(({ name }) => name);
-  const known = names.length ? asked(answers.grades(names)).map((one) => one.grade) : [];
+  const names = ask('lights').filter(isNewWith(cells)).filter(isWhole).map(({ light }) => light);
+  const known = names.length ? ask('grades', ...names).map((one) => one.grade ?? NaN) : [];
   // of a fill in several parts all words count
   const grade = isApart && known.length ? Math.min(...known) : told.grade;
   return { ...told, grade, sum: totalOf(known), letters: takenLetters(cells) };
-}
-
-/** @param {string} limits */
-function bestFill(limits) {
-  const { answer, least: grade, bound } = answers.outcomeOf(ask(`best ${limits}`));
-  return { answer, grade, bound };
 }
 
 // The lights that keep each fill below a grade, in a worker that helps: those that no word of this grade matches, each with the word of another grade that
@@ -167,19 +164,18 @@ function bestFill(limits) {
 // where others are no better. The grid is as it was before.
 /** @param {{ least: number, grade: number, words: Record<string, string> }} sent */
 export function forced({ least, grade, words }) {
-  ask(`least ${least}`);
-  const whole = new Set(asked(answers.lights()).filter(answers.isWhole).map(({ name }) => name));
-  const names = asked(answers.unmatched()).map(({ name }) => name).filter((name) => !whole.has(name));
+  send(`least ${least}`);
+  const whole = new Set(ask('lights').filter(isWhole).map(({ light }) => light));
+  const names = ask('unmatched').map(({ light }) => light).filter((name) => !whole.has(name));
   const near = names.length ? null : nearestDead();
-  ask(`least ${grade}`);
+  send(`least ${grade}`);
   /** @type {import('./session.js').Filled[][]} */
   const before = [];
   const lights = names.map((name) => {
-    const here = asked(answers.lights()).find((light) => light.name === name);
-    const cells = here ? answers.cellsOf(here) : [];
+    const cells = ask('lights').filter(({ light }) => light === name).flatMap(cellsOf);
     const word = bestWord(name, cells, words[name]);
     before.unshift(cells);
-    ask(`place ${name} ${word}`);
+    send(`place ${name} ${word}`);
     return { name, word };
   });
   before.forEach(putBack);
@@ -190,9 +186,9 @@ export function forced({ least, grade, words }) {
 function nearestDead() {
   const left = counts();
   const known = (/** @type {ToldLight} */ { letters }) => letters.replaceAll('.', '').length;
-  const dead = asked(answers.lights()).filter((light, at) => left[at] === 0 && !answers.isWhole(light) && known(light)).sort((a, b) => known(b) - known(a));
-  const reasons = dead.slice(0, MOST_WEIGHED).map(({ name }) => ({ name, length: asked(answers.why(name)).length }));
-  return reasons.sort((a, b) => a.length - b.length)[0]?.name ?? null;
+  const dead = ask('lights').filter((light, at) => left[at] === 0 && !isWhole(light) && known(light)).sort((a, b) => known(b) - known(a));
+  const reasons = dead.slice(0, MOST_WEIGHED).map(({ light }) => ({ light, length: ask('why', light).length }));
+  return reasons.sort((a, b) => a.length - b.length)[0]?.light ?? null;
 }
 
 // The word of a light after which the bound of the best fill is the highest.
@@ -202,10 +198,10 @@ function nearestDead() {
  * @param {string | undefined} own
  */
 function bestWord(name, cells, own) {
-  const others = asked(answers.words(name)).filter((word) => word !== own);
+  const others = ask('words', name).words.filter((word) => word !== own);
   const words = [...(own ? [own] : []), ...others].slice(0, MOST_WEIGHED);
   const bounds = words.map((word) => {
-    const { answer, bound } = isRefused(`place ${name} ${word}`) ? { answer: 'nofill', bound: 0 } : answers.outcomeOf(ask('best 0'));
+    const { answer, bound } = isRefused(`place ${name} ${word}`) ? { answer: 'nofill', bound: 0 } : outcome('best', 0);
     putBack(cells);
     return answer === 'nofill' ? 0 : bound ?? MOST + 1;
   });

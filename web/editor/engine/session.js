@@ -1,13 +1,17 @@
 // The session of a worker: its engine, with what the word lists say of words. What asks it more than one line at a time puts all back, unless it says so.
-import { Xw, load, toBytes, toText } from '../../xw.js';
+import { Xw, ask as askOf, load, toBytes, toText } from '../../xw.js';
 import { joinLists } from '../formats/joined-lists.js';
 import { leftOutText } from '../formats/word-list.js';
 import { MOST, UNSCORED, gradeOf } from '../model/grades.js';
 import { withoutLeast } from '../model/record.js';
-import * as answers from './answers.js';
+import { statusOf } from './engine.js';
+import { gridIn, named } from './told.js';
 
 /** @typedef {{ coordinates: string, letter: string }} Filled a cell with its letter, where `.` is none */
 /** @typedef {(number | null)[]} Known the scores of words */
+/** @typedef {import('./told.js').Answers} Answers */
+/** @typedef {import('../../xw.js').Arguments} Arguments */
+/** @typedef {{ answer: string, grade: number | null, bound: number | null }} Found how a search ends, or why it is refused */
 
 /** @type {any} */
 let module;
@@ -27,39 +31,69 @@ export async function loadModule({ bytes }) {
   module = await load(bytes);
 }
 
-/** @param {string} line */
-export const ask = (line) => xw.line(line);
+/**
+ * What a command answers. One that is refused throws a fault.
+ * @template {keyof Answers} C
+ * @param {C} command
+ * @param {Arguments[C]} given
+ * @returns {Answers[C]}
+ */
+export const ask = (command, ...given) => askOf(xw, command, ...given);
+
+// How a search ends, or why it is refused.
+/**
+ * @param {'autofill' | 'best'} command
+ * @param {Arguments['best']} given
+ * @returns {Found}
+ */
+export function outcome(command, ...given) {
+  const told = orRefusal(() => ask(command, ...given), (answer) => answer);
+  return typeof told === 'string' ? { answer: told, grade: null, bound: null } : told;
+}
 
 /**
- * What the answer to a query says.
- * @template T
- * @param {import('./answers.js').Query<T>} query
+ * What an action returns, or what its refusal makes of that.
+ * @template T, R
+ * @param {() => T} action
+ * @param {(name: string) => R} refused
+ * @returns {T | R}
  */
-export const asked = ({ line, read }) => read(ask(line).lines);
+function orRefusal(action, refused) {
+  try {
+    return action();
+  } catch (fault) {
+    if (statusOf(fault) !== 'Refused') throw fault;
+    return refused(/** @type {import('../../xw.js').Fault} */ (fault).answer);
+  }
+}
+
+// What a command answers; null where it is refused.
+/** @param {{ command: any, given: any }} sent */
+export const askOrNull = ({ command, given }) => orRefusal(() => ask(command, .../** @type {[]} */ (given)), () => null);
 
 // Sends an edit whose answer nobody reads. Returns whether it is refused.
 /** @param {string} line */
 export const isRefused = (line) => xw.answer(toBytes(line)).status === 'Refused';
 
-export const counts = () => asked(answers.counts());
+// Sends edits whose answers nobody reads.
+/** @param {string[]} lines */
+export const send = (...lines) => lines.forEach((line) => isRefused(line));
+
+// How many words each light has left.
+export const counts = () => Uint32Array.from(ask('counts'), ({ words }) => words);
 
 export const recordNow = () => toText(xw.record());
 
-// All that the grid shows, as lines that the page reads.
-function whole() {
-  const [show, lights, cells, circles, texts] = [answers.show(), answers.lights(), answers.cells(), answers.circles(), answers.texts()].map(({ line }) => ask(line).lines);
-  return { show, lights, cells, counts: counts(), circles, texts };
-}
+// All that the grid shows.
+const whole = () => ({ show: ask('show'), lights: ask('lights'), cells: ask('cells'), counts: counts(), circles: ask('circles'), texts: ask('texts') });
 
-/** @param {readonly Pick<Filled, 'coordinates'>[]} cells */
-export function clear(cells) {
-  for (const { coordinates } of cells) isRefused(`clear ${coordinates}`);
-}
+/** @typedef {ReturnType<typeof whole>} Whole */
+
+/** @param {readonly string[]} cells */
+export const clear = (cells) => send(...cells.map((coordinates) => `clear ${coordinates}`));
 
 /** @param {readonly Filled[]} cells */
-export function putBack(cells) {
-  for (const { coordinates, letter } of cells) isRefused(letter === '.' ? `clear ${coordinates}` : `set ${coordinates} ${letter}`);
-}
+export const putBack = (cells) => send(...cells.map(({ coordinates, letter }) => (letter === '.' ? `clear ${coordinates}` : `set ${coordinates} ${letter}`)));
 
 // The score of a word, or null.
 /** @param {string} word */
@@ -125,8 +159,8 @@ export function open({ sources, personal, least, threes, record }) {
   bestScore = told.best;
   const byGrade = countByGrade(known, told.best);
   const grade = told.scored ? leastGrade(least, told.best, byGrade) : 0;
-  if (grade) ask(`least ${grade}`);
-  ask('watch on');
+  if (grade) send(`least ${grade}`);
+  send('watch on');
   return { reports: other.reports, words: words.length, byGrade, grade, ...told, record: withoutLeast(recordNow()), ...whole() };
 }
 
@@ -139,23 +173,30 @@ export function read({ puzzle, record }) {
   return text;
 }
 
-// The lights of the grid of a record. The session is not touched.
+// The lights of the grid of a record, with their first cells. The session is not touched.
 /** @param {{ record: string }} sent */
 export function lightsOf({ record }) {
   const other = Xw.open(module, { record });
-  const { line, read } = answers.lights();
-  const lights = read(other.line(line).lines);
+  const lights = askOf(other, 'lights').map(({ light, row, column }) => ({ ...named(light), row, column }));
   other.close();
   return lights;
 }
 
-// Sends lines. With `isWhole`, the answer has all that the grid shows; else what the watch told, and the counts.
+// The cells that an edit changed, as the watch tells them; or why it is refused.
+/** @param {string} line */
+function edited(line) {
+  const [command, ...given] = line.split(' ');
+  return orRefusal(() => askOf(xw, /** @type {import('../../xw.js').Change} */ (command), .../** @type {any} */ (given)), (name) => name);
+}
+
+// Sends edits. The answer has the first refusal, or null. With `isWhole` it has all that the grid shows; else the cells that changed, and the counts.
 /** @param {{ lines: string[], isWhole: boolean }} sent */
 export function edit({ lines, isWhole }) {
   const begin = performance.now();
-  const told = lines.map(ask);
-  const shown = isWhole ? whole() : { changed: told.flatMap((answer) => answer.lines), counts: counts() };
-  return { answers: told, ...shown, engine: performance.now() - begin };
+  const told = lines.map(edited);
+  const refusal = told.find((one) => typeof one === 'string') ?? null;
+  const shown = isWhole ? whole() : { changed: told.flatMap((one) => (typeof one === 'string' ? [] : one)), counts: counts() };
+  return { refusal, ...shown, engine: performance.now() - begin };
 }
 
 // The grades that words of the list have in it.
@@ -171,8 +212,7 @@ let scratch;
 export function orbit({ width, height, sym, coordinates }) {
   const grid = (scratch ??= Xw.open(module));
   for (const line of [`size ${width} ${height}`, `sym ${sym}`, `block ${coordinates}`]) grid.line(line);
-  const { line, read } = answers.show();
-  return read(grid.line(line).lines).cells.flatMap(({ block }, at) => (block ? [`${Math.floor(at / width) + 1} ${(at % width) + 1}`] : []));
+  return gridIn(askOf(grid, 'show')).cells.flatMap(({ block }, at) => (block ? [`${Math.floor(at / width) + 1} ${(at % width) + 1}`] : []));
 }
 
 // The puzzle as a file.

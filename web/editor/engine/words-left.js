@@ -1,8 +1,8 @@
 // What words of a light leave, and the words that an entered light could have: asked while a setter looks at a light.
-import * as answers from './answers.js';
-import { ask, asked, clear, counts, isRefused, knownOf, putBack } from './session.js';
+import { ask, clear, counts, isRefused, knownOf, putBack } from './session.js';
+import { cellsOf, isWhole, named } from './told.js';
 
-/** @typedef {import('./answers.js').ToldLight} ToldLight */
+/** @typedef {import('./told.js').ToldLight} ToldLight */
 /** @typedef {import('./session.js').Filled} Filled */
 
 // How long a call may count words, in milliseconds: a key waits no longer.
@@ -18,8 +18,8 @@ const MOST_OTHERS = 100;
 /** @param {{ light: string, words: string[], cleared?: Record<string, string[][]> }} sent */
 export function probe({ light, words, cleared = {} }) {
   const end = performance.now() + SLICE;
-  const lights = asked(answers.lights());
-  const here = lights.find(({ name }) => name === light);
+  const lights = ask('lights');
+  const here = lights.find((one) => one.light === light);
   // an edit was ahead of this query, and the light is gone
   if (!here) return { left: {}, taken: {} };
   const isDead = deadWithout(here);
@@ -43,7 +43,7 @@ export function probe({ light, words, cleared = {} }) {
 
 // The letters of all lights, by coordinates.
 /** @param {ToldLight[]} lights */
-const lettersIn = (lights) => new Map(lights.flatMap(answers.cellsOf).map(({ coordinates, letter }) => [coordinates, letter]));
+const lettersIn = (lights) => new Map(lights.flatMap(cellsOf).map(({ coordinates, letter }) => [coordinates, letter]));
 
 // Tells by the number of a light whether it has an empty cell after a word is placed in the given one, and other cells are cleared.
 /**
@@ -51,8 +51,8 @@ const lettersIn = (lights) => new Map(lights.flatMap(answers.cellsOf).map(({ coo
  * @param {ToldLight[]} lights
  */
 function openWith(light, lights) {
-  const own = new Set(answers.cellsOf(light).map(({ coordinates }) => coordinates));
-  const cells = lights.map((other) => answers.cellsOf(other).map(({ coordinates, letter }) => ({ coordinates, isEmpty: letter === '.' && !own.has(coordinates) })));
+  const own = new Set(cellsOf(light).map(({ coordinates }) => coordinates));
+  const cells = lights.map((other) => cellsOf(other).map(({ coordinates, letter }) => ({ coordinates, isEmpty: letter === '.' && !own.has(coordinates) })));
   const isOpen = cells.map((some) => some.some(({ isEmpty }) => isEmpty));
   const isCleared = (/** @type {number} */ at, /** @type {Filled[]} */ cleared) => cells[at].some(({ coordinates }) => !own.has(coordinates) && cleared.some((cell) => cell.coordinates === coordinates));
   return (/** @type {number} */ at, /** @type {Filled[]} */ cleared) => isOpen[at] || (cleared.length > 0 && isCleared(at, cleared));
@@ -63,9 +63,9 @@ function openWith(light, lights) {
 function deadWithout(light) {
   const deadNow = () => [...counts()].map((count) => count === 0);
   const isDead = deadNow();
-  if (!answers.isWhole(light) || !isDead.includes(true)) return isDead;
-  const cells = answers.cellsOf(light);
-  clear(cells);
+  if (!isWhole(light) || !isDead.includes(true)) return isDead;
+  const cells = cellsOf(light);
+  clear(cells.map(({ coordinates }) => coordinates));
   const isDeadStill = deadNow();
   putBack(cells);
   return isDeadStill;
@@ -81,9 +81,9 @@ function deadWithout(light) {
  * @returns {number | 'done'}
  */
 function leftAfter(light, word, cleared, isCounted) {
-  clear(cleared);
-  const left = isRefused(`place ${light.name} ${word}`) ? [0] : counts().filter((_, at) => isCounted(at));
-  putBack([...answers.cellsOf(light), ...cleared]);
+  clear(cleared.map(({ coordinates }) => coordinates));
+  const left = isRefused(`place ${light.light} ${word}`) ? [0] : counts().filter((_, at) => isCounted(at));
+  putBack([...cellsOf(light), ...cleared]);
   return left.length ? Math.min(...left) : 'done';
 }
 
@@ -94,28 +94,28 @@ function leftAfter(light, word, cleared, isCounted) {
  */
 function lettersAt(cells, at) {
   const pattern = cells.map(({ letter }, index) => (index === at ? '.' : letter)).join('');
-  return /[A-Z]/.test(pattern) ? new Set(asked(answers.match(pattern)).map((word) => word[at])) : null;
+  return /[A-Z]/.test(pattern) ? new Set(ask('match', pattern).map((word) => word[at])) : null;
 }
 
 // The words that an entered light could have: those that fit what crosses it as it stands, and those that would if its crossing lights were
 // without their letters in pencil, each with the names of the crossing lights that it needs changed. All is put back before the call ends.
 /** @param {{ light: string, pencil: string[] }} sent */
 export function alternatives({ light, pencil }) {
-  const lights = asked(answers.lights());
-  const here = lights.find(({ name }) => name === light);
+  const lights = ask('lights');
+  const here = lights.find((one) => one.light === light);
   if (!here) return { fit: [], others: [] };
-  const own = answers.cellsOf(here);
+  const own = cellsOf(here);
   const crossed = crossingsOf(here, own, lights);
   const marked = new Set(pencil);
   const open = crossed.flatMap(({ cells, at }) => cells.filter((cell, index) => cell.letter !== '.' && marked.has(cell.coordinates) && index !== at));
   const allowed = crossed.map(({ name, cells, at, own: index }) => ({ name, at: index, letters: lettersAt(cells, at) }));
-  const wordsNow = () => asked(answers.words(light)).filter((word) => word !== here.letters);
-  clear(own);
+  const wordsNow = () => ask('words', light).words.filter((word) => word !== here.letters);
+  clear(own.map(({ coordinates }) => coordinates));
   const fit = wordsNow();
-  clear(open);
+  clear(open.map(({ coordinates }) => coordinates));
   const known = new Set(fit);
   const wide = open.length ? wordsNow().filter((word) => !known.has(word)).slice(0, MOST_JUDGED) : [];
-  for (const { coordinates, letter } of [...open, ...own]) if (letter !== '.') ask(`set ${coordinates} ${letter}`);
+  putBack([...open, ...own]);
   const needs = (/** @type {string} */ word) => allowed.filter(({ at, letters }) => letters && !letters.has(word[at])).map(({ name }) => name);
   // those first that change the fewest words; no name means all that cross
   const changes = (/** @type {{ needs: string[] }} */ other) => other.needs.length || Infinity;
@@ -132,7 +132,8 @@ export function alternatives({ light, pencil }) {
  */
 function crossingsOf(light, own, lights) {
   const index = new Map(own.map(({ coordinates }, at) => [coordinates, at]));
-  const crossing = lights.filter(({ direction }) => direction !== light.direction).map((other) => ({ name: other.name, cells: answers.cellsOf(other) }));
+  const directionOf = (/** @type {ToldLight} */ one) => named(one.light).direction;
+  const crossing = lights.filter((other) => directionOf(other) !== directionOf(light)).map((other) => ({ name: other.light, cells: cellsOf(other) }));
   const shared = crossing.map(({ name, cells }) => ({ name, cells, at: cells.findIndex(({ coordinates }) => index.has(coordinates)) }));
   return shared.filter(({ at }) => at >= 0).map((one) => ({ ...one, own: index.get(one.cells[one.at].coordinates) ?? -1 }));
 }

@@ -1,5 +1,6 @@
 // Files: what is opened, dropped and saved.
 import { toBytes, toText } from '../../xw.js';
+import { statusOf } from '../engine/engine.js';
 import { lawfulBeside } from '../model/beside.js';
 import { addedComments } from '../model/comments.js';
 import { enumerated } from '../model/enumeration.js';
@@ -9,8 +10,10 @@ import { bodyOf, parseRecord } from '../model/record.js';
 import { termed } from '../model/terms.js';
 import { staleClues } from '../model/written.js';
 import { solverPage, solverPuzzle } from '../solver/puzzle.js';
+import { askClues } from '../views/clue-preview.js';
 import { solutionOf } from '../views/locked.js';
-import { refusalText, refuseAsIs as refuse, sayAsIs as say } from '../views/messages.js';
+import { mayEdit, refusalText, refuseAsIs as refuse, sayAsIs as say } from '../views/messages.js';
+import { askAnyway, askFile, askKey, askRows } from '../views/questions.js';
 import { titleOf } from '../views/words.js';
 import { htmlOf } from './clue-sheet.js';
 import { clueChanges, clueTable, countClues, readClueTable } from './clue-table.js';
@@ -42,6 +45,7 @@ const MOST_NAMED = 5;
 const MOST_BYTES = 1 << 27;
 
 // The readers of formats, each of which makes a Given of bytes, and the writers of texts.
+/** @type {Record<string, (bytes: Uint8Array) => import('./given.js').Given>} */
 const READERS = {
   ipuz: (bytes) => readIpuz(new TextDecoder().decode(bytes)),
   jpz: (bytes) => readJpz(listText(bytes)),
@@ -51,18 +55,39 @@ const READERS = {
 };
 const WRITERS = { ipuz: ipuzOf, jpz: jpzOf, exolve: exolveOf };
 
+/** @typedef {import('../model/board.js').Cell} Cell */
+/** @typedef {import('../model/board.js').Light} Light */
+/** @typedef {{ record: string, originals: import('../model/state.js').Pair[], dropped: readonly string[] }} Sound what of a file the engine has read, and what is kept beside it */
+
 export class Files {
   /** @type {import('../model/editor.js').Editor} */
   #editor;
+  #edits;
+  #words;
+  #lists;
+  #clues;
 
-  constructor(editor, actions) {
+  // `words` has the words of the lists, `lists` asks how one is read, and `clues` are the elements that show what a table of clues changes.
+  /**
+   * @param {import('../model/editor.js').Editor} editor
+   * @param {import('../views/edits.js').Edits} edits
+   * @param {import('../engine/all-words.js').AllWords} words
+   * @param {import('../views/list-dialog.js').ListDialog} lists
+   * @param {import('../views/clue-preview.js').Elements} clues
+   */
+  constructor(editor, edits, words, lists, clues) {
     this.#editor = editor;
-    this.actions = actions;
+    this.#edits = edits;
+    this.#words = words;
+    this.#lists = lists;
+    this.#clues = clues;
+    editor.takes({ saveText: (text, name) => this.saveText(text, name), saveSession: () => this.saveSession() });
   }
 
   // Opens a file of any kind, or one that is said to be a `list` of words, a table of `clues` or a session with `comments`. Returns whether it could.
+  /** @param {File} file */
   async open(file, as = '') {
-    if (!this.actions.mayEdit()) return false;
+    if (!mayEdit(this.#editor)) return false;
     const content = await this.#contentOf(file);
     if (!content) return false;
     const { name, bytes } = content;
@@ -100,26 +125,36 @@ export class Files {
           return this.#refuse(`${name} is no puzzle (.puz, .ipuz, .jpz, .qxw, Exolve or text), no session and no word list: nothing is opened`);
       }
     } catch (fault) {
-      if (!fault.status) throw fault;
+      const told = statusOf(fault);
+      if (!told) throw fault;
       // the engine takes what is no .puz file for a text file
-      const status = (fault.status === 'Header' || fault.status === 'NulByte') && /\.puz$/i.test(name) ? 'Magic' : fault.status;
+      const status = (told === 'Header' || told === 'NulByte') && /\.puz$/i.test(name) ? 'Magic' : told;
       const hint = kind !== 'clues' && isListText(bytes) ? '; it looks like a word list, so give it a name that ends with .txt' : '';
-      return this.#refuse(`${name}: ${status === 'File' ? fault.message : refusalText(status)}${hint}`);
+      return this.#refuse(`${name}: ${status === 'File' ? messageOf(fault) : refusalText(status)}${hint}`);
     }
   }
 
   // `dropped` has what of the file is not kept.
+  /**
+   * @param {string} name
+   * @param {readonly string[]} dropped
+   */
   #opened(name, dropped = [], more = '') {
-    this.actions.opened(name);
+    this.#editor.do('toGrid');
     const lacking = lackingText(dropped);
     say(`${name} is open${lacking}${more}; undo goes back to what was here`, lacking ? 'bad' : 'good');
     return true;
   }
 
+  /**
+   * @param {string} name
+   * @param {Uint8Array} bytes
+   */
   #openText2(name, bytes) {
     return this.#openSound(name, bytes, () => this.#soundText2(bytes));
   }
 
+  /** @param {Uint8Array} bytes */
   async #soundText2(bytes) {
     const { text, lines, originals, dropped } = asVersion1(listText(bytes));
     const read = await this.#editor.engine.call('read', { puzzle: toBytes(text) });
@@ -127,9 +162,13 @@ export class Files {
   }
 
   // Opens rows of letters as what the user says they are.
+  /**
+   * @param {string} name
+   * @param {Uint8Array} bytes
+   */
   async #openRows(name, bytes) {
-    const rows = letterRows(listText(bytes));
-    const answer = await this.actions.askRows(name, rows);
+    const rows = /** @type {string[]} */ (letterRows(listText(bytes)));
+    const answer = await askRows(name, rows);
     if (answer === 'list') return this.openList(name, bytes);
     if (answer !== 'grid') return this.#refuse(`${name} is not opened`);
     await this.#editor.replace({ record: await this.#editor.engine.call('read', { record: recordOfRows(rows) }) });
@@ -137,17 +176,26 @@ export class Files {
   }
 
   // Opens a .puz or a text file.
+  /**
+   * @param {string} name
+   * @param {Uint8Array} bytes
+   */
   #openPuzzle(name, bytes) {
     return isPuz(bytes) && isScrambled(bytes) ? this.#openScrambled(name, bytes) : this.#openSound(name, bytes, () => this.#soundPuzzle(bytes));
   }
 
   // Opens what the engine makes of a file, or if it refuses the file for a fault, what can be read of it.
+  /**
+   * @param {string} name
+   * @param {Uint8Array} bytes
+   * @param {() => Promise<Sound>} read
+   */
   async #openSound(name, bytes, read) {
     let puzzle;
     try {
       puzzle = await read();
     } catch (fault) {
-      if (!fault.status) throw fault;
+      if (!statusOf(fault)) throw fault;
       return await this.#openGiven(name, puzzleDespite(fault, bytes), { fault });
     }
     await this.#editor.replace(puzzle);
@@ -155,11 +203,14 @@ export class Files {
   }
 
   // Opens a .puz with a scrambled solution, with its letters or without them.
+  /**
+   * @param {string} name
+   * @param {Uint8Array} bytes
+   */
   async #openScrambled(name, bytes) {
     // which is refused if it has no grid
     readPuz(bytes);
-    const { askKey, words } = this.actions;
-    const found = await solutionOf(name, bytes, { ask: askKey, searching: () => say(`trying the keys of ${name} …`, 'busy', true), words });
+    const found = await solutionOf(name, bytes, { ask: askKey, searching: () => say(`trying the keys of ${name} …`, 'busy', true), words: () => this.#words.get() });
     if (!found) return this.#refuse(`${name} is not opened`);
     const given = readPuz(bytes, found.solution);
     if (!found.found) given.drops('its solution, which is scrambled');
@@ -167,6 +218,10 @@ export class Files {
   }
 
   // What a .puz or a text file has. The characters of a later .puz that earlier ones cannot have are kept beside its texts.
+  /**
+   * @param {Uint8Array} bytes
+   * @returns {Promise<Sound>}
+   */
   async #soundPuzzle(bytes) {
     const { bytes: puzzle, texts } = isPuz(bytes) ? asVersion13(bytes) : { bytes, texts: [] };
     const record = await this.#editor.engine.call('read', { puzzle });
@@ -177,31 +232,44 @@ export class Files {
 
   // Opens what a reader made of a file: its clues are at the lights that the engine finds in its grid. What was wrong in it is shown before. `fault` is why
   // the engine refused the file itself, and `found` says how its solution was found.
+  /**
+   * @param {string} name
+   * @param {import('./given.js').Given} given
+   * @param {{ fault?: unknown, found?: string }} why
+   */
   async #openGiven(name, given, { fault = null, found = '' } = {}) {
     const { engine } = this.#editor;
     const { record, originals, lost } = given.recordWith(await engine.call('lights', { record: given.grid }));
     const read = await engine.call('read', { record });
-    const repairs = given.repairs.lines.length || !fault ? given.repairs.lines : [refusalText(fault.status)];
-    if (repairs.length && (await this.actions.askAnyway(name, repairs)) !== 'open') return this.#refuse(`${name} is not opened`);
+    const repairs = given.repairs.lines.length || !fault ? given.repairs.lines : [refusalText(statusOf(fault) ?? '')];
+    if (repairs.length && (await askAnyway(name, repairs)) !== 'open') return this.#refuse(`${name} is not opened`);
     await this.#editor.replace({ record: read, originals });
     const repaired = repairs.length ? `, with ${counted(repairs.length, 'repair')}` : '';
     return this.#opened(name, given.dropped, `${found}${repaired}${lost ? `; ${lost} ${lost === 1 ? 'clue has' : 'clues have'} no place in its grid` : ''}`);
   }
 
   // Shows what a table of clues changes in the puzzle, and changes it in one step if the user agrees.
+  /**
+   * @param {string} name
+   * @param {ReturnType<typeof readClueTable>} rows
+   */
   async #openClues(name, rows) {
     const editor = this.#editor;
     const found = await editor.inOrder(() => clueChanges(editor, rows));
-    if (!(await this.actions.askClues(name, found))) return this.#refuse(`${name}: the clues stay as they are`);
-    if (await this.actions.takeClues(found.changes)) return false;
+    if (!(await askClues(editor, this.#clues, name, found))) return this.#refuse(`${name}: the clues stay as they are`);
+    if (await this.#edits.takeClues(found.changes)) return false;
     say(`${name}: ${joinedText(countClues(found.changes))} taken over; undo takes this back`, 'good');
     return true;
   }
 
   // Adds the puzzles of a file to those that the browser keeps.
+  /**
+   * @param {string} name
+   * @param {string} text
+   */
   async #openPuzzles(name, text) {
     try {
-      const { added, others, dropped } = await this.actions.addPuzzles(text);
+      const { added, others, dropped } = await this.#editor.do('addPuzzles', text);
       const versions = others ? `; of ${others} that are here already, versions` : '';
       const lacking = lackingText(dropped);
       say(`${name}: ${added} ${added === 1 ? 'puzzle is' : 'puzzles are'} added to File ▸ Puzzles${versions}${lacking}`, lacking ? 'bad' : 'good');
@@ -211,26 +279,32 @@ export class Files {
     }
   }
 
+  /** @param {string} text */
   #refuse(text) {
     refuse(text);
     return false;
   }
 
   // The name and the bytes of a file, or of one in a zip or a mail; null if there are too many, or the file cannot be read, as a folder cannot.
+  /** @param {File} file */
   async #contentOf(file) {
     if (file.size > MOST_BYTES) {
       refuse(`${file.name} is too large to be a puzzle, a session or a word list: nothing is opened`);
       return null;
     }
     try {
-      return await unpacked({ name: file.name, bytes: new Uint8Array(await file.arrayBuffer()) }, MOST_BYTES, this.actions.askFile);
+      return await unpacked({ name: file.name, bytes: new Uint8Array(await file.arrayBuffer()) }, MOST_BYTES, askFile);
     } catch (fault) {
-      refuse(fault.status === 'Packed' ? fault.message : `${file.name} cannot be read`);
+      refuse(statusOf(fault) === 'Packed' ? messageOf(fault) : `${file.name} cannot be read`);
       return null;
     }
   }
 
   // Only the grid and the texts of a session are tried without the list, since words of the list are not known there.
+  /**
+   * @param {string} name
+   * @param {string} marked
+   */
   async #openSession(name, marked) {
     const text = marked.replace(/^\u00ef\u00bb\u00bf/, '');
     if (!hasCommands(text)) return this.#refuse(`${name} is a session without commands: nothing is opened`);
@@ -244,6 +318,10 @@ export class Files {
   }
 
   // Takes over the comments of a session of this puzzle that are not here yet. Nothing else of it counts.
+  /**
+   * @param {string} name
+   * @param {string} text
+   */
   async #openComments(name, text) {
     const editor = this.#editor;
     const { board } = editor;
@@ -255,35 +333,42 @@ export class Files {
     const { texts, added, others } = addedComments(here, given);
     const left = others.length ? `; left out, since their clues are not here: ${namesText(others.map((one) => `“${one}”`), MOST_NAMED)}` : '';
     if (!added) return this.#refuse(`${name} has no comment that is not here${left}`);
-    if (await this.actions.takeComments(texts)) return false;
+    if (await this.#edits.takeComments(texts)) return false;
     say(`${name}: ${countText(added, '1 comment', 'comments')[0]} taken over; undo takes this back${left}`, left ? 'bad' : 'good');
     return true;
   }
 
   // Shows how a list is read, and takes it over if the user agrees.
+  /**
+   * @param {string} name
+   * @param {Uint8Array} bytes
+   */
   async openList(name, bytes) {
     say(`reading ${name} …`, 'busy', true);
-    const form = await this.actions.askList(name, bytes);
+    const form = await this.#lists.ask(name, bytes);
     if (!form) return this.#refuse(`${name} is not opened`);
     say(`reading ${name} …`, 'busy', true);
-    return this.actions.changeLists((lists) => lists.adding(name, bytes, form), name);
+    return this.#editor.do('changeLists', (lists) => lists.adding(name, bytes, form), name);
   }
 
   // The name for a file of this puzzle, with an ending.
+  /** @param {string} ending */
   #name(ending) {
     const title = this.#editor.board.texts.get('title') ?? '';
     const plain = title.toLowerCase().replace(/[^a-z0-9]+/g, '-').replace(/^-|-$/g, '');
     return `${plain || 'crossword'}.${ending}`;
   }
 
+  /** @param {'puz' | 'text'} form */
   async save(form) {
     try {
       if (form === 'puz') return this.#givePuzzle(await this.#puz(), this.#name('puz'), this.#lossNote(form));
       const bytes = await this.#editor.inOrder(() => this.#editor.engine.call('file', { form }));
       this.#givePuzzle(bytes, this.#name('txt'), this.#lossNote(form));
     } catch (fault) {
-      if (!fault.status) throw fault;
-      this.#explain(fault.status);
+      const status = statusOf(fault);
+      if (!status) throw fault;
+      this.#explain(status);
     }
   }
 
@@ -292,8 +377,9 @@ export class Files {
     try {
       this.#givePuzzle(await this.#puz(), this.#name('puz'), this.#lossNote('puz'));
     } catch (fault) {
-      if (!fault.status) throw fault;
-      this.saveSession(`: the session, since ${this.#whyNoPuz(fault.status)}`);
+      const status = statusOf(fault);
+      if (!status) throw fault;
+      this.saveSession(`: the session, since ${this.#whyNoPuz(status)}`);
     }
   }
 
@@ -310,37 +396,41 @@ export class Files {
   }
 
   // What a file of a format does not keep.
+  /** @param {string} form */
   #lossNote(form) {
     const { lost, strange } = lossesOf(this.#editor, form);
     const near = strange.length ? `, with near characters for ${strange.map((one) => `“${one}”`).join(', ')}` : '';
     return `${lost.length ? `, without ${joinedText(lost)}` : ''}${near}`;
   }
 
+  /** @param {string} status */
   #whyNoPuz(status) {
     const { board } = this.#editor;
     const cell = board.firstEmpty();
+    /** @type {Record<string, string>} */
     const texts = { Barred: 'a .puz cannot hold bars', NotFilled: `row ${board.rowOf(cell)}, column ${board.columnOf(cell)} is empty` };
     return texts[status] ?? refusalText(status);
   }
 
   // Says why a file cannot be made, and goes to where that is.
+  /** @param {string} status */
   #explain(status) {
     const editor = this.#editor;
     const { board } = editor;
     if (status === 'NotFilled') {
       const cell = board.firstEmpty();
       editor.moveTo(cell);
-      this.actions.toGrid();
+      editor.do('toGrid');
       return refuse(`not saved: row ${board.rowOf(cell)}, column ${board.columnOf(cell)} is empty`, true);
     }
     if (status === 'Circled') {
       editor.moveTo(board.cells.findIndex((cell) => cell.circle && !cell.block));
-      this.actions.toGrid();
+      editor.do('toGrid');
     }
     const order = [...board.lights.filter((light) => light.direction === 'across'), ...board.lights.filter((light) => light.direction === 'down')];
     const lacking = order.find((light) => !board.hasClue(light));
     if (status === 'Field' && lacking) {
-      this.actions.toClue(lacking);
+      editor.do('toClue', lacking);
       return refuse(termed(`not saved: a text file needs a clue for each light, and ${lacking.name} has none`), true);
     }
     refuse(termed(`not saved: ${refusalText(status)}`), true);
@@ -349,7 +439,7 @@ export class Files {
   saveSession(why = '') {
     const { record, pencil, originals } = this.#editor.state;
     const lines = record.split('\n').filter((line) => line !== SESSION_HEAD);
-    const ascii = (text) => text.replace(/[^\x20-\x7e]/g, (character) => `\\u${character.charCodeAt(0).toString(16).padStart(4, '0')}`);
+    const ascii = (/** @type {string} */ text) => text.replace(/[^\x20-\x7e]/g, (character) => `\\u${character.charCodeAt(0).toString(16).padStart(4, '0')}`);
     // the others are for the words of the file
     const { board } = this.#editor;
     const stale = staleClues(this.#editor).map(({ light, word }) => [board.clueField(light), word]);
@@ -361,13 +451,14 @@ export class Files {
     this.#givePuzzle(toBytes([...head, ...lines].join('\n')), this.#name('xw'), why);
   }
 
-  #textOf = (field) => this.#editor.textOf(field);
-  #entryOf = (cell) => this.#editor.entryOf(cell);
+  #textOf = (/** @type {string} */ field) => this.#editor.textOf(field);
+  #entryOf = (/** @type {Cell} */ cell) => this.#editor.entryOf(cell);
 
   // Saves a file that can be unfinished and have bars: `ipuz`, `jpz` or `exolve`.
+  /** @param {keyof typeof WRITERS} form */
   saveAs(form) {
     const editor = this.#editor;
-    const more = { colourOf: (cell) => editor.colourOf(cell), links: editor.links, language: editor.language };
+    const more = { colourOf: (/** @type {Cell} */ cell) => editor.colourOf(cell), links: editor.links, language: editor.language };
     this.#givePuzzle(new TextEncoder().encode(WRITERS[form](editor.board, this.#textOf, this.#entryOf, more)), this.#name(form), this.#lossNote(form));
   }
 
@@ -381,11 +472,12 @@ export class Files {
   // Saves the clues as a sheet in HTML.
   saveSheet() {
     const editor = this.#editor;
-    const told = { answerOf: (light) => editor.answerOf(light), cluedBy: (light) => editor.cluedBy(light), isLinked: (light) => editor.links.headOf.has(light), language: editor.language };
+    const told = { answerOf: (/** @type {Light} */ light) => editor.answerOf(light), cluedBy: (/** @type {Light} */ light) => editor.cluedBy(light), isLinked: (/** @type {Light} */ light) => editor.links.headOf.has(light), language: editor.language };
     this.#give(new TextEncoder().encode(htmlOf(editor.board, this.#textOf, enumerated, told)), this.#name('html'), this.#lossNote('html'));
   }
 
   // Saves a page to solve the puzzle in, which is made of a template.
+  /** @param {string} template */
   savePage(template) {
     const editor = this.#editor;
     const { board } = editor;
@@ -395,12 +487,20 @@ export class Files {
     return this.#give(new TextEncoder().encode(page), this.#name('solve.html'), `${without.length ? `, with ${without[0]}` : ''}${this.#lossNote('page')}`);
   }
 
+  /**
+   * @param {Uint8Array} bytes
+   * @param {string} name
+   */
   #givePuzzle(bytes, name, why = '') {
     this.#give(bytes, name, why);
-    this.actions.saved();
+    this.#editor.do('fileSaved');
   }
 
   // Gives a file of the puzzle, and warns of clues that were written for other words.
+  /**
+   * @param {Uint8Array} bytes
+   * @param {string} name
+   */
   #give(bytes, name, why = '') {
     const [first, ...others] = staleClues(this.#editor);
     const told = first && `the clue of ${titleOf(first.light)} was written for ${first.word}`;
@@ -409,10 +509,18 @@ export class Files {
   }
 
   // Saves a text of anything else under a name.
+  /**
+   * @param {string} text
+   * @param {string} name
+   */
   saveText(text, name) {
     this.#download(new TextEncoder().encode(text), name);
   }
 
+  /**
+   * @param {Uint8Array} bytes
+   * @param {string} name
+   */
   #download(bytes, name, why = '', tone = 'good') {
     const link = document.createElement('a');
     link.href = URL.createObjectURL(new Blob([bytes], { type: 'application/octet-stream' }));
@@ -423,6 +531,7 @@ export class Files {
   }
 
   // Files that are dropped anywhere on the page.
+  /** @param {HTMLElement} target */
   takeDrops(target) {
     target.addEventListener('dragover', (event) => {
       event.preventDefault();
@@ -434,22 +543,30 @@ export class Files {
     target.addEventListener('drop', async (event) => {
       event.preventDefault();
       target.classList.remove('dropping');
-      for (const file of event.dataTransfer.files) await this.open(file);
+      for (const file of event.dataTransfer?.files ?? []) await this.open(file);
     });
   }
 }
 
 // What a reader makes of a file. Where the file has something of another kind than its format, as a number for a list, it is refused too.
+/**
+ * @param {(bytes: Uint8Array) => import('./given.js').Given} reader
+ * @param {Uint8Array} bytes
+ */
 function givenBy(reader, bytes) {
   try {
     return reader(bytes);
   } catch (fault) {
-    if (fault.status) throw fault;
+    if (statusOf(fault)) throw fault;
     throw new FileFault('it is not as its format has it');
   }
 }
 
 // What can be read of a .puz or a text file that is refused for a fault. If it has not even a grid, it stays refused.
+/**
+ * @param {unknown} fault
+ * @param {Uint8Array} bytes
+ */
 function puzzleDespite(fault, bytes) {
   try {
     if (isPuz(bytes)) return readPuz(bytes);
@@ -462,17 +579,25 @@ function puzzleDespite(fault, bytes) {
   throw fault;
 }
 
+// What a fault says.
+const messageOf = (/** @type {unknown} */ fault) => /** @type {Error} */ (fault).message;
+
 // What is left out of a file.
-const lackingText = (dropped) => (dropped.length ? `, but without ${joinedText(dropped)}` : '');
+const lackingText = (/** @type {readonly string[]} */ dropped) => (dropped.length ? `, but without ${joinedText(dropped)}` : '');
 
 // What the lines of a session have beside its record, as far as it is lawful.
+/**
+ * @param {string[]} lines
+ * @param {Dropped} dropped
+ */
 function besideIn(lines, dropped) {
-  const noteOf = (note) => lines.find((line) => line.startsWith(note))?.slice(note.length);
+  const noteOf = (/** @type {string} */ note) => lines.find((line) => line.startsWith(note))?.slice(note.length);
   const [originals, written] = [ORIGINALS, WRITTEN].map((note) => parsed(noteOf(note)));
   return lawfulBeside({ pencil: noteOf(PENCIL)?.split(', ').filter(Boolean) ?? [], originals, written }, dropped);
 }
 
 // What a note of a session spells in JSON; the note itself if it spells nothing.
+/** @param {string | undefined} note */
 function parsed(note) {
   try {
     return note && JSON.parse(note);

@@ -7,7 +7,7 @@ import { engineText, escapeText, textLines } from '../model/record.js';
 import { Dropped } from './dropped.js';
 import { Repairs, shownText } from './repairs.js';
 
-/** @typedef {import('../engine/answers.js').Direction} Direction */
+/** @typedef {import('../engine/told.js').Direction} Direction */
 // A clue is at a cell, or at the light that has its number. `links` names the lights that it goes on in, as `N DIR`.
 /** @typedef {{ at: string | null, number: string, direction: Direction, text: string, links: string[] }} GivenClue */
 // A note of the setter on a clue, at the light that has its number.

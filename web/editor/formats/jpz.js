@@ -7,7 +7,7 @@ import { closedXml } from './cut.js';
 import { FileFault, Given, markedIn } from './given.js';
 import { CUT } from './repairs.js';
 
-/** @typedef {import('../engine/answers.js').Direction} Direction */
+/** @typedef {import('../engine/told.js').Direction} Direction */
 
 /** @typedef {{ at: string, direction: Direction } | null} Word where a word begins; null if it is not one straight run */
 

@@ -41,6 +41,7 @@ export function asVersion13(bytes) {
 /**
  * @param {string[]} texts
  * @param {FirstCell[]} lights
+ * @returns {import('../model/state.js').Pair[]}
  */
 export function originalsOf(texts, lights) {
   const fields = ['title', 'author', 'copyright', ...lights.map(({ row, column, direction }) => `clue ${row} ${column} ${direction}`), 'notes'];

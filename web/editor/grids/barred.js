@@ -16,10 +16,13 @@ const COST = { short: 40, unchecked: 12, pair: 12, alone: 40, three: 5, long: 2,
 /** @typedef {{ size: number, turns: import('./symmetry.js').Turns, open: Set<number>, closed: Set<number> }} BarredPlan */
 
 // Edges are numbers: twice the cell, for the edge to its right, and one more for the edge below it.
-export const edgeAfter = (cell, isDown) => 2 * cell + (isDown ? 1 : 0);
+export const edgeAfter = (/** @type {number} */ cell, /** @type {boolean} */ isDown) => 2 * cell + (isDown ? 1 : 0);
 
 class BarredGrid {
-  /** @param {BarredPlan} plan */
+  /**
+   * @param {BarredPlan} plan
+   * @param {() => number} random
+   */
   constructor({ size, turns, open, closed }, random) {
     this.turns = turns;
     this.random = random;
@@ -27,7 +30,7 @@ class BarredGrid {
     this.bars = new Uint8Array(2 * size ** 2);
     this.lights = 0;
     for (const edge of closed) this.bars[edge] = 1;
-    const isFree = (edges) => edges.every((edge) => !open.has(edge) && !closed.has(edge));
+    const isFree = (/** @type {number[]} */ edges) => edges.every((edge) => !open.has(edge) && !closed.has(edge));
     // the edges that are toggled together
     this.orbits = this.#edges().map((edge) => this.#orbit(edge)).filter(([first, ...others]) => others.every((edge) => edge > first)).filter(isFree);
     for (const orbit of this.orbits) if (random() < 0.25) for (const edge of orbit) this.bars[edge] = 1;
@@ -44,6 +47,7 @@ class BarredGrid {
   }
 
   // An edge lies between two cells, and so do its images.
+  /** @param {number} edge */
   #orbit(edge) {
     const cell = edge >> 1;
     const other = edge & 1 ? cell + this.size : cell + 1;
@@ -51,12 +55,20 @@ class BarredGrid {
   }
 
   // Whether a bar or the border is before a cell and after it, across (0) or down (1).
+  /**
+   * @param {number} cell
+   * @param {number} down
+   */
   #isAlone(cell, down) {
     const { size, bars } = this;
     const [at, step] = down ? [Math.floor(cell / size), size] : [cell % size, 1];
     return (at === 0 || bars[2 * (cell - step) + down] === 1) && (at === size - 1 || bars[2 * cell + down] === 1);
   }
 
+  /**
+   * @param {number} down
+   * @param {number} at
+   */
   #lightsIn(down, at) {
     let lights = 0;
     this.#eachRun(down, at, (_, length) => {
@@ -66,6 +78,11 @@ class BarredGrid {
   }
 
   // Tells the first cell and the length of each run of a row or a column.
+  /**
+   * @param {number} down
+   * @param {number} at
+   * @param {(first: number, length: number) => void} tell
+   */
   #eachRun(down, at, tell) {
     const { size, bars } = this;
     const step = down ? size : 1;
@@ -80,6 +97,10 @@ class BarredGrid {
     }
   }
 
+  /**
+   * @param {number} down
+   * @param {number} at
+   */
   #costOf(down, at) {
     let cost = 0;
     this.#eachRun(down, at, (first, length) => {
@@ -89,6 +110,11 @@ class BarredGrid {
   }
 
   // What the faults of a run cost: two letters, a cell in no light, and too many unchecked letters, or two side by side.
+  /**
+   * @param {number} first
+   * @param {number} length
+   * @param {number} down
+   */
   #faultOf(first, length, down) {
     if (length === 1) return this.#isAlone(first, 1 - down) ? COST.alone : 0;
     const step = down ? this.size : 1;
@@ -104,6 +130,7 @@ class BarredGrid {
   }
 
   // The rows and columns whose cost an edge is part of.
+  /** @param {number} edge */
   #linesOf(edge) {
     const { size } = this;
     const [cell, down] = [edge >> 1, edge & 1];
@@ -112,6 +139,10 @@ class BarredGrid {
   }
 
   // Toggles edges, and undoes that if it costs too much.
+  /**
+   * @param {number[]} orbit
+   * @param {number} heat
+   */
   #try(orbit, heat) {
     const lines = [...new Map(orbit.flatMap((edge) => this.#linesOf(edge)).map((line) => [line[0] * this.size + line[1], line])).values()];
     for (const edge of orbit) this.bars[edge] ^= 1;
@@ -166,14 +197,15 @@ class BarredGrid {
 }
 
 // What a light costs by its length.
-const unusual = (length) => (length === 3 ? COST.three : 0) + COST.long * Math.max(0, length - LONGEST);
+const unusual = (/** @type {number} */ length) => (length === 3 ? COST.three : 0) + COST.long * Math.max(0, length - LONGEST);
 
 // The most unchecked letters that a light in a barred grid usually has.
-export const mostUnchecked = (length) => Math.max(0, Math.floor((length - 2) / 2));
+export const mostUnchecked = (/** @type {number} */ length) => Math.max(0, Math.floor((length - 2) / 2));
 
 // The bars of a grid, as edges; null if none were found that keep the rules. The plan says which edges stay open, and which are bars.
 /**
  * @param {BarredPlan} plan
+ * @param {number} seed
  * @returns {Set<number> | null}
  */
 export function barredGrid(plan, seed) {

@@ -4,7 +4,7 @@ import { shortIn, stretches } from './bits.js';
 /** @typedef {{ word: string, run: number[] }} Place an entry and its cells; `word` is empty for a light that has no letters yet */
 
 // what cells are that do not change
-const [OPEN, BLOCK] = [1, 2];
+export const [OPEN, SHUT] = [1, 2];
 // the most orbits that change in one move
 const MOST_CHANGED = 5;
 
@@ -43,7 +43,7 @@ export class Board {
         if (word) letters[cell] = word.charCodeAt(at) - 65;
       });
     }
-    const ends = places.flatMap(({ run }) => [2 * run[0] - run[1], 2 * run.at(-1) - run.at(-2)]);
+    const ends = places.flatMap(({ run }) => [2 * run[0] - run[1], 2 * run[run.length - 1] - run[run.length - 2]]);
     if (![...ends, ...shut].every((cell) => this.#force(cell)) || !this.#forceShort()) return null;
     return this.frame.orbits.filter(([cell]) => !fixed[cell]);
   }
@@ -59,20 +59,23 @@ export class Board {
   }
 
   // Puts a block into a cell and its images for good, unless it is of the border; returns whether it could.
+  /** @param {number} cell */
   #force(cell) {
     const { fixed } = this;
     const orbit = this.frame.orbitOf[cell];
-    if (!orbit || fixed[cell] === BLOCK) return true;
+    if (!orbit || fixed[cell] === SHUT) return true;
     if (orbit.some((one) => fixed[one])) return false;
     this.toggle(orbit);
-    for (const one of orbit) fixed[one] = BLOCK;
+    for (const one of orbit) fixed[one] = SHUT;
     return true;
   }
 
+  /** @param {number} cell */
   isShut(cell) {
     return (this.lines[0][this.frame.rows[cell]] >> (this.frame.columns[cell] + 1)) & 1;
   }
 
+  /** @param {readonly number[]} orbit */
   toggle(orbit) {
     const { rows, columns } = this.frame;
     const [across, down] = this.lines;
@@ -84,6 +87,7 @@ export class Board {
   }
 
   // Changes orbits, or undoes that.
+  /** @param {readonly number[][]} changed */
   undo(changed) {
     for (const orbit of changed) this.toggle(orbit);
   }
@@ -110,6 +114,10 @@ export class Board {
   }
 
   // An orbit, and if it has blocks one beside it without, if that is free.
+  /**
+   * @param {number[]} orbit
+   * @param {() => number} random
+   */
   #shift(orbit, random) {
     const { frame: { orbitOf, stride }, fixed } = this;
     if (!this.isShut(orbit[0])) return [orbit];
@@ -119,6 +127,7 @@ export class Board {
   }
 
   // A run that is too short for a light, in a row or a column of changed cells; or null. If there is one, there is one with the first cell of an orbit.
+  /** @param {readonly number[][]} changed */
   #shortBy(changed) {
     const { frame } = this;
     for (const [cell] of changed) {
@@ -132,16 +141,22 @@ export class Board {
   }
 
   // One of the ways to do away with a short run, as orbits: it becomes blocks, or a block at its end is opened. Or null. No orbit changes twice.
+  /**
+   * @param {{ first: number, step: number, length: number }} short
+   * @param {number[][]} changed
+   * @param {() => number} random
+   * @returns {number[][] | null}
+   */
   #mending({ first, step, length }, changed, random) {
     const { frame: { orbitOf }, fixed } = this;
     const last = first + (length - 1) * step;
-    const isFree = (cell) => orbitOf[cell] && !fixed[cell] && !changed.includes(orbitOf[cell]);
+    const isFree = (/** @type {number} */ cell) => orbitOf[cell] && !fixed[cell] && !changed.includes(orbitOf[cell] ?? []);
     // two of four ways fill the run
     const start = Math.floor(4 * random());
     for (let at = 0; at < 4; at++) {
       const way = (start + at) % 4;
       const ends = way < 2 ? [first, last] : way === 2 ? [first - step] : [last + step];
-      if (ends.every(isFree)) return [...new Set(ends.map((cell) => orbitOf[cell]))];
+      if (ends.every(isFree)) return [...new Set(ends.flatMap((cell) => [orbitOf[cell] ?? []]))];
     }
     return null;
   }
@@ -152,6 +167,10 @@ export class Board {
     return [...this.lines[0].keys()].flatMap((row) => this.#runsIn(0, row)).concat([...this.lines[1].keys()].flatMap((column) => this.#runsIn(1, column)));
   }
 
+  /**
+   * @param {number} isDown
+   * @param {number} line
+   */
   #runsIn(isDown, line) {
     const { frame } = this;
     const [start, step, count] = isDown ? [frame.cell(0, line), frame.stride, frame.height] : [frame.cell(line, 0), 1, frame.width];

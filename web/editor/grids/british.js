@@ -15,6 +15,12 @@ const DOWN = 0.1;
 
 // The places of entries: runs of cells, with the images of each under the symmetry.
 class Places {
+  /**
+   * @param {number} size
+   * @param {boolean} isBarred
+   * @param {Turns} turns
+   * @param {() => number} random
+   */
   constructor(size, isBarred, turns, random) {
     this.size = size;
     this.isBarred = isBarred;
@@ -24,17 +30,25 @@ class Places {
     const parities = [1, random() < 0.5 ? 1 : 0];
     this.parities = random() < 0.5 ? [1, 1] : turns.isQuarter ? [parities[1], parities[1]] : shuffled(parities, random);
     // runs without an entry yet, and all runs, as lists of cells
+    /** @type {number[][]} */
     this.free = [];
+    /** @type {number[][]} */
     this.runs = [];
+    /** @type {Map<number, string>} */
     this.letters = new Map();
   }
 
   // Gives a place to each entry; returns whether all have one, and none is left over.
+  /** @param {string[]} entries */
   takes(entries) {
     return entries.every((word, at) => this.#take(word, entries.slice(at + 1).filter((other) => other.length === word.length).length));
   }
 
   // `partners` are as many later entries of the same length.
+  /**
+   * @param {string} word
+   * @param {number} partners
+   */
   #take(word, partners) {
     const free = this.free.find((run) => run.length === word.length && this.#fits(word, run));
     if (free) {
@@ -58,15 +72,27 @@ class Places {
     return false;
   }
 
+  /**
+   * @param {string} word
+   * @param {number[]} run
+   */
   #fits(word, run) {
     return run.every((cell, at) => (this.letters.get(cell) ?? word[at]) === word[at]);
   }
 
+  /**
+   * @param {string} word
+   * @param {number[]} run
+   */
   #enter(word, run) {
     run.forEach((cell, at) => this.letters.set(cell, word[at]));
   }
 
   // The runs of a length in which entries may stand.
+  /**
+   * @param {number} length
+   * @param {boolean} isDown
+   */
   #possible(length, isDown) {
     const { size } = this;
     const runs = [];
@@ -81,6 +107,11 @@ class Places {
   }
 
   // Whether what is left on each side of an entry is nothing, or has room for a light. An entry that fits nowhere else stands at the border.
+  /**
+   * @param {number} before
+   * @param {number} after
+   * @param {number} length
+   */
   #hasRoom(before, after, length) {
     if (this.isBarred) return true;
     if (length > this.size - LEAST_ROOM) return before === 0 || after === 0;
@@ -88,11 +119,15 @@ class Places {
   }
 
   // Whether a run crosses the others, or has a row or column between itself and them.
+  /**
+   * @param {number[]} run
+   * @param {number[][]} others
+   */
   #isApart(run, others) {
     const cells = new Set(run);
     const isDown = run[1] !== run[0] + 1;
     const around = new Set(run.flatMap((cell) => (isDown ? [cell - 1, cell + 1] : [cell - this.size, cell + this.size])));
-    const [before, after] = [run[0] - (run[1] - run[0]), run.at(-1) + (run[1] - run[0])];
+    const [before, after] = [run[0] - (run[1] - run[0]), lastOf(run) + (run[1] - run[0])];
     return [...this.runs, ...others].every((other) => {
       const otherDown = other[1] !== other[0] + 1;
       if (other.includes(before) || other.includes(after)) return false;
@@ -101,16 +136,35 @@ class Places {
   }
 }
 
+const lastOf = (/** @type {number[]} */ run) => run[run.length - 1];
+
 // Whether the block at an end of a run would be in another one.
+/**
+ * @param {number[]} run
+ * @param {number[]} other
+ */
 function isAtEnd(run, other) {
   const step = run[1] - run[0];
-  return other.includes(run[0] - step) || other.includes(run.at(-1) + step);
+  return other.includes(run[0] - step) || other.includes(lastOf(run) + step);
 }
 
+/**
+ * @param {number} size
+ * @param {Grid['sym']} sym
+ * @param {Pick<Grid, 'letters' | 'lights'> & Partial<Grid>} made
+ * @returns {Grid}
+ */
 const gridOf = (size, sym, made) => ({ width: size, height: size, sym, blocks: new Set(), bars: new Set(), ...made, cost: -made.lights.length });
 
 // A lattice around places; or null.
-/** @returns {Grid | null} */
+/**
+ * @param {Places} places
+ * @param {number} size
+ * @param {Grid['sym']} sym
+ * @param {Turns} turns
+ * @param {() => number} random
+ * @returns {Grid | null}
+ */
 function latticeAround(places, size, sym, turns, random) {
   const lattice = new Lattice(size, turns, places.parities);
   if (!lattice.hold(places.runs) || !lattice.mend() || !lattice.isUsual) return null;
@@ -119,15 +173,23 @@ function latticeAround(places, size, sym, turns, random) {
 }
 
 // A grid with bars around places; or null.
-/** @returns {Grid | null} */
+/**
+ * @param {Places} places
+ * @param {number} size
+ * @param {Grid['sym']} sym
+ * @param {Turns} turns
+ * @param {number} seed
+ * @returns {Grid | null}
+ */
 function barsAround(places, size, sym, turns, seed) {
+  /** @type {[Set<number>, Set<number>]} */
   const [open, closed] = [new Set(), new Set()];
   for (const run of places.runs) {
     const isDown = run[1] !== run[0] + 1;
     const [step, at] = isDown ? [size, Math.floor(run[0] / size)] : [1, run[0] % size];
     for (const cell of run.slice(0, -1)) open.add(edgeAfter(cell, isDown));
     if (at > 0) closed.add(edgeAfter(run[0] - step, isDown));
-    if (at + run.length < size) closed.add(edgeAfter(run.at(-1), isDown));
+    if (at + run.length < size) closed.add(edgeAfter(lastOf(run), isDown));
   }
   if ([...open].some((edge) => closed.has(edge))) return null;
   const bars = barredGrid({ size, turns, open, closed }, seed);
@@ -135,11 +197,16 @@ function barsAround(places, size, sym, turns, seed) {
 }
 
 // The lights between bars.
+/**
+ * @param {Set<number>} bars
+ * @param {number} size
+ */
 function lightsBetween(bars, size) {
   const lights = [];
   for (const isDown of [false, true]) {
     const [line, step] = isDown ? [1, size] : [size, 1];
     for (let at = 0; at < size; at++) {
+      /** @type {number[]} */
       let light = [];
       for (let along = 0; along < size; along++) {
         const cell = at * line + along * step;
@@ -156,6 +223,7 @@ function lightsBetween(bars, size) {
 // Tries to make a grid from a seed; null if that one makes none.
 /**
  * @param {Pick<Wanted, 'entries' | 'width' | 'style' | 'sym'>} wanted
+ * @param {number} seed
  * @returns {Grid | null}
  */
 export function gridFrom({ entries, width, style, sym }, seed) {
@@ -183,6 +251,7 @@ export class BritishSearch {
   /**
    * @param {Wanted} wanted
    * @param {import('./counts.js').Counts} counts
+   * @param {number} seed
    */
   constructor(wanted, counts, seed) {
     this.#wanted = { ...wanted, entries: [...wanted.entries, ...wanted.seeds] };
@@ -196,17 +265,24 @@ export class BritishSearch {
     this.tried++;
     const grid = gridFrom(this.#wanted, this.#seed++);
     if (!grid) return this.#miss(['places']);
-    const { limits } = this.#wanted;
+    /** @type {Record<string, number>} */
+    const limits = this.#wanted.limits;
+    /** @type {Record<string, number>} */
     const figures = { words: grid.lights.length, blocks: grid.blocks.size, threes: threesOf(grid), dead: this.#deadIn(grid) };
     const faults = Object.keys(figures).filter((name) => figures[name] > (limits[name] ?? 0));
     return faults.length ? this.#miss(faults, grid) : grid;
   }
 
+  /** @param {Grid} grid */
   #deadIn(grid) {
-    const codes = (pattern) => Array.from(pattern, (letter) => (letter === '.' ? -1 : letter.charCodeAt(0) - 65));
+    const codes = (/** @type {string} */ pattern) => Array.from(pattern, (letter) => (letter === '.' ? -1 : letter.charCodeAt(0) - 65));
     return crossingPatterns(grid).filter((pattern) => !this.#counts.count(codes(pattern))).length;
   }
 
+  /**
+   * @param {string[]} faults
+   * @param {Grid | null} grid
+   */
   #miss(faults, grid = null) {
     for (const fault of faults) this.faults.set(fault, (this.faults.get(fault) ?? 0) + 1);
     if (grid) this.nearest ??= { grid, faults };

@@ -7,7 +7,7 @@ import { Ease } from './ease.js';
 /** @typedef {keyof Figures} Fault what a board has too much of */
 
 // The prices. A fault that spoils a grid costs so much that no board has it at the end, if another can be had.
-const PRICES = {
+export const PRICES = {
   // each word, block and so on over its limit, and each cell by which a light is too long
   words: 7, blocks: 7, threes: 6, cheaters: 7, lumps: 7, long: 6,
   // a light that no word matches
@@ -20,7 +20,7 @@ const PRICES = {
   lack: 1.6,
 };
 
-const over = (count, most) => (count > most ? count - most : 0);
+const over = (/** @type {number} */ count, /** @type {number} */ most) => (count > most ? count - most : 0);
 
 export class Cost {
   /** @type {import('./board.js').Board} */
@@ -100,6 +100,7 @@ export class Cost {
   }
 
   // Counts the lights of a direction, and blocks that are four in line.
+  /** @param {number} isDown */
   #countLines(isDown) {
     const { figures } = this;
     const lines = this.#board.lines[isDown];
@@ -154,11 +155,13 @@ export class Cost {
     return sum;
   }
 
+  /** @param {number} row */
   #openIn(row) {
     return ~this.#board.lines[0][row] & this.#board.inner[0];
   }
 
   // Reaches the cells of a row that are beside those reached; returns 1 if there are more, or 0.
+  /** @param {number} row */
   #widen(row) {
     const reach = this.#reach;
     const open = this.#openIn(row);

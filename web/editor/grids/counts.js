@@ -16,6 +16,10 @@ export class WordCounts {
     for (const length of new Set(words.map((word) => word.length))) this.#add(length, words.filter((word) => word.length === length));
   }
 
+  /**
+   * @param {number} length
+   * @param {string[]} words
+   */
   #add(length, words) {
     const bits = Array.from({ length: 26 * length }, () => new Uint32Array(Math.ceil(words.length / 32)));
     words.forEach((word, at) => {
@@ -57,6 +61,7 @@ export class GradedCounts {
     this.rest = new WordCounts(words.filter((word) => !isGood(word)));
   }
 
+  /** @param {ArrayLike<number>} pattern */
   count(pattern) {
     return this.good.count(pattern) + REST * this.rest.count(pattern);
   }

@@ -2,13 +2,13 @@
 // divided by the number of these cells. Two lights agree upon a letter by chance once in e^2.73 times, since the sum of the squares of the frequencies of
 // letters is 0.065; so a cell should get so much from its two lights, and some more.
 
-const AGREEMENT = 2.73;
-const EASE = 0.55;
+export const AGREEMENT = 2.73;
+export const EASE = 0.55;
 // what blocks and letters have, which need nothing
 const ENOUGH = 100;
 // what a light without words gives, and the count of words that is as good as none
 const NONE = -9;
-const LEAST_COUNT = 0.04;
+export const LEAST_COUNT = 0.04;
 const UNKNOWN = 1000;
 
 // What the lights of a line give to its cells, and how many of them have no word.
@@ -31,6 +31,10 @@ export class Ease {
   dead = 0;
   lack = 0;
 
+  /**
+   * @param {import('./board.js').Board} board
+   * @param {import('./counts.js').Counts} counts
+   */
   constructor(board, counts) {
     this.#board = board;
     this.#counts = counts;
@@ -48,10 +52,15 @@ export class Ease {
   begin() {
     this.#logs.fill(UNKNOWN);
     for (const { of } of this.#given) of.fill(0);
-    const isDown = ({ run }) => (run[1] === run[0] + 1 ? 0 : 1);
+    const isDown = (/** @type {import('./board.js').Place} */ { run }) => (run[1] === run[0] + 1 ? 0 : 1);
     this.#entered = new Set(this.#board.places.filter(({ word }) => word).map((place) => this.#key(isDown(place), place.run[0], place.run.length)));
   }
 
+  /**
+   * @param {number} isDown
+   * @param {number} first
+   * @param {number} length
+   */
   #key(isDown, first, length) {
     return (isDown * this.#board.frame.room + first) * this.#depth + length;
   }
@@ -63,6 +72,7 @@ export class Ease {
   }
 
   // Sees what the lights of a direction give now, and returns how many have no word. Lines that are as they were at `keep` give the same.
+  /** @param {number} isDown */
   #give(isDown) {
     const lines = this.#board.lines[isDown];
     const { of, kept, spare, now } = this.#given[isDown];
@@ -92,7 +102,11 @@ export class Ease {
     }
   }
 
-  /** @param {Given} given */
+  /**
+   * @param {number} isDown
+   * @param {number} line
+   * @param {Given} given
+   */
   #giveLine(isDown, line, given) {
     const { frame, letters, lines } = this.#board;
     const [start, step, count] = isDown ? [frame.cell(0, line), frame.stride, frame.height] : [frame.cell(line, 0), 1, frame.width];
@@ -112,12 +126,23 @@ export class Ease {
     }
   }
 
+  /**
+   * @param {number} isDown
+   * @param {number} first
+   * @param {number} step
+   * @param {number} length
+   */
   #logOf(isDown, first, step, length) {
     const key = this.#key(isDown, first, length);
     if (this.#logs[key] === UNKNOWN) this.#logs[key] = this.#entered.has(key) ? 0 : this.#logOfCount(first, step, length);
     return this.#logs[key];
   }
 
+  /**
+   * @param {number} first
+   * @param {number} step
+   * @param {number} length
+   */
   #logOfCount(first, step, length) {
     const pattern = Array.from({ length }, (_, at) => this.#board.letters[first + at * step]);
     const count = this.#counts.count(pattern);

@@ -31,21 +31,28 @@ export class Frame {
     for (let number = 0; number < width * height; number++) if (!this.orbitOf[this.#numbered(number)]) this.#addOrbit(number);
   }
 
+  /** @param {number} number */
   #addOrbit(number) {
     const orbit = this.#turns.orbit(number).map((one) => this.#numbered(one));
     this.orbits.push(orbit);
     for (const cell of orbit) this.orbitOf[cell] = orbit;
   }
 
+  /**
+   * @param {number} row
+   * @param {number} column
+   */
   cell(row, column) {
     return (row + 1) * this.stride + column + 1;
   }
 
   // The cell of a number in reading order, and back.
+  /** @param {number} number */
   #numbered(number) {
     return this.cell(Math.floor(number / this.width), number % this.width);
   }
 
+  /** @param {number} cell */
   numberOf(cell) {
     return this.rows[cell] * this.width + this.columns[cell];
   }

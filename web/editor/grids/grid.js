@@ -42,11 +42,17 @@ export function checkWanted({ style, width, height, sym, entries, seeds }) {
 }
 
 // Throws what keeps entries from standing under a half turn.
+/**
+ * @param {string[]} entries
+ * @param {number} width
+ * @param {number} height
+ * @param {boolean} hasSeeds
+ */
 function checkPairs(entries, width, height, hasSeeds) {
   const left = [...entries].sort((a, b) => b.length - a.length);
+  /** @type {string[]} */
   const alone = [];
-  while (left.length) {
-    const entry = left.shift();
+  for (let entry = left.shift(); entry !== undefined; entry = left.shift()) {
     if (left[0]?.length === entry.length) left.shift();
     else alone.push(entry);
   }
@@ -54,7 +60,7 @@ function checkPairs(entries, width, height, hasSeeds) {
   if (alone.length > 1) throw new Error(`${alone.slice(0, 2).join(' and ')} have no partner of the same length: under a half turn one entry at most stands alone, in the middle${others}`);
   if (!alone.length) return;
   // a middle has as many cells as its row or column, or two, four and so on less, and there is one if the number of lines is odd
-  const isMiddle = (room, lines) => lines % 2 === 1 && alone[0].length <= room && alone[0].length % 2 === room % 2;
+  const isMiddle = (/** @type {number} */ room, /** @type {number} */ lines) => lines % 2 === 1 && alone[0].length <= room && alone[0].length % 2 === room % 2;
   if (isMiddle(width, height) || isMiddle(height, width)) return;
   const isSquare = width === height && width % 2 === 1;
   throw new Error(`${alone[0]} cannot stand in the middle${isSquare ? ': its length is not odd' : ''}${others}`);
@@ -64,22 +70,26 @@ function checkPairs(entries, width, height, hasSeeds) {
 /** @param {Grid} grid */
 export function crossingPatterns({ lights, letters }) {
   const patterns = lights.map((light) => light.map((cell) => letters.get(cell) ?? '.').join('')).filter((pattern) => /[A-Z]/.test(pattern) && pattern.includes('.'));
-  const known = (pattern) => pattern.replaceAll('.', '').length;
+  const known = (/** @type {string} */ pattern) => pattern.replaceAll('.', '').length;
   return patterns.sort((a, b) => known(b) - known(a));
 }
 
 // In how many blocks and bars two grids differ.
+/**
+ * @param {Grid} one
+ * @param {Grid} other
+ */
 export function difference(one, other) {
-  const without = (some, others) => [...some].filter((each) => !others.has(each)).length;
+  const without = (/** @type {Set<number>} */ some, /** @type {Set<number>} */ others) => [...some].filter((each) => !others.has(each)).length;
   return without(one.blocks, other.blocks) + without(other.blocks, one.blocks) + without(one.bars, other.bars) + without(other.bars, one.bars);
 }
 
-export const threesOf = ({ lights }) => lights.filter(({ length }) => length === 3).length;
+export const threesOf = (/** @type {Grid} */ { lights }) => lights.filter(({ length }) => length === 3).length;
 
 // The record of a grid.
 /** @param {Grid} grid */
 export function recordOfGrid({ width, height, sym, blocks, bars, letters }) {
-  const at = (cell) => `${Math.floor(cell / width) + 1} ${(cell % width) + 1}`;
+  const at = (/** @type {number} */ cell) => `${Math.floor(cell / width) + 1} ${(cell % width) + 1}`;
   const lines = [
     `size ${width} ${height}`, ...[...bars].map((edge) => `bar ${at(edge >> 1)} ${edge & 1 ? 'below' : 'right'}`), ...[...blocks].map((cell) => `block ${at(cell)}`),
     `sym ${sym}`, ...[...letters].map(([cell, letter]) => `set ${at(cell)} ${letter}`),

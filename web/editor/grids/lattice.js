@@ -39,6 +39,7 @@ export class Lattice {
   }
 
   // Keeps runs of cells open, with blocks at their ends; returns whether they could.
+  /** @param {number[][]} runs */
   hold(runs) {
     const { size } = this;
     const ends = [];
@@ -51,12 +52,13 @@ export class Lattice {
         this.blocks.delete(cell);
       }
       if (at > 0) ends.push(run[0] - step);
-      if (at + run.length < size) ends.push(run.at(-1) + step);
+      if (at + run.length < size) ends.push(run[run.length - 1] + step);
     }
     return ends.every((cell) => this.block(cell));
   }
 
   // Puts blocks into a cell and its images; returns whether no entry is in the way.
+  /** @param {number} cell */
   block(cell) {
     const orbit = this.turns.orbit(cell);
     if (orbit.some((one) => this.held.has(one))) return false;
@@ -71,6 +73,7 @@ export class Lattice {
     const { size } = this;
     for (const [line, step] of [[size, 1], [1, size]]) {
       for (let at = 0; at < size; at++) {
+        /** @type {number[]} */
         let run = [];
         for (let along = 0; along <= size; along++) {
           const cell = at * line + along * step;
@@ -100,6 +103,7 @@ export class Lattice {
     return open.length > 0 && seen.size === open.length;
   }
 
+  /** @param {number} cell */
   #beside(cell) {
     const { size } = this;
     const column = cell % size;
@@ -112,7 +116,10 @@ export class Lattice {
   }
 
   // Parts the longest lights with blocks until none is too long; returns the lattice, or null.
-  /** @returns {Lattice | null} */
+  /**
+   * @param {() => number} random
+   * @returns {Lattice | null}
+   */
   parted(random) {
     /** @type {Lattice} */
     let lattice = this;
@@ -131,6 +138,10 @@ export class Lattice {
     return this.lights.filter((run) => run.length > LONGEST_LIGHT && !this.places.has(run.join())).sort((a, b) => b.length - a.length);
   }
 
+  /**
+   * @param {number[]} run
+   * @param {() => number} random
+   */
   #part(run, random) {
     for (const cell of shuffled(run.slice(3, -3), random)) {
       const other = this.copy();

@@ -3,9 +3,13 @@ import { keepLimits, keptLimits } from '../store/keep.js';
 import { LIMITS, OUTLETS, changedName, limitsFor, wholeLimits } from './outlets.js';
 
 /** @typedef {import('./outlets.js').Limit} Limit */
+/** @typedef {import('./outlets.js').Outlet} Outlet */
+/** @typedef {import('./grid.js').Style} Style */
+/** @typedef {Record<'outlet' | 'sym', HTMLSelectElement> & Record<'width' | 'height', HTMLInputElement> & Record<'table' | 'rules' | 'summary', HTMLElement> & { reset: HTMLButtonElement }} Elements */
 
 const NAMES = /** @type {Limit[]} */ (Object.keys(LIMITS));
 // what the groups of outlets are called
+/** @type {Record<Style, string>} */
 const STYLES = { american: 'American', british: 'British lattices', barred: 'Barred grids' };
 // the rules that all grids of a style keep
 const RULES = {
@@ -21,10 +25,10 @@ export class LimitsView {
   /** @type {Map<Limit, HTMLInputElement>} */
   #fields = new Map();
 
-  // `elements`: `outlet`, `width`, `height`, `sym`, `table`, `rules`, `summary`, `reset`.
+  /** @param {Elements} elements */
   constructor(elements) {
     this.#elements = elements;
-    elements.outlet.append(...Object.keys(STYLES).map(groupOf));
+    elements.outlet.append(.../** @type {Style[]} */ (Object.keys(STYLES)).map(groupOf));
     for (const name of NAMES) elements.table.append(this.#row(name));
     elements.outlet.addEventListener('change', () => this.#choose());
     for (const side of [elements.width, elements.height]) side.addEventListener('change', () => this.#show());
@@ -32,6 +36,7 @@ export class LimitsView {
     this.#choose();
   }
 
+  /** @param {Limit} name */
   #row(name) {
     const row = document.createElement('tr');
     const field = Object.assign(document.createElement('input'), { type: 'number', min: '0', id: `themes-${name}` });
@@ -46,7 +51,7 @@ export class LimitsView {
   }
 
   get #outlet() {
-    return OUTLETS.find(({ name }) => name === this.#elements.outlet.value);
+    return OUTLETS.find(({ name }) => name === this.#elements.outlet.value) ?? OUTLETS[0];
   }
 
   get #size() {
@@ -62,7 +67,7 @@ export class LimitsView {
   get wanted() {
     const { width, height } = this.#size;
     const limits = Object.fromEntries([...this.#fields].filter(([, { value }]) => value !== '').map(([name, { value }]) => [name, Number(value)]));
-    return { style: this.#outlet.style, width, height, sym: this.#elements.sym.value, limits: wholeLimits(limits, width, height) };
+    return { style: this.#outlet.style, width, height, sym: /** @type {import('./symmetry.js').Symmetry} */ (this.#elements.sym.value), limits: wholeLimits(limits, width, height) };
   }
 
   #choose() {
@@ -73,11 +78,18 @@ export class LimitsView {
     this.#show();
   }
 
+  /** @param {Limit} name */
   #change(name) {
-    const { value } = this.#fields.get(name);
+    const value = this.#valueOf(name);
     this.#changed[this.#key] = { ...this.#changed[this.#key], [name]: value === '' ? null : Number(value) };
     keepLimits(this.#changed);
     this.#show();
+  }
+
+  // What stands in the field of a limit.
+  /** @param {Limit} name */
+  #valueOf(name) {
+    return this.#fields.get(name)?.value ?? '';
   }
 
   #forget() {
@@ -94,19 +106,23 @@ export class LimitsView {
     for (const [name, field] of this.#fields) {
       const { limit, source } = limits[name];
       field.value = limit === null ? '' : String(limit);
-      const row = field.closest('tr');
+      const row = /** @type {HTMLElement} */ (field.closest('tr'));
       row.hidden = !isAmerican && !['words', 'blocks', 'threes'].includes(name);
-      row.lastElementChild.textContent = source;
+      /** @type {Element} */ (row.lastElementChild).textContent = source;
     }
     this.#elements.reset.disabled = !Object.keys(this.#changed[this.#key] ?? {}).length;
     this.#elements.rules.textContent = `All grids: ${RULES[outlet.style]}`;
     this.#elements.summary.textContent = this.#summary(outlet, width === outlet.width && height === outlet.height);
   }
 
+  /**
+   * @param {Outlet} outlet
+   * @param {boolean} isAtSize
+   */
   #summary({ published }, isAtSize) {
     const shown = { words: 'words', blocks: 'blocks', threes: 'words of 3', cheaters: 'cheaters' };
     const parts = Object.entries(shown).flatMap(([name, text]) => {
-      const { value } = this.#fields.get(/** @type {Limit} */ (name));
+      const value = this.#valueOf(/** @type {Limit} */ (name));
       return value === '' ? [] : [`${value} ${text}`];
     });
     const known = isAtSize && published.length ? ` (published: ${published.join(' and ')})` : '';
@@ -114,6 +130,7 @@ export class LimitsView {
   }
 }
 
+/** @param {Style} style */
 function groupOf(style) {
   const group = Object.assign(document.createElement('optgroup'), { label: STYLES[style] });
   group.append(...OUTLETS.filter((outlet) => outlet.style === style).map(({ name }) => new Option(name, name)));

@@ -1,5 +1,6 @@
 // What a worker does for new grids: it searches for them, and has its engine judge them.
-import * as answers from '../engine/answers.js';
+import { ask, counts as countsNow, outcome, scoreOf, send } from '../engine/session.js';
+import { cellsOf, isWhole } from '../engine/told.js';
 import { BritishSearch } from './british.js';
 import { GradedCounts } from './counts.js';
 import { Search } from './search.js';
@@ -8,32 +9,23 @@ import { Search } from './search.js';
 const JUDGED_SEED = 1;
 
 export class Making {
-  #ask;
-  #asked;
-  #scoreOf;
   /** @type {Search | BritishSearch | null} */
   #search = null;
-
-  // `ask` sends a line to the engine, `asked` a query, and `scoreOf` tells the score of a word, or null.
-  constructor({ ask, asked, scoreOf }) {
-    this.#ask = ask;
-    this.#asked = asked;
-    this.#scoreOf = scoreOf;
-  }
 
   // Begins a search. Words with scores under `weak` count little in it.
   /** @param {{ wanted: import('./grid.js').Wanted, seed: number, weak: number }} sent */
   begin({ wanted, seed, weak }) {
     const longest = Math.max(wanted.width, wanted.height);
-    const words = Array.from({ length: longest - 1 }, (_, at) => this.#asked(answers.match('.'.repeat(at + 2)))).flat();
-    const counts = new GradedCounts(words, (word) => (this.#scoreOf(word) ?? weak) >= weak);
+    const words = Array.from({ length: longest - 1 }, (_, at) => ask('match', '.'.repeat(at + 2))).flat();
+    const counts = new GradedCounts(words, (word) => (scoreOf(word) ?? weak) >= weak);
     this.#search = wanted.style === 'american' ? new Search(wanted, counts, seed) : new BritishSearch(wanted, counts, seed);
     return this.#search.isPossible;
   }
 
   // Searches for some time: the grids that it finds, and what was tried since the beginning.
+  /** @param {{ milliseconds: number }} sent */
   more({ milliseconds }) {
-    const search = this.#search;
+    const search = /** @type {Search | BritishSearch} */ (this.#search);
     const end = performance.now() + milliseconds;
     const grids = [];
     do {
@@ -45,34 +37,37 @@ export class Making {
 
   // What the words say of a grid: the patterns of its lights that no word matches, with the cells of these, the fewest words of a light, and how many
   // words its lights have, as the mean of the logarithms.
+  /** @param {{ lines: string[] }} sent */
   look({ lines }) {
-    for (const line of lines) this.#ask(line);
-    const counts = this.#asked(answers.counts());
-    const lights = this.#asked(answers.lights());
-    const open = lights.flatMap((light, at) => (answers.isWhole(light) ? [] : [counts[at]]));
-    const unmatched = this.#asked(answers.unmatched());
-    const isDead = new Set(unmatched.map(({ name }) => name));
-    const dead = lights.filter(({ name }) => isDead.has(name)).flatMap(answers.cellsOf).map(({ coordinates }) => coordinates);
+    send(...lines);
+    const counts = countsNow();
+    const lights = ask('lights');
+    const open = lights.flatMap((light, at) => (isWhole(light) ? [] : [counts[at]]));
+    const unmatched = ask('unmatched');
+    const isDead = new Set(unmatched.map(({ light }) => light));
+    const dead = lights.filter(({ light }) => isDead.has(light)).flatMap(cellsOf).map(({ coordinates }) => coordinates);
     const logs = open.reduce((sum, count) => sum + Math.log(count + 0.01), 0) / Math.max(1, open.length);
     return { unmatched: unmatched.map(({ pattern }) => pattern), dead, fewest: Math.min(...open), logs };
   }
 
   // The least grade at which a grid is proved to have no fill, 0 if it has none at all, and how many words its lights have.
+  /** @param {{ lines: string[] }} sent */
   bound({ lines }) {
     const { unmatched, logs } = this.look({ lines });
-    const bound = answers.outcomeOf(this.#ask('best 0')).bound ?? 0;
+    const bound = outcome('best', 0).bound ?? 0;
     return { bound: unmatched.length ? 0 : bound, logs };
   }
 
   // How well a short search fills a grid: how it ends, and the scores of the words that it enters. Without scores no fill is better than another.
+  /** @param {{ lines: string[], placements: number, isScored: boolean }} sent */
   fill({ lines, placements, isScored }) {
-    for (const line of lines) this.#ask(line);
-    const entries = new Set(this.#asked(answers.lights()).filter(answers.isWhole).map(({ name }) => name));
-    const search = (name) => answers.outcomeOf(this.#ask(`${name} ${placements} ${JUDGED_SEED}`)).answer;
+    send(...lines);
+    const entries = new Set(ask('lights').filter(isWhole).map(({ light }) => light));
+    const search = (/** @type {'autofill' | 'best'} */ command) => outcome(command, placements, JUDGED_SEED).answer;
     let answer = isScored ? search('best') : 'limit';
     // a grid without a good fill may have another
     if (answer === 'limit') answer = search('autofill');
-    const entered = answer === 'filled' ? this.#asked(answers.lights()).filter(({ name }) => !entries.has(name)) : [];
-    return { answer, scores: entered.map(({ letters }) => this.#scoreOf(letters)) };
+    const entered = answer === 'filled' ? ask('lights').filter(({ light }) => !entries.has(light)) : [];
+    return { answer, scores: entered.map(({ letters }) => scoreOf(letters)) };
   }
 }

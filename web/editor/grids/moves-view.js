@@ -4,6 +4,7 @@ import { MOST, figuresOf, figuresText, scoreOf } from '../model/grades.js';
 import { bodyOf, parseRecord, withoutTexts, wordsOf } from '../model/record.js';
 import { openDialog } from '../views/dialogs.js';
 import { sketchOf } from '../views/library.js';
+import { mayEdit } from '../views/messages.js';
 import { byBound, byFill, movesIn } from './moves.js';
 
 /** @typedef {import('./moves.js').Move} Move */
@@ -20,22 +21,18 @@ export class MovesView {
   #editor;
   #helpers;
   #elements;
-  #block;
   // rises with each search, and when one is ended
   #turn = 0;
 
-  // `block` puts a block into a cell, by index.
   /**
    * @param {import('../model/editor.js').Editor} editor
    * @param {import('../engine/helpers.js').Helpers} helpers
    * @param {Elements} elements
-   * @param {(index: number) => void} block
    */
-  constructor(editor, helpers, elements, block) {
+  constructor(editor, helpers, elements) {
     this.#editor = editor;
     this.#helpers = helpers;
     this.#elements = elements;
-    this.#block = block;
     elements.dialog.addEventListener('close', () => {
       this.#turn++;
       helpers.rest();
@@ -165,7 +162,7 @@ export class MovesView {
     card.append(sketchOf(parseRecord(this.#linesWith([]).join('\n')), new Set(), new Set(), marked), `row ${board.rowOf(first)}, column ${board.columnOf(first)}`, small);
     card.addEventListener('click', () => {
       this.#elements.dialog.close();
-      this.#block(first);
+      if (mayEdit(this.#editor)) this.#editor.do('toggleBlock', first);
     });
     return card;
   }

@@ -31,9 +31,18 @@ const THEMELESS = { ...DAILY, words: 72, blocks: 36, threes: 14, longest: 15 };
 const SUNDAY = { words: 140, blocks: 76, threes: 32, longest: 11, cheaters: 6, lumps: 0, gap: 1 };
 const LATTICE = { words: 36, threes: 6 };
 
-/** @returns {Outlet} */
+/**
+ * @param {string} name
+ * @param {number} size
+ * @param {Partial<Limits>} limits
+ * @param {Outlet['published']} published
+ * @returns {Outlet}
+ */
 const american = (name, size, limits, published = []) => ({ name, style: 'american', width: size, height: size, sym: 'half', limits, published });
-/** @returns {Outlet} */
+/**
+ * @param {string} name
+ * @returns {Outlet}
+ */
 const lattice = (name) => ({ name, style: 'british', width: 15, height: 15, sym: 'half', limits: LATTICE, published: [] });
 
 /** @type {Outlet[]} */
@@ -60,6 +69,8 @@ const MORE = { words: 2, blocks: 0, threes: 2, cheaters: 0 };
 // Sunday.
 /**
  * @param {Outlet} outlet
+ * @param {number} newWidth
+ * @param {number} newHeight
  * @returns {Partial<Limits>}
  */
 export function limitsAt({ style, limits, width, height }, newWidth, newHeight) {
@@ -67,8 +78,8 @@ export function limitsAt({ style, limits, width, height }, newWidth, newHeight) 
   const [cells, more] = [width * height, newWidth * newHeight - width * height];
   const growth = more / (21 ** 2 - 15 ** 2);
   const isInProportion = more < 0 || style !== 'american';
-  const at = (name) => (isInProportion ? Math.ceil((limits[name] * (cells + more)) / cells) + MORE[name] : Math.round(limits[name] + growth * (SUNDAY[name] - DAILY[name])));
-  const grown = GROWING.filter((name) => name in limits).map((name) => [name, at(name)]);
+  const at = (/** @type {typeof GROWING[number]} */ name, /** @type {number} */ limit) => (isInProportion ? Math.ceil((limit * (cells + more)) / cells) + MORE[name] : Math.round(limit + growth * (SUNDAY[name] - DAILY[name])));
+  const grown = GROWING.flatMap((name) => (limits[name] === undefined ? [] : [[name, at(name, limits[name] ?? 0)]]));
   // a limit that is all of a line stays so
   return { ...limits, ...Object.fromEntries(grown), ...(limits.longest === width && { longest: Math.max(newWidth, newHeight) }) };
 }
@@ -77,25 +88,29 @@ export function limitsAt({ style, limits, width, height }, newWidth, newHeight) 
 /** @typedef {Record<string, Partial<Record<Limit, number | null>>>} Changed */
 
 // The name that changes of an outlet at a size are kept by.
-export const changedName = ({ name }, width, height) => `${name} ${width} ${height}`;
+export const changedName = (/** @type {Outlet} */ { name }, /** @type {number} */ width, /** @type {number} */ height) => `${name} ${width} ${height}`;
 
 // Each limit of an outlet at a size, with those that a setter changed, and where it comes from; null is no limit.
 /**
  * @param {Outlet} outlet
+ * @param {number} width
+ * @param {number} height
  * @param {Changed} changed
  * @returns {Record<Limit, { limit: number | null, source: string }>}
  */
 export function limitsFor(outlet, width, height, changed) {
   const [listed, own] = [limitsAt(outlet, width, height), changed[changedName(outlet, width, height)] ?? {}];
   const isAtSize = width === outlet.width && height === outlet.height;
-  const sourceOf = (name) => (!isAtSize ? 'by the size' : outlet.published.includes(name) ? 'published' : 'usual');
-  const limitOf = (name) => (name in own ? { limit: own[name], source: 'yours' } : name in listed ? { limit: listed[name], source: sourceOf(name) } : { limit: null, source: '' });
-  return /** @type {any} */ (Object.fromEntries(Object.keys(LIMITS).map((name) => [name, limitOf(name)])));
+  const sourceOf = (/** @type {Limit} */ name) => (!isAtSize ? 'by the size' : outlet.published.includes(name) ? 'published' : 'usual');
+  const limitOf = (/** @type {Limit} */ name) => (name in own ? { limit: own[name], source: 'yours' } : name in listed ? { limit: listed[name], source: sourceOf(name) } : { limit: null, source: '' });
+  return /** @type {any} */ (Object.fromEntries(/** @type {Limit[]} */ (Object.keys(LIMITS)).map((name) => [name, limitOf(name)])));
 }
 
 // Limits for a search: where there is none, all that the grid has.
 /**
  * @param {Partial<Limits>} limits
+ * @param {number} width
+ * @param {number} height
  * @returns {Limits}
  */
 export function wholeLimits(limits, width, height) {

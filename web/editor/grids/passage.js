@@ -9,17 +9,18 @@ const FAR = 1000;
 export function narrowest({ width, height, blocks }) {
   const corner = Math.min(CORNER, Math.floor(Math.min(width, height) / 3));
   const cells = Array.from({ length: width * height }, (_, cell) => ({ cell, row: Math.floor(cell / width), column: cell % width }));
-  const chosen = (isIn) => new Set(cells.filter(isIn).map(({ cell }) => cell));
-  const isTop = ({ row }) => row === 0;
-  const isBottom = ({ row }) => row === height - 1;
-  const isLeft = ({ column }) => column === 0;
-  const isRight = ({ column }) => column === width - 1;
+  /** @typedef {typeof cells[number]} Cell */
+  const chosen = (/** @type {(cell: Cell) => boolean} */ isIn) => new Set(cells.filter(isIn).map(({ cell }) => cell));
+  const isTop = (/** @type {Cell} */ { row }) => row === 0;
+  const isBottom = (/** @type {Cell} */ { row }) => row === height - 1;
+  const isLeft = (/** @type {Cell} */ { column }) => column === 0;
+  const isRight = (/** @type {Cell} */ { column }) => column === width - 1;
   // the sides, and of two that meet the cells far from their corner
   const pairs = [[chosen(isTop), chosen(isBottom)], [chosen(isLeft), chosen(isRight)]];
   for (const isAcross of [isTop, isBottom]) {
     for (const isUp of [isLeft, isRight]) {
-      const isFarAlong = ({ column }) => (isUp === isLeft ? column >= corner : column < width - corner);
-      const isFarUp = ({ row }) => (isAcross === isTop ? row >= corner : row < height - corner);
+      const isFarAlong = (/** @type {Cell} */ { column }) => (isUp === isLeft ? column >= corner : column < width - corner);
+      const isFarUp = (/** @type {Cell} */ { row }) => (isAcross === isTop ? row >= corner : row < height - corner);
       pairs.push([chosen((one) => isAcross(one) && isFarAlong(one)), chosen((one) => isUp(one) && isFarUp(one))]);
     }
   }
@@ -27,12 +28,17 @@ export function narrowest({ width, height, blocks }) {
 }
 
 // The fewest open cells of a wall that leads from some cells to others.
+/**
+ * @param {{ width: number, height: number, blocks: Set<number> }} grid
+ * @param {Set<number>} from
+ * @param {Set<number>} to
+ */
 function fewestBetween({ width, height, blocks }, from, to) {
   const cost = new Int32Array(width * height).fill(FAR);
   // the cells that are reached, by their cost
   /** @type {number[][]} */
   const reached = [[], []];
-  const reach = (cell, before) => {
+  const reach = (/** @type {number} */ cell, /** @type {number} */ before) => {
     const now = before + (blocks.has(cell) ? 0 : 1);
     if (now >= cost[cell]) return;
     cost[cell] = now;
@@ -50,6 +56,11 @@ function fewestBetween({ width, height, blocks }, from, to) {
 }
 
 // The cells around one, and itself.
+/**
+ * @param {number} cell
+ * @param {number} width
+ * @param {number} height
+ */
 function around(cell, width, height) {
   const [row, column] = [Math.floor(cell / width), cell % width];
   const cells = [];

@@ -115,18 +115,24 @@ export const PATTERNS = [
   },
 ];
 
+/** @param {{ rows: readonly string[] }} pattern */
 export function rowsOf({ rows }) {
   const size = rows[0].length;
   return Array.from({ length: size }, (_, at) => (at < rows.length ? rows[at] : [...rows[size - 1 - at]].reverse().join('')));
 }
 
 // What makes a cell.
+/** @type {Record<string, string[]>} */
 const LINES = { '#': ['block R'], r: ['bar R right'], b: ['bar R below'], x: ['bar R right', 'bar R below'] };
 
 // The record of an empty grid.
+/**
+ * @param {readonly string[]} rows
+ * @param {string} sym
+ */
 export function recordOf(rows, sym) {
   const made = rows.flatMap((row, at) => [...row].flatMap((cell, column) => (LINES[cell] ?? []).map((line) => line.replace('R', `${at + 1} ${column + 1}`))));
   return [`size ${rows[0].length} ${rows.length}`, ...made, `sym ${sym}`, ''].join('\n');
 }
 
-export const blankRows = (width, height) => Array.from({ length: height }, () => '.'.repeat(width));
+export const blankRows = (/** @type {number} */ width, /** @type {number} */ height) => Array.from({ length: height }, () => '.'.repeat(width));

@@ -4,7 +4,10 @@ import { shuffled } from '../model/random.js';
 
 /** @typedef {import('./frame.js').Run} Run */
 /** @typedef {{ word: string, run: Run, isTheme: boolean }} Stand an entry and where it stands; `word` is empty for the image of a seed */
-/** @typedef {{ places: import('./board.js').Place[], score: number }} Placing */
+/** @typedef {Stand & { cost: number }} Standing */
+/** @typedef {{ word: string, isTheme: boolean }} Entry */
+/** @typedef {{ run: Run, images: Run[], cost: number }} Choice where an entry may stand */
+/** @typedef {{ places: import('./board.js').Place[], score: number, groups: Standing[][] }} Placing entries that stand at images of each other are a group */
 
 // what makes a placing worse
 const COSTS = {
@@ -26,9 +29,13 @@ const USUAL_FIRST = 3;
 const MOST_DESCENTS = 15000;
 const MOST_MISSES = 2000;
 const MOST_TRIES = 12;
-const MOST_KEPT = 400;
+const MOST_KEPT = 200;
+// the most placings that are remembered, so that they are not found again
+const MOST_FOUND = 50000;
 // how often two seeds of one length stand at images of each other
 const PAIRED = 0.5;
+// how often a placing is made of another one by a change of two entries
+const SWAPPED = 0.5;
 
 export class Places {
   #frame;
@@ -37,8 +44,11 @@ export class Places {
   // the entries, the longest first, which have the fewest places
   #wanted;
   // where entries of a kind may stand, the best places first
-  /** @type {Map<string, { run: Run, images: Run[], cost: number }[]>} */
+  /** @type {Map<string, Choice[]>} */
   #runs = new Map();
+  // the placings that were found
+  /** @type {Set<string>} */
+  #found = new Set();
 
   /**
    * @param {import('./frame.js').Frame} frame
@@ -49,47 +59,92 @@ export class Places {
     this.#frame = frame;
     this.#random = random;
     this.#gap = gap;
-    const kind = (isTheme) => (word) => ({ word, isTheme });
+    const kind = (/** @type {boolean} */ isTheme) => (/** @type {string} */ word) => ({ word, isTheme });
     this.#wanted = [...entries.map(kind(true)), ...seeds.map(kind(false))].sort((a, b) => b.word.length - a.word.length);
   }
 
   // The best placings, the best first. Without entries there is one.
   /** @returns {Placing[]} */
   best() {
-    if (!this.#wanted.length) return [{ places: [], score: 0 }];
-    /** @type {Map<string, Placing>} */
-    const found = new Map();
+    if (!this.#wanted.length) return [{ places: [], score: 0, groups: [] }];
+    /** @type {Placing[]} */
+    const all = [];
     for (let descents = 0, misses = 0; descents < MOST_DESCENTS && misses < MOST_MISSES; descents++, misses++) {
-      const stands = this.#descend();
-      const key = stands?.map(({ word, run }) => `${word} ${run.isDown} ${run.line} ${run.from}`).sort().join();
-      if (!stands || found.has(key)) continue;
-      found.set(key, this.#placing(stands));
+      const groups = this.#descend([]);
+      if (!groups || !this.#isNew(groups)) continue;
+      all.push(this.#placing(groups));
       misses = 0;
     }
-    return [...found.values()].sort((a, b) => a.score - b.score).slice(0, MOST_KEPT);
+    return all.sort((a, b) => a.score - b.score).slice(0, MOST_KEPT);
   }
 
-  // Gives a place to each entry, at random; or null.
-  /** @returns {(Stand & { cost: number })[] | null} */
-  #descend() {
+  // A placing that was not found before and is like another: two entries have changed places, or one has gone elsewhere with what stands at its images. Or null.
+  /**
+   * @param {Placing} placing
+   * @returns {Placing | null}
+   */
+  near({ groups }) {
+    const gone = groups[Math.floor(groups.length * this.#random())];
+    const other = this.#random() < SWAPPED ? this.#swapped(groups) : this.#descend(groups.filter((group) => group !== gone));
+    return other && this.#isNew(other) ? this.#placing(other) : null;
+  }
+
+  /** @param {Standing[][]} groups */
+  #isNew(groups) {
+    const key = groups.flat().map(({ word, run }) => `${word} ${run.isDown} ${run.line} ${run.from}`).sort().join();
+    const isNew = !this.#found.has(key);
+    if (this.#found.size === MOST_FOUND) this.#found.clear();
+    this.#found.add(key);
+    return isNew;
+  }
+
+  // Has two entries of one length change places; null if they cannot.
+  /** @param {Standing[][]} groups */
+  #swapped(groups) {
+    const [one, ...others] = shuffled(groups.flat().filter(({ word }) => word), this.#random);
+    const other = others.find(({ word, isTheme }) => word.length === one.word.length && word !== one.word && isTheme === one.isTheme);
+    if (!other) return null;
+    const wordOf = (/** @type {Standing} */ each) => (each === one ? other.word : each === other ? one.word : each.word);
+    const swapped = groups.map((group) => group.map((each) => ({ ...each, word: wordOf(each) })));
+    return this.#isFree(swapped.flat(), []) ? swapped : null;
+  }
+
+  // Gives a place to each entry that is not in a group yet, at random; or null.
+  /**
+   * @param {Standing[][]} kept
+   * @returns {Standing[][] | null}
+   */
+  #descend(kept) {
     const left = [...this.#wanted];
-    const stands = [];
-    while (left.length) {
-      const { word, isTheme } = left.shift();
+    const take = (/** @type {Standing[]} */ group) => {
+      for (const one of group) if (one.word) left.splice(left.findIndex((other) => other.word === one.word && other.isTheme === one.isTheme), 1);
+    };
+    kept.forEach(take);
+    const groups = [...kept];
+    for (let [next] = left; next; [next] = left) {
+      const { word, isTheme } = next;
       const runs = this.#runsOf(word.length, isTheme);
+      const [stands, others] = [groups.flat(), left.slice(1)];
+      /** @type {Standing[] | null} */
       let own = null;
       for (let tries = 0; tries < MOST_TRIES && !own && runs.length; tries++) {
         // near the beginning more often than not
-        own = this.#standing(runs[Math.floor(runs.length * this.#random() ** 2)], { word, isTheme }, left, stands);
+        own = this.#standing(runs[Math.floor(runs.length * this.#random() ** 2)], { word, isTheme }, others, stands);
       }
       if (!own) return null;
-      stands.push(...own);
-      for (const one of own.slice(1)) if (one.word) left.splice(left.findIndex((other) => other.word === one.word && other.isTheme === isTheme), 1);
+      take(own);
+      groups.push(own);
     }
-    return stands;
+    return groups;
   }
 
   // An entry at a run, with what stands at the images of it; or null. Partners are of those that are left.
+  /**
+   * @param {Choice} choice
+   * @param {Entry} entry
+   * @param {Entry[]} left
+   * @param {Standing[]} stands
+   */
   #standing({ run, images, cost }, { word, isTheme }, left, stands) {
     const partners = shuffled(left.filter((other) => other.word.length === word.length && other.isTheme === isTheme), this.#random);
     const isPaired = isTheme || this.#random() < PAIRED;
@@ -100,21 +155,37 @@ export class Places {
       if (isTheme && !partner && this.#frame.sym !== 'quarter') return null;
       own.push({ word: partner?.word ?? '', run: image, isTheme: isTheme && Boolean(partner), cost: 0 });
     }
-    const isFree = own.every((one, at) => [...stands, ...own.slice(0, at)].every((other) => crossings(one, other, this.#gap) !== null));
-    return isFree ? own : null;
+    return this.#isFree(own, stands) ? own : null;
+  }
+
+  // Whether entries can stand with each other and with those that stand already.
+  /**
+   * @param {Standing[]} own
+   * @param {Standing[]} stands
+   */
+  #isFree(own, stands) {
+    return own.every((one, at) => [...stands, ...own.slice(0, at)].every((other) => crossings(one, other, this.#gap) !== null));
   }
 
   // The runs of a length, with their images and costs, the best first.
+  /**
+   * @param {number} length
+   * @param {boolean} isTheme
+   */
   #runsOf(length, isTheme) {
     const key = `${length} ${isTheme}`;
     if (!this.#runs.has(key)) {
       const runs = [false, true].flatMap((isDown) => this.#runsAlong(isDown, length)).map((run) => ({ run, images: this.#frame.images(run), cost: this.#costOf(run, isTheme) }));
       this.#runs.set(key, shuffled(runs, this.#random).sort((a, b) => a.cost - b.cost));
     }
-    return this.#runs.get(key);
+    return this.#runs.get(key) ?? [];
   }
 
-  /** @returns {Run[]} */
+  /**
+   * @param {boolean} isDown
+   * @param {number} length
+   * @returns {Run[]}
+   */
   #runsAlong(isDown, length) {
     const [lines, room] = this.#sides(isDown);
     const firsts = Array.from({ length: Math.max(0, room - length + 1) }, (_, from) => from);
@@ -122,12 +193,16 @@ export class Places {
   }
 
   // How many lines there are in a direction, and how many cells each has.
+  /** @param {boolean} isDown */
   #sides(isDown) {
     const { width, height } = this.#frame;
     return isDown ? [width, height] : [height, width];
   }
 
-  /** @param {Run} run */
+  /**
+   * @param {Run} run
+   * @param {boolean} isTheme
+   */
   #costOf({ isDown, line, from, length }, isTheme) {
     const [lines, room] = this.#sides(isDown);
     const beside = [from, room - from - length].reduce((sum, cells) => sum + (COSTS.room[cells] ?? 0), 0);
@@ -138,17 +213,22 @@ export class Places {
     return beside + atBorder + (isDown && this.#frame.sym !== 'leftright' ? COSTS.down : 0);
   }
 
-  /** @returns {Placing} */
-  #placing(stands) {
+  /**
+   * @param {Standing[][]} groups
+   * @returns {Placing}
+   */
+  #placing(groups) {
+    const stands = groups.flat();
     let score = this.#unevenness(stands);
     stands.forEach((one, at) => {
       score += one.cost;
-      for (const other of stands.slice(0, at)) score += COSTS.crossing * crossings(one, other, this.#gap) + closeness(one.run, other.run);
+      for (const other of stands.slice(0, at)) score += COSTS.crossing * (crossings(one, other, this.#gap) ?? 0) + closeness(one.run, other.run);
     });
-    return { places: stands.map(({ word, run }) => ({ word, run: this.#frame.cellsOf(run) })), score };
+    return { places: stands.map(({ word, run }) => ({ word, run: this.#frame.cellsOf(run) })), score, groups };
   }
 
   // What the gaps between the rows of entries cost.
+  /** @param {Standing[]} stands */
   #unevenness(stands) {
     const rows = [...new Set(stands.filter(({ word, run }) => word && !run.isDown).map(({ run }) => run.line))].sort((a, b) => a - b);
     const even = (this.#frame.height - 1 - 2 * USUAL_FIRST) / (rows.length - 1);
@@ -157,12 +237,13 @@ export class Places {
 }
 
 // How many cells of lines side by side have neighbours in both.
-const sharedBy = (one, other) => Math.min(one.from + one.length, other.from + other.length) - Math.max(one.from, other.from);
+const sharedBy = (/** @type {Run} */ one, /** @type {Run} */ other) => Math.min(one.from + one.length, other.from + other.length) - Math.max(one.from, other.from);
 
 // How often two entries cross; null if they cannot stand together.
 /**
  * @param {Stand} one
  * @param {Stand} other
+ * @param {number} gap
  * @returns {number | null}
  */
 function crossings(one, other, gap) {
@@ -174,6 +255,10 @@ function crossings(one, other, gap) {
   return lines <= least && sharedBy(one.run, other.run) > 0 ? null : 0;
 }
 
+/**
+ * @param {Stand} across
+ * @param {Stand} down
+ */
 function crossingOf(across, down) {
   const [at, there] = [down.run.line - across.run.from, across.run.line - down.run.from];
   const [isIn, isThere] = [at >= 0 && at < across.run.length, there >= 0 && there < down.run.length];
@@ -184,6 +269,10 @@ function crossingOf(across, down) {
 }
 
 // What the lines between two entries cost.
+/**
+ * @param {Run} one
+ * @param {Run} other
+ */
 function closeness(one, other) {
   const shared = one.isDown === other.isDown ? sharedBy(one, other) : 0;
   const cost = COSTS.between[Math.abs(one.line - other.line) - 1] ?? 0;

@@ -17,13 +17,15 @@ export class Pool {
     return this.#waiting.length;
   }
 
+  /** @param {import('./grid.js').Grid[]} grids */
   add(grids) {
     this.#waiting = [...this.#waiting, ...grids].sort((a, b) => a.cost - b.cost).slice(0, MOST);
   }
 
   // Takes the cheapest grids, so many at most. Those that are like one of them, or like one that was taken before, go.
-  /** @returns {import('./grid.js').Grid[]} */
+  /** @param {number} most */
   take(most) {
+    /** @type {import('./grid.js').Grid[]} */
     const taken = [];
     let looked = 0;
     for (; looked < this.#waiting.length && taken.length < most; looked++) {
@@ -37,4 +39,4 @@ export class Pool {
 }
 
 // A small grid has few that are not like it.
-const apart = ({ width, height }) => Math.max(1, Math.floor((APART * Math.min(width * height, USUAL_SIZE)) / USUAL_SIZE));
+export const apart = (/** @type {import('./grid.js').Grid} */ { width, height }) => Math.max(1, Math.floor((APART * Math.min(width * height, USUAL_SIZE)) / USUAL_SIZE));

@@ -4,6 +4,7 @@ import { bodyOf, parseRecord, wordsOf } from '../model/record.js';
 import { termed } from '../model/terms.js';
 import { openDialog } from '../views/dialogs.js';
 import { sketchOf } from '../views/library.js';
+import { unforeseen } from '../views/messages.js';
 import { checkWanted, recordOfGrid, threesOf } from './grid.js';
 import { LimitsView } from './limits-view.js';
 import { Pool } from './pool.js';
@@ -19,7 +20,7 @@ const MOST_WORKERS = 4;
 // how many calls of so many milliseconds a round of a search has at most, until there are enough grids, and how many of these are looked at
 const CALLS = 4;
 const MILLISECONDS = 400;
-const ENOUGH = 120;
+const ENOUGH = 240;
 const MOST_LOOKED = 40;
 // of these so many are filled, those whose lights have the most words, by searches of so many placements
 const MOST_FILLED = 24;
@@ -28,6 +29,7 @@ const PLACEMENTS = 3000;
 const SEEDS = 100003;
 
 // What boards have that are no grids, by the fault.
+/** @type {Record<string, string>} */
 const FAULTS = {
   words: 'too many words', blocks: 'too many blocks', threes: 'too many words of 3 letters', cheaters: 'too many cheaters', lumps: 'lumps of blocks',
   long: 'words that are too long', dead: 'lights without a word in your lists', cut: 'parts that do not connect', narrow: 'a narrow passage', places: 'no room for the entries',
@@ -36,6 +38,11 @@ const FAULTS = {
 
 /** @typedef {import('./grid.js').Grid} Grid */
 /** @typedef {import('./grid.js').Miss} Miss */
+/** @typedef {import('../engine/engine.js').Engine} Engine */
+/**
+ * @typedef {{ dialog: HTMLDialogElement, limits: import('./limits-view.js').Elements } & Record<'entries' | 'seeds', HTMLTextAreaElement> &
+ *   Record<'show' | 'stop', HTMLButtonElement> & Record<'lengths' | 'told' | 'grids', HTMLElement>} Elements
+ */
 /** @typedef {{ unmatched: string[], dead: string[], fewest: number, logs: number }} Look */
 /** @typedef {{ card: HTMLElement, figures: ReturnType<typeof figuresOf>, isFilled: boolean, logs: number }} Judged */
 /**
@@ -57,13 +64,16 @@ export class GridsView {
   /** @type {HTMLElement[]} */
   #best = [];
 
-  // `begin` begins a puzzle with a record, in which these entries stand.
-  constructor(editor, helpers, elements, begin) {
+  /**
+   * @param {import('../model/editor.js').Editor} editor
+   * @param {import('../engine/helpers.js').Helpers} helpers
+   * @param {Elements} elements
+   */
+  constructor(editor, helpers, elements) {
     this.#editor = editor;
     this.#helpers = helpers;
     this.#elements = elements;
     this.#limits = new LimitsView(elements.limits);
-    this.begin = begin;
     elements.show.addEventListener('click', () => this.#show());
     elements.stop.addEventListener('click', () => this.#stop());
     // no other card comes under the pointer before a click
@@ -72,9 +82,10 @@ export class GridsView {
     elements.seeds.addEventListener('input', () => this.#showLengths());
     // Enter in a field shows grids, and does not close the dialog
     elements.dialog.addEventListener('keydown', (event) => {
-      if (event.key !== 'Enter' || !event.target.matches('[type=number]')) return;
+      const target = /** @type {HTMLElement} */ (event.target);
+      if (event.key !== 'Enter' || !target.matches('[type=number]')) return;
       event.preventDefault();
-      event.target.blur();
+      target.blur();
       this.#show();
     });
     elements.dialog.addEventListener('close', () => {
@@ -88,11 +99,13 @@ export class GridsView {
     this.#elements.entries.focus();
   }
 
+  /** @param {string} text */
   #say(text) {
     this.#elements.told.textContent = termed(text, this.#limits.wanted.style !== 'american');
   }
 
   // Shows whether a search goes on.
+  /** @param {boolean} isBusy */
   set #isBusy(isBusy) {
     const { grids, show, stop } = this.#elements;
     const hasFocus = document.activeElement === (isBusy ? show : stop);
@@ -103,6 +116,7 @@ export class GridsView {
   }
 
   // The entries of a field, without what is no letter.
+  /** @param {HTMLTextAreaElement} field */
   #entriesOf({ value }) {
     return value.split('\n').map((line) => line.normalize('NFD').replace(/[^A-Za-z]/g, '').toUpperCase()).filter(Boolean);
   }
@@ -129,11 +143,13 @@ export class GridsView {
     this.#search(turn).catch((fault) => this.#isOn(turn) && this.#end(fault.message));
   }
 
+  /** @param {number} turn */
   #isOn(turn) {
     return turn === this.#turn;
   }
 
   // Ends a search, and says how.
+  /** @param {string} text */
   #end(text) {
     this.#turn++;
     this.#isBusy = false;
@@ -147,6 +163,7 @@ export class GridsView {
   }
 
   // Looks for grids until it is stopped, in rounds: all workers search, look at the cheapest grids, and then fill some of these.
+  /** @param {number} turn */
   async #search(turn) {
     /** @type {Searching} */
     const search = { turn, wanted: this.#wanted, pool: new Pool(), looked: [], judged: [], count: 0, unfilled: [], lost: 0, told: [] };
@@ -157,7 +174,7 @@ export class GridsView {
     this.#seed++;
     const begun = await Promise.all(workers.map((worker, at) => worker.call('beginGrids', { wanted: search.wanted, seed: seeds[at], weak: this.#weak })));
     if (this.#isOn(turn) && !begun.includes(true)) return this.#end('The entries cannot stand together within these limits: try another size or symmetry, or fewer entries.');
-    const inAll = (action) => Promise.all(workers.map((worker, at) => action.call(this, search, worker, at)));
+    const inAll = (/** @type {(search: Searching, worker: Engine, at: number) => Promise<void>} */ action) => Promise.all(workers.map((worker, at) => action.call(this, search, worker, at)));
     while (this.#isOn(turn)) {
       await inAll(this.#find);
       const grids = search.pool.take(MOST_LOOKED);
@@ -170,6 +187,11 @@ export class GridsView {
   }
 
   // Looks for grids in a worker, one round, with one call at least.
+  /**
+   * @param {Searching} search
+   * @param {Engine} worker
+   * @param {number} at
+   */
   async #find(search, worker, at) {
     for (let call = 0; call < CALLS && this.#isOn(search.turn) && (!call || search.pool.size < ENOUGH); call++) {
       const { grids, ...told } = await worker.call('moreGrids', { milliseconds: MILLISECONDS });
@@ -180,9 +202,15 @@ export class GridsView {
   }
 
   // Has a worker look at grids: those of which each light has a word are kept, and the others have no fill.
+  /**
+   * @param {Searching} search
+   * @param {Engine} worker
+   * @param {Grid[]} grids
+   */
   async #look(search, worker, grids) {
-    while (grids.length && this.#isOn(search.turn)) {
+    while (this.#isOn(search.turn)) {
       const grid = grids.shift();
+      if (!grid) return;
       const look = await worker.call('lookAtGrid', { lines: linesOf(grid) });
       if (look.fewest) search.looked.push({ grid, look });
       else this.#lose(search, grid);
@@ -190,9 +218,15 @@ export class GridsView {
   }
 
   // Has a worker fill the grids whose lights have the most words, and shows them.
+  /**
+   * @param {Searching} search
+   * @param {Engine} worker
+   */
   async #fill(search, worker) {
-    for (let count = 0; search.looked.length && count < MOST_FILLED / this.#count && this.#isOn(search.turn); count++) {
-      const { grid, look } = search.looked.shift();
+    for (let count = 0; count < MOST_FILLED / this.#count && this.#isOn(search.turn); count++) {
+      const next = search.looked.shift();
+      if (!next) return;
+      const { grid, look } = next;
       const { answer, scores } = await worker.call('fillGrid', { lines: linesOf(grid), placements: PLACEMENTS, isScored: this.#editor.list.scored });
       if (answer === 'nofill') this.#lose(search, grid);
       else if (this.#isOn(search.turn)) this.#add(search, grid, look, answer === 'filled', scores);
@@ -200,12 +234,23 @@ export class GridsView {
   }
 
   // Notes a grid within the limits that has no fill.
+  /**
+   * @param {Searching} search
+   * @param {Grid} grid
+   */
   #lose(search, grid) {
     search.lost++;
     if (search.unfilled.length < MOST_MISSES) search.unfilled.push(grid);
   }
 
   // Shows a judged grid at its place among the others.
+  /**
+   * @param {Searching} search
+   * @param {Grid} grid
+   * @param {Look} look
+   * @param {boolean} isFilled
+   * @param {(number | null)[]} scores
+   */
   #add(search, grid, look, isFilled, scores) {
     const figures = figuresOf(scores, this.#editor.list.weak);
     const fills = figures ? `it fills: ${figuresText(figures)}` : 'it fills';
@@ -226,16 +271,21 @@ export class GridsView {
     const { grids } = this.#elements;
     const [best, at] = [this.#best, this.#best.indexOf(/** @type {HTMLElement} */ (document.activeElement))];
     if (at < 0) return grids.replaceChildren(...best);
-    for (const card of [...grids.children].filter((one) => !best.includes(one))) card.remove();
+    for (const card of [...grids.children].filter((one) => !best.includes(/** @type {HTMLElement} */ (one)))) card.remove();
     best[at].before(...best.slice(0, at));
     best[at].after(...best.slice(at + 1));
     return undefined;
   }
 
   // Shows grids without a fill, or else the nearest boards, with what is wrong with them.
+  /**
+   * @param {Searching} search
+   * @param {Engine} worker
+   */
   async #showMisses(search, worker) {
     const unfilled = search.unfilled.map((grid) => ({ grid, faults: ['nofill'] }));
     const misses = [...unfilled, ...search.told.flatMap(({ nearest }) => nearest ?? [])].slice(0, MOST_MISSES);
+    /** @type {Look[]} */
     const looks = [];
     for (const { grid } of misses) looks.push(await worker.call('lookAtGrid', { lines: linesOf(grid) }));
     if (!this.#isOn(search.turn)) return;
@@ -243,6 +293,12 @@ export class GridsView {
   }
 
   // `dead` has the cells of lights without a word, which are marked.
+  /**
+   * @param {import('./grid.js').Wanted} wanted
+   * @param {Grid} grid
+   * @param {{ textContent: string, className?: string }} verdict
+   * @param {string[]} dead
+   */
   #card({ entries, seeds, style }, grid, verdict, dead = []) {
     const record = recordOfGrid(grid);
     const card = Object.assign(document.createElement('button'), { type: 'button', className: 'pattern' });
@@ -252,14 +308,16 @@ export class GridsView {
     card.append(sketchOf(parseRecord(record), new Set(), new Set(dead)), facts, small);
     card.addEventListener('click', () => {
       this.#elements.dialog.close();
-      this.begin(record, [...entries, ...seeds]);
+      this.#editor.do('beginPuzzle', record, [...entries, ...seeds]).catch(unforeseen);
     });
     return card;
   }
 
   // How many grids are judged, how many boards keep the limits, and what keeps most of the others from that.
+  /** @param {Searching} search */
   #summary({ count, lost, told }) {
     const tried = told.reduce((sum, one) => sum + (one?.tried ?? 0), 0);
+    /** @type {Map<string, number>} */
     const faults = new Map();
     for (const one of told) for (const [fault, times] of one?.faults ?? []) faults.set(fault, (faults.get(fault) ?? 0) + times);
     const [first, second] = [...faults].sort(([, one], [, other]) => other - one);
@@ -288,12 +346,16 @@ export class GridsView {
   }
 }
 
-const linesOf = (grid) => bodyOf(recordOfGrid(grid));
+const linesOf = (/** @type {Grid} */ grid) => bodyOf(recordOfGrid(grid));
 
 // Orders judged grids: those that fill come first, the best words first; of others those whose lights have the most words.
-const byWorth = (one, other) => Number(other.isFilled) - Number(one.isFilled) || byFigures(one, other) || other.logs - one.logs;
+const byWorth = (/** @type {Judged} */ one, /** @type {Judged} */ other) => Number(other.isFilled) - Number(one.isFilled) || byFigures(one, other) || other.logs - one.logs;
 
 // What is said of a board that is no grid.
+/**
+ * @param {Miss} miss
+ * @param {Look} look
+ */
 function missOf({ faults }, { unmatched }) {
   const { length } = unmatched;
   const text = length ? `${length} ${length === 1 ? 'light has' : 'lights have'} no word: ${unmatched[0]}` : faults.map((fault) => FAULTS[fault]).join(', ');

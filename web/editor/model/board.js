@@ -1,5 +1,5 @@
 // The grid as the engine last told it.
-import * as answers from '../engine/answers.js';
+import { gridIn, named } from '../engine/told.js';
 import { placeOf } from './record.js';
 
 // `left` has the feasible letters of a cell, and `right` and `below` say whether a bar is there.
@@ -11,8 +11,8 @@ import { placeOf } from './record.js';
  */
 // `cells` are indices.
 /** @typedef {Readonly<{ name: string, number: string, direction: 'across' | 'down', cells: readonly number[] }>} Light */
-// What makes a board: its cells in reading order, how many words each light has left, in the order of the lights, and the texts as commands spell them, by
-// field.
+// What makes a board: its cells in reading order, how many words each light has left, in the order of the lights, and the texts: the clues by the
+// names of their lights, and the others by their fields.
 /**
  * @typedef {{
  *   width: number, height: number, cells: readonly Cell[], lights: readonly Light[], counts: ArrayLike<number>, texts: ReadonlyMap<string, string>,
@@ -50,22 +50,22 @@ export class Board {
     this.#places = new Map(lights.map(({ name }, at) => [name, at]));
   }
 
-  // The board of the answers of `whole` in the worker, which have lines but for the counts.
-  /** @param {Record<'show' | 'lights' | 'cells' | 'circles' | 'texts', string[]> & { counts: ArrayLike<number> }} told */
+  // The board of what the worker tells as a whole.
+  /** @param {Pick<import('../engine/told.js').Answers, 'show' | 'lights' | 'cells' | 'circles' | 'texts'> & { counts: ArrayLike<number> }} told */
   static of(told) {
-    const { width, height, cells: shown } = answers.show().read(told.show);
+    const { width, height, cells: shown } = gridIn(told.show);
     /** @param {{ row: number, column: number }} place */
     const indexOf = ({ row, column }) => (row - 1) * width + column - 1;
-    const lights = answers.lights().read(told.lights).map((light) => lightOf(light, indexOf(light), width));
+    const lights = told.lights.map((light) => lightOf(light, indexOf(light), width));
     const [across, down] = ['across', 'down'].map((direction) => new Map(lights.filter((light) => light.direction === direction).flatMap((light) => light.cells.map((cell) => [cell, light]))));
     const numbers = new Map(lights.map(({ cells: [first], number }) => [first, number]));
-    const left = new Map(answers.cells().read(told.cells).map((cell) => [indexOf(cell), cell.letters]));
-    const circled = new Set(answers.circles().read(told.circles).map(indexOf));
+    const left = new Map(told.cells.map((cell) => [indexOf(cell), cell.letters]));
+    const circled = new Set(told.circles.map(indexOf));
     const cells = shown.map((cell, at) => ({
       ...cell, coordinates: `${Math.floor(at / width) + 1} ${(at % width) + 1}`, left: left.get(at) ?? '', number: numbers.get(at) ?? '', circle: circled.has(at),
       across: across.get(at) ?? null, down: down.get(at) ?? null,
     }));
-    return new Board({ width, height, cells, lights, counts: told.counts, texts: answers.texts().read(told.texts) });
+    return new Board({ width, height, cells, lights, counts: told.counts, texts: new Map(Object.entries(told.texts)) });
   }
 
   // The board with these letters in cells, and with these that are left for cells, by index, and with these counts.
@@ -99,10 +99,10 @@ export class Board {
     return (index % this.width) + 1;
   }
 
-  // The letters that are left, by the index of the cell, in the lines that the watch told of an edit.
-  /** @param {string[]} lines */
-  leftIn(lines) {
-    return new Map(answers.changedIn(lines).map(({ row, column, letters }) => [this.index(row, column), letters]));
+  // The letters that are left, by the index of the cell, in cells that an edit changed.
+  /** @param {import('../../xw.js').Cell[]} changed */
+  leftIn(changed) {
+    return new Map(changed.map(({ row, column, letters }) => [this.index(row, column), letters]));
   }
 
   // How many words a light has left.
@@ -123,7 +123,7 @@ export class Board {
 
   /** @param {Light} light */
   hasClue(light) {
-    return this.texts.has(`clue ${light.name}`);
+    return this.texts.has(light.name);
   }
 
   // The name that records have for the clue of a light.
@@ -188,12 +188,13 @@ export class Board {
 }
 
 /**
- * @param {import('../engine/answers.js').ToldLight} light
+ * @param {import('../engine/told.js').ToldLight} light
  * @param {number} first
  * @param {number} width
  * @returns {Light}
  */
-function lightOf({ name, number, direction, letters }, first, width) {
-  const step = direction === 'across' ? 1 : width;
-  return { name, number, direction, cells: Array.from(letters, (_, at) => first + step * at) };
+function lightOf({ light, letters }, first, width) {
+  const one = named(light);
+  const step = one.direction === 'across' ? 1 : width;
+  return { ...one, cells: Array.from(letters, (_, at) => first + step * at) };
 }

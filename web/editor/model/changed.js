@@ -23,7 +23,7 @@ function linesBetween(one, other) {
 }
 
 // The lines of a kind, the tab that shows it, what a line is about, and what several are.
-/** @type {{ pattern: RegExp, tab: string, nameOf: (titled: Titled, place: string, direction: string) => string, several: string }[]} */
+/** @type {{ pattern: RegExp, tab: import('./commands.js').Tab | '', nameOf: (titled: Titled, place: string, direction: string) => string, several: string }[]} */
 const KINDS = [
   { pattern: /^kept note (\d+ \d+) (\w+)/, tab: 'clues', nameOf: (titled, ...place) => `the note on ${titled(...place)}`, several: 'notes' },
   { pattern: /^kept comment (\d+ \d+) (\w+)/, tab: 'clues', nameOf: (titled, ...place) => `the comments on ${titled(...place)}`, several: 'comments' },

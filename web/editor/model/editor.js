@@ -9,14 +9,14 @@ import { gradeOf, usualWeak } from './grades.js';
 import { LANGUAGE } from './language.js';
 import { commentField, linksOf, noteField, numbersOf } from './links.js';
 import { entryOf, standing, withoutEntered } from './rebus.js';
-import { bodyOf, engineText, letterIn, parseRecord, placeOf, transition, unescapeText } from './record.js';
+import { bodyOf, engineText, letterIn, parseRecord, placeOf, transition } from './record.js';
 import { EditorState, NO_REASON, newPuzzleName, only } from './state.js';
 import { useTermsOf } from './terms.js';
 import { adopted, withoutWords } from './written.js';
 
 /** @typedef {import('./state.js').Step} Step */
 /** @typedef {import('./state.js').Place} Place */
-/** @typedef {import('../engine/answers.js').Direction} Direction */
+/** @typedef {import('../engine/told.js').Direction} Direction */
 
 /** @typedef {import('./board.js').Light} Light */
 /** @typedef {import('./board.js').Cell} Cell */
@@ -24,6 +24,13 @@ import { adopted, withoutWords } from './written.js';
 /** @typedef {import('../store/lists.js').Lists['chosen'] | import('./state.js').WordList} Chosen */
 // A session to begin with, or to put in place of what is here.
 /** @typedef {{ record: string } & Partial<Pick<Step, 'pencil' | 'originals' | 'written' | 'puzzle'>>} Session */
+
+/**
+ * @typedef {{
+ *   isWhole?: boolean, pencil?: Set<string> | null, originals?: Map<string, string> | null, rewritten?: string[], stroke?: object | null, only?: string | null,
+ *   at?: Place, to?: Place,
+ * }} EditOptions how an edit is made: `Editor.edit` says what each means
+ */
 
 const MOST_STEPS = 5000;
 
@@ -66,9 +73,10 @@ export class Editor extends EditorState {
     await this.engine.call('load', { bytes: module });
     await this.#open(list, record);
     const words = adopted(this.board, new Map(written), this.record);
-    this.change({ board: this.board, pencil: new Set(pencil), originals: new Map(originals), written: words, puzzle: puzzle ?? this.puzzle });
+    this.hold({ board: this.board, pencil: new Set(pencil), originals: new Map(originals), written: words, puzzle: puzzle ?? this.puzzle });
     this.#now = this.#state(this.record);
     if (history) this.#takeHistory(history);
+    this.tell();
   }
 
   // Takes over the steps that the browser kept. If the session is newer than the last of them, that one comes before it.
@@ -180,8 +188,9 @@ export class Editor extends EditorState {
   /** @param {string} field */
   textOf(field) {
     const { board } = this;
-    const text = unescapeText(board.texts.get(field) ?? '');
-    const light = field.startsWith('clue ') ? board.byName.get(field.slice('clue '.length)) : null;
+    const name = field.replace(/^clue /, '');
+    const text = board.texts.get(name) ?? '';
+    const light = board.byName.get(name);
     const original = this.originals.get(light ? board.clueField(light) : field);
     return original !== undefined && engineText(original).near === text ? original : text;
   }
@@ -271,10 +280,7 @@ export class Editor extends EditorState {
   // The step is `at` a place, or else at that of the cursor, and the cursor is at `to` after it.
   /**
    * @param {string[]} lines
-   * @param {{
-   *   isWhole?: boolean, pencil?: Set<string> | null, originals?: Map<string, string> | null, rewritten?: string[], stroke?: object | null, only?: string | null,
-   *   at?: Place, to?: Place,
-   * }} options
+   * @param {EditOptions} options
    * @returns {Promise<string | null>}
    */
   edit(lines, options = {}) {
@@ -294,18 +300,16 @@ export class Editor extends EditorState {
   /**
    * @param {string[]} lines
    * @param {{ from: Place, to: Place }} places
-   * @param {{ isWhole?: boolean, pencil?: Set<string> | null, originals?: Map<string, string> | null, rewritten?: string[], stroke?: object | null, only?: string | null }} options
+   * @param {EditOptions} options
    * @returns {Promise<string | null>}
    */
   async #edit(lines, places, { isWhole = true, pencil = null, originals = null, rewritten = [], stroke = null, only = null }) {
     if (only !== null && only !== this.record) return 'Changed';
     const told = await this.engine.call('edit', { lines, isWhole });
-    /** @type {string | null} */
-    const refused = told.answers.find((/** @type {{ refusal: string | null }} */ { refusal }) => refusal)?.refusal ?? null;
-    if (refused) {
+    if (told.refusal) {
       this.hold({ pencil: new Set(this.#now.pencil) });
       await this.#goTo(this.record);
-      return refused;
+      return told.refusal;
     }
     this.#unmark();
     this.hold({ ...(pencil && { pencil }), ...(originals && { originals }) });
@@ -579,15 +583,15 @@ export class Editor extends EditorState {
     return found.flatMap((/** @type {string} */ coordinates) => this.board.at(coordinates) ?? []);
   }
 
-  // What the answer to a query says; null where it is refused.
+  // What a query answers; null where it is refused.
   /**
-   * @template T
-   * @param {import('../engine/answers.js').Query<T>} query
-   * @returns {Promise<T | null>}
+   * @template {keyof import('../../xw.js').Answers} C
+   * @param {C} command
+   * @param {import('../../xw.js').Arguments[C]} given
+   * @returns {Promise<import('../../xw.js').Answers[C] | null>}
    */
-  async ask({ line, read }) {
-    const { lines, refusal } = await this.engine.call('ask', { line });
-    return refusal ? null : read(lines);
+  ask(command, ...given) {
+    return this.engine.call('ask', { command, given });
   }
 
   get light() {

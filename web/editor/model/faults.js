@@ -1,5 +1,5 @@
 // Entered words that are not in use, or that stand twice: marked in the grid, and named for the light under the cursor.
-import { dups, match, unlisted } from '../engine/answers.js';
+import { named } from '../engine/told.js';
 import { readPersonal } from '../formats/word-list.js';
 import { whenIdle } from '../views/idle.js';
 import { gradeOf } from './grades.js';
@@ -31,16 +31,16 @@ export async function whyUnlisted(editor, words) {
 // The words of the grid that are not in use: their lights, and why. The engine is asked for the whole word of a light with several letters in a cell.
 /** @param {import('./editor.js').Editor} editor */
 export async function faultsOf(editor) {
-  const found = (await editor.ask(unlisted())) ?? [];
+  const found = (await editor.ask('unlisted')) ?? [];
   const { board } = editor;
   const isAny = [...editor.originals.keys()].some(isCellField);
   const longer = isAny ? board.lights.filter((light) => board.isEntered(light) && editor.answerOf(light).length > light.cells.length) : [];
   const names = new Set(longer.map(({ name }) => name));
-  const words = longer.map((light) => ({ name: light.name, number: light.number, direction: light.direction, word: editor.answerOf(light) }));
-  const isListed = await Promise.all(words.map(async ({ word }) => Boolean((await editor.ask(match(word)))?.length)));
-  const all = [...found.filter(({ name }) => !names.has(name)), ...words.filter((_, at) => !isListed[at])];
+  const words = longer.map((light) => ({ light: light.name, word: editor.answerOf(light) }));
+  const isListed = await Promise.all(words.map(async ({ word }) => Boolean((await editor.ask('match', word))?.length)));
+  const all = [...found.filter(({ light }) => !names.has(light)), ...words.filter((_, at) => !isListed[at])];
   const whys = await whyUnlisted(editor, all.map(({ word }) => word));
-  return all.map((light, at) => ({ ...light, why: whys[at] }));
+  return all.map(({ light, word }, at) => ({ ...named(light), word, why: whys[at] }));
 }
 
 export class Faults extends EventTarget {
@@ -69,10 +69,10 @@ export class Faults extends EventTarget {
   async #ask(turn) {
     const { board } = this.#editor;
     const isAny = board.lights.some((light) => board.isEntered(light));
-    const [found, repeated] = isAny ? await Promise.all([faultsOf(this.#editor), this.#editor.ask(dups())]) : [[], []];
+    const [found, repeated] = isAny ? await Promise.all([faultsOf(this.#editor), this.#editor.ask('dups')]) : [[], []];
     if (turn !== this.#turn) return;
     this.unlisted = new Map(found.map(({ name, word, why }) => [name, { word, why }]));
-    this.repeated = new Map((repeated ?? []).map(({ name, first }) => [name, first.name]));
+    this.repeated = new Map((repeated ?? []).map(({ light, first }) => [light, first]));
     const faulty = this.#editor.board.cellsOf([...this.unlisted.keys(), ...this.repeated.keys()]);
     if (!isSameSet(faulty, this.#editor.faulty)) this.#editor.change({ faulty });
     this.dispatchEvent(new Event('told'));

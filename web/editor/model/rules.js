@@ -5,7 +5,6 @@ import { mostUnchecked } from '../grids/barred.js';
 import { clueWords } from './clue-words.js';
 import { enumeratedLength } from './enumeration.js';
 import { closeWords } from './kin.js';
-import { unescapeText } from './record.js';
 import { isBritishGrid } from './terms.js';
 
 /** @typedef {import('./board.js').Board} Board */
@@ -151,7 +150,7 @@ function wordWarnings(editor) {
 function clueWarnings(editor) {
   const { board } = editor;
   return board.lights.flatMap((light) => {
-    const clue = unescapeText(board.texts.get(`clue ${light.name}`) ?? '');
+    const clue = board.texts.get(light.name) ?? '';
     const length = enumeratedLength(clue);
     const { length: own } = editor.cluedBy(light).answer;
     if (length === null || length === own || /\b(across|down|ac|dn)\b/i.test(clue)) return [];

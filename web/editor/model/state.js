@@ -1,7 +1,9 @@
 // The state of the editor, which changes by transactions: each says what it changes, and listeners are told of the parts that they name.
 import { Board } from './board.js';
+import { PALETTE } from './colours.js';
+import { Dispatcher } from './commands.js';
 
-/** @typedef {import('../engine/answers.js').Direction} Direction */
+/** @typedef {import('../engine/told.js').Direction} Direction */
 
 // The cursor in the light of a direction.
 /** @typedef {Readonly<{ cursor: number, direction: Direction }>} Place */
@@ -25,6 +27,12 @@ import { Board } from './board.js';
  *   sources: readonly import('../formats/joined-lists.js').Source[], personal: string,
  * }>} WordList
  */
+
+// What fills do: whether one has the engine, so that nothing can be edited, whether one is raised until none is better, and how far it is; null after it.
+/** @typedef {Readonly<{ isRunning: boolean, isImproving: boolean, progress: import('../engine/fill.js').Progress | null }>} FillState */
+
+// What a click on a cell does, if it does more than move.
+/** @typedef {'block' | 'right' | 'below' | 'circle' | 'colour' | 'pencil'} Tool */
 
 // The parts of the state. None is changed itself: another one comes in its place. Cells of the grid are named by index, but those in pencil by
 // coordinates.
@@ -73,6 +81,17 @@ class Parts {
   worst = new Set();
   /** @type {WordList} */
   list = { name: '', words: 0, scored: false, best: 0, byGrade: new Uint32Array(), leftOut: {}, folded: 0, asRead: [], least: 0, grade: 0, weak: 0, threes: 0, apart: false, target: null, sources: [], personal: '' };
+  /** @type {FillState} */
+  fill = { isRunning: false, isImproving: false, progress: null };
+  // the scores of the words in the grid, by the names of their lights, and better words around a light that are offered
+  /** @type {ReadonlyMap<string, number>} */
+  scores = new Map();
+  /** @type {import('../engine/mending.js').Offer | null} */
+  offer = null;
+  /** @type {Tool | null} */
+  tool = null;
+  // the colour that the tool gives
+  colour = PALETTE.yellow;
   // names the puzzle: edits keep the name, another file or pattern has another one
   puzzle = newPuzzleName();
 }
@@ -96,7 +115,7 @@ export const newPuzzleName = () => `${Date.now().toString(36)}-${Math.random().t
 /** @returns {{ changes: Changes, before: Partial<Parts> }} */
 const nothing = () => ({ changes: {}, before: {} });
 
-export class EditorState {
+export class EditorState extends Dispatcher {
   #parts = new Parts();
   #held = nothing();
   #events = new EventTarget();
@@ -216,6 +235,26 @@ export class EditorState {
 
   get list() {
     return this.#parts.list;
+  }
+
+  get fill() {
+    return this.#parts.fill;
+  }
+
+  get scores() {
+    return this.#parts.scores;
+  }
+
+  get offer() {
+    return this.#parts.offer;
+  }
+
+  get tool() {
+    return this.#parts.tool;
+  }
+
+  get colour() {
+    return this.#parts.colour;
   }
 
   get puzzle() {

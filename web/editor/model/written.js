@@ -2,7 +2,7 @@
 // once another word stands there. One that leads to another clue, such as “See 1”, belongs to no word.
 
 import { isReference } from './links.js';
-import { letterIn, lettersOf, unescapeText } from './record.js';
+import { letterIn, lettersOf } from './record.js';
 
 /** @typedef {import('./board.js').Board} Board */
 /** @typedef {import('./board.js').Light} Light */
@@ -22,7 +22,7 @@ export function adopted(board, written, record) {
   const letters = new Map(lettersOf(record).map(letterIn));
   for (const light of board.lights) {
     const field = board.clueField(light);
-    if (!board.hasClue(light) || isReference(unescapeText(board.texts.get(`clue ${light.name}`) ?? ''))) now.delete(field);
+    if (!board.hasClue(light) || isReference(board.texts.get(light.name) ?? '')) now.delete(field);
     else if (!now.has(field)) {
       const word = light.cells.map((cell) => letters.get(board.cells[cell].coordinates) ?? '.').join('');
       if (!word.includes('.')) now.set(field, word);

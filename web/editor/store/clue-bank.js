@@ -14,21 +14,17 @@ export class ClueBank {
   // what this page has put into it
   #known = new Set();
 
-  // `unfinished` names the clue that is being typed, as records do; or ''.
-  /**
-   * @param {import('../model/editor.js').Editor} editor
-   * @param {() => string} unfinished
-   */
-  constructor(editor, unfinished) {
+  /** @param {import('../model/editor.js').Editor} editor */
+  constructor(editor) {
     this.#editor = editor;
-    this.unfinished = unfinished;
-    editor.on(['written'], () => this.addSoon());
+    editor.takes({ bankClues: () => this.#addSoon() });
+    editor.on(['written'], () => this.#addSoon());
     editor.on(['left'], ({ changes: { left } }) => left && this.add([left]).catch(() => {}));
   }
 
   // Adds the clues of the puzzle that is here, but for one that is being typed.
-  addSoon() {
-    whenIdle(() => this.add([this.#editor.state], this.unfinished()).catch(() => {}));
+  #addSoon() {
+    whenIdle(() => this.add([this.#editor.state], this.#editor.do('unfinishedClue')).catch(() => {}));
   }
 
   // Makes the bank, with the clues of puzzles that are there already.

@@ -65,14 +65,13 @@ export class Shelf extends EventTarget {
    * @param {import('../model/editor.js').Editor} editor
    * @param {Claim} claim
    * @param {import('./clue-bank.js').ClueBank} bank
-   * @param {() => void} saveSession
    */
-  constructor(editor, claim, bank, saveSession) {
+  constructor(editor, claim, bank) {
     super();
     this.#editor = editor;
     this.#claim = claim;
     this.#bank = bank;
-    this.saveSession = saveSession;
+    editor.takes({ addVersion: () => this.#addVersion(this.#editor.state), addPuzzles: (text) => this.#addAll(text), fileSaved: () => this.#saved() });
     editor.on(['step'], ({ changes }) => this.#step(changes.step));
     editor.on(['left'], ({ changes: { left } }) => left && this.#leave(left));
     claim.addEventListener('held', () => this.#held());
@@ -185,11 +184,6 @@ export class Shelf extends EventTarget {
     this.#versions.push({ ...session, at: Math.max(Date.now(), last + 1) });
   }
 
-  // Keeps what is here as a version, since something else comes in its place.
-  addVersion() {
-    this.#addVersion(this.#editor.state);
-  }
-
   // Keeps what is here when the page goes, with the edits that are under way.
   #keepAll() {
     if (this.#editor.isBusy) this.#isDue = true;
@@ -260,7 +254,7 @@ export class Shelf extends EventTarget {
   #notStored(fault) {
     this.#isStoreFailing = true;
     const why = whyNotKept(fault);
-    const saving = { label: 'Save to a file', title: 'Save the session (.xw)', action: this.saveSession };
+    const saving = { label: 'Save to a file', title: 'Save the session (.xw)', action: () => this.#editor.do('saveSession') };
     const lost = this.#aside.length ? ' The puzzle that was here before is kept by Undo alone.' : '';
     if (this.#draftFault) {
       this.#tell(why);
@@ -278,7 +272,7 @@ export class Shelf extends EventTarget {
   }
 
   // A file has the puzzle as it is.
-  saved() {
+  #saved() {
     this.#inFile = this.#here;
   }
 
@@ -359,7 +353,7 @@ export class Shelf extends EventTarget {
 
   // Adds the puzzles of such a file, and returns how many these are, and what of them is left out. Those that are here already get what it has as versions.
   /** @param {string} text */
-  async addAll(text) {
+  async #addAll(text) {
     const { puzzles, versions, dropped } = puzzlesIn(text);
     const known = new Set((await storedPuzzles()).map(({ puzzle }) => puzzle).concat(this.#editor.puzzle));
     const added = puzzles.filter(({ puzzle }) => !known.has(puzzle));

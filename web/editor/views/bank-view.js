@@ -14,17 +14,15 @@ export class BankView {
   #bank;
   #elements;
 
-  // `save` saves a text under a name.
   /**
+   * @param {import('../model/editor.js').Editor} editor
    * @param {import('../store/clue-bank.js').ClueBank} bank
    * @param {Record<'export' | 'import' | 'clear' | 'take', HTMLButtonElement> & { file: HTMLInputElement, dialog: HTMLDialogElement } & Record<'summary' | 'title' | 'told', HTMLElement>} elements
-   * @param {(text: string, name: string) => void} save
    */
-  constructor(bank, elements, save) {
+  constructor(editor, bank, elements) {
     this.#bank = bank;
     this.#elements = elements;
-    this.save = save;
-    elements.export.addEventListener('click', () => this.#do(async () => save(await bank.table(), 'old-clues.csv')));
+    elements.export.addEventListener('click', () => this.#do(async () => editor.do('saveText', await bank.table(), 'old-clues.csv')));
     elements.import.addEventListener('click', () => elements.file.click());
     elements.file.addEventListener('change', () => this.#do(() => this.#import(elements.file.files?.[0])));
     elements.clear.addEventListener('click', () => this.#do(() => this.#clear()));

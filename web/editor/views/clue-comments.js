@@ -8,6 +8,7 @@ import { titleOf } from './words.js';
 export class ClueComments {
   /** @type {import('../model/editor.js').Editor} */
   #editor;
+  #typed;
   root = Object.assign(document.createElement('div'), { className: 'comments' });
   input = Object.assign(document.createElement('input'), { className: 'comment', placeholder: 'of an editor or a tester', autocomplete: 'off', spellcheck: true });
   #list = document.createElement('ul');
@@ -15,14 +16,13 @@ export class ClueComments {
   #light = null;
   #shown = '';
 
-  // `keep` keeps the comments on the clue of a light as a text, which an edit of an element made.
   /**
    * @param {import('../model/editor.js').Editor} editor
-   * @param {(element: HTMLElement, light: Light, text: string) => Promise<string | null>} keep
+   * @param {import('./typed.js').Typed} typed
    */
-  constructor(editor, keep) {
+  constructor(editor, typed) {
     this.#editor = editor;
-    this.keep = keep;
+    this.#typed = typed;
     const label = Object.assign(document.createElement('label'), { textContent: 'Comment ' });
     label.append(this.input);
     this.#list.hidden = true;
@@ -57,7 +57,7 @@ export class ClueComments {
     const [light, typed] = [this.#now, this.input.value];
     if (!light || !typed.trim()) return;
     this.input.value = '';
-    const refused = await this.keep(this.input, light, withComment(this.#editor.commentsOn(light), typed));
+    const refused = await this.#typed.comments(this.input, light, withComment(this.#editor.commentsOn(light), typed));
     if (refused && !this.input.value) this.input.value = typed;
   }
 
@@ -66,7 +66,7 @@ export class ClueComments {
     const light = this.#now;
     if (!button || !light) return;
     this.input.focus();
-    this.keep(button, light, withoutComment(this.#editor.commentsOn(light), Number(button.dataset.at)));
+    this.#typed.comments(button, light, withoutComment(this.#editor.commentsOn(light), Number(button.dataset.at)));
   }
 }
 

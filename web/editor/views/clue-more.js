@@ -11,11 +11,12 @@ import { titleOf } from './words.js';
 const MOST_SHOWN = 60;
 
 /** @typedef {import('../model/board.js').Light} Light */
-/** @typedef {(element: HTMLElement, light: Light, text: string) => Promise<string | null>} Keeping */
 
 export class ClueMore {
   /** @type {import('../model/editor.js').Editor} */
   #editor;
+  #typed;
+  #words;
   root = Object.assign(document.createElement('div'), { className: 'clue-more', hidden: true });
   #note = field('note', 'Note', 'the wordplay: for you alone');
   #links = field('links', 'Goes on in', '17, 4 down');
@@ -26,21 +27,23 @@ export class ClueMore {
   #light = null;
   #asked = '';
 
-  // `actions`: `note`, `comments` and `link` keep what is typed in a field, `italics` puts the selection of the clue in italics, `words` promises the words of the
-  // lists, and `leave` leaves a field by Esc.
+  // `words` has the words of the lists, and `italics` puts the selection of the clue of a light in italics.
   /**
    * @param {import('../model/editor.js').Editor} editor
-   * @param {{ note: Keeping, comments: Keeping, link: Keeping, italics: (light: Light | null) => void, words: () => Promise<string[]>, leave: (event: KeyboardEvent) => void }} actions
+   * @param {import('./typed.js').Typed} typed
+   * @param {import('../engine/all-words.js').AllWords} words
+   * @param {(light: Light | null) => void} italics
    */
-  constructor(editor, actions) {
+  constructor(editor, typed, words, italics) {
     this.#editor = editor;
-    this.actions = actions;
+    this.#typed = typed;
+    this.#words = words;
     const anagrams = () => this.#help(anagramsOf, 'no anagram in your lists', (words) => `(${words})*`);
     const hidden = () => this.#help(hiddenIn, 'your lists do not hide it', (words) => `hidden: ${words}`);
-    this.#comments = new ClueComments(editor, (element, light, text) => actions.comments(element, light, text));
+    this.#comments = new ClueComments(editor, typed);
     const buttons = Object.assign(document.createElement('span'), { className: 'helpers' });
     buttons.append(
-      button('Italics', 'Puts what is selected in the clue in italics (Ctrl I)', () => this.actions.italics(this.#light)),
+      button('Italics', 'Puts what is selected in the clue in italics (Ctrl I)', () => italics(this.#light)),
       button('Anagrams', 'Words of your lists with the same letters', anagrams),
       button('Hidden in', 'Words of your lists that hide the answer, side by side', hidden),
     );
@@ -103,7 +106,7 @@ export class ClueMore {
   #key(event) {
     if (event.key !== 'Escape' && (event.key !== 'Enter' || event.isComposing)) return;
     this.#change(/** @type {HTMLInputElement} */ (event.target));
-    if (event.key === 'Escape') return this.actions.leave(event);
+    if (event.key === 'Escape') return this.#typed.leave(event);
     event.preventDefault();
     event.stopPropagation();
   }
@@ -117,7 +120,7 @@ export class ClueMore {
     if (!light || text === input.dataset.kept) return undefined;
     const { kept } = input.dataset;
     input.dataset.kept = text;
-    const refused = await (input === this.#note.input ? this.actions.note(input, light, text) : this.actions.link(input, light, text));
+    const refused = await (input === this.#note.input ? this.#typed.note(input, light, text) : this.#typed.link(input, light, text));
     if (refused && input.dataset.kept === text) input.dataset.kept = kept;
     return undefined;
   }
@@ -136,7 +139,7 @@ export class ClueMore {
     const asked = `${light.name} ${answer} ${none}`;
     this.#asked = asked;
     this.#found.replaceChildren('looking through your lists …');
-    const found = helper(answer, await this.actions.words(), MOST_SHOWN);
+    const found = helper(answer, await this.#words.get(), MOST_SHOWN);
     if (this.#asked !== asked) return undefined;
     const made = found.map((words) => button(words, 'Put it into the note', () => this.#take(spelled(words))));
     return this.#found.replaceChildren(...(made.length ? made : [none]));

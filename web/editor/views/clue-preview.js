@@ -13,6 +13,7 @@ const MOST_NAMED = 100;
 const rows = (count) => `${count} ${count === 1 ? 'row' : 'rows'}`;
 
 /** @typedef {ReturnType<typeof import('../formats/clue-table.js').clueChanges>} Found */
+/** @typedef {{ dialog: HTMLDialogElement } & Record<'told' | 'changes' | 'others', HTMLElement>} Elements */
 
 // What is found in a table, in a sentence.
 /**
@@ -62,7 +63,7 @@ function changeRows(editor, { light, clue, note }) {
 // Shows what is found in a table, and promises whether the user takes it over.
 /**
  * @param {import('../model/editor.js').Editor} editor
- * @param {{ dialog: HTMLDialogElement } & Record<'told' | 'changes' | 'others', HTMLElement>} elements
+ * @param {Elements} elements
  * @param {string} name
  * @param {Found} found
  */

@@ -5,8 +5,14 @@ import { termed } from '../model/terms.js';
 import { staleClues, staleWord } from '../model/written.js';
 import { ClueMore } from './clue-more.js';
 import { OldClues } from './old-clues.js';
-import { nodesOfText, put, scrollWithin, speakIn } from './page.js';
+import { nodesOfText, pressed, put, scrollWithin, speakIn } from './page.js';
 import { titleOf } from './words.js';
+
+/** @typedef {import('../model/board.js').Light} Light */
+/** @typedef {HTMLTextAreaElement} ClueField */
+/**
+ * @typedef {{ row: HTMLElement, field: ClueField, length: HTMLButtonElement, stale: string } & Record<'word' | 'italics' | 'kept' | 'comments' | 'note', HTMLElement>} Entry
+ */
 
 export class CluesView {
   /** @type {import('../model/editor.js').Editor} */
@@ -14,9 +20,16 @@ export class CluesView {
   #root;
   #summary;
   #lengths;
+  #edits;
+  #typing;
+  // the names of the lights that have fields, and these by name
+  #names = '';
+  /** @type {Map<string, Entry>} */
   #fields = new Map();
   #due = 0;
+  /** @type {Entry | null} */
   #here = null;
+  /** @type {Entry | null} */
   #crossing = null;
   #old;
   #more;
@@ -25,43 +38,56 @@ export class CluesView {
   // ends when the lengths are there that are being added
   lengthsAdded = Promise.resolve();
 
-  // `lengths` is the button that adds enumerations. `actions`: `text` sets what is typed in a field, `lengths` those of several in one step and is told how many
-  // lights have no enumeration that is sure, `enumerations` promises those of words, `use` sets the clue of a light, `keep` keeps a clue for the word that is
-  // there, `former` promises what the bank of clues has of a word, `leave` leaves a field by Esc; `note`, `comments` and `link` keep a private note, comments and a link, and `words`
-  // promises all words of the lists.
-  constructor(editor, { list: root, summary, lengths }, actions) {
+  // `lengths` is the button that adds enumerations, and `words` has the words of the lists.
+  /**
+   * @param {import('../model/editor.js').Editor} editor
+   * @param {{ list: HTMLElement, summary: HTMLElement, lengths: HTMLButtonElement }} elements
+   * @param {import('./edits.js').Edits} edits
+   * @param {import('./typed.js').Typed} typed
+   * @param {import('../store/clue-bank.js').ClueBank} bank
+   * @param {import('../engine/all-words.js').AllWords} words
+   */
+  constructor(editor, { list: root, summary, lengths }, edits, typed, bank, words) {
     this.#editor = editor;
     this.#root = root;
     this.#summary = summary;
     this.#lengths = lengths;
-    this.actions = actions;
-    this.#old = new OldClues(editor, actions.former);
-    this.#more = new ClueMore(editor, { ...actions, italics: (light) => this.#toggleItalics(this.#fields.get(light.name).field) });
+    this.#edits = edits;
+    this.#typing = typed;
+    this.#old = new OldClues(editor, bank);
+    this.#more = new ClueMore(editor, typed, words, (light) => light && this.#toggleItalics(this.#entryOf(light).field));
+    editor.takes({ unfinishedClue: () => this.#unfinished });
     lengths.addEventListener('click', () => {
       const added = this.lengthsAdded.then(() => this.#addLengths());
       // a failure, of which the engine tells, holds nothing up
       this.lengthsAdded = added.catch(() => {});
     });
-    root.addEventListener('click', (event) => this.#click(event.target.closest('button')));
-    root.addEventListener('input', (event) => this.#typed(event.target));
+    root.addEventListener('click', (event) => this.#click(pressed(event, 'button')));
+    root.addEventListener('input', ({ target }) => this.#typed(/** @type {ClueField} */ (target)));
     editor.on(['board', 'written'], () => this.draw());
     editor.on(['letters'], () => this.#wordsSoon());
     editor.on(['cursor'], () => this.#mark());
     root.addEventListener('keydown', (event) => this.#key(event));
-    root.addEventListener('change', (event) => this.#change(event.target));
-    root.addEventListener('focusin', (event) => this.#focused(event.target));
-    root.addEventListener('focusout', (event) => this.#leave(event.target));
+    root.addEventListener('change', ({ target }) => this.#change(/** @type {ClueField} */ (target)));
+    root.addEventListener('focusin', ({ target }) => this.#focused(/** @type {HTMLElement} */ (target)));
+    root.addEventListener('focusout', ({ target }) => this.#leave(/** @type {ClueField} */ (target)));
     editor.on(['left'], () => this.#forgetTyped());
+  }
+
+  // The row of a light, with what is in it.
+  /** @param {Light} light */
+  #entryOf({ name }) {
+    return /** @type {Entry} */ (this.#fields.get(name));
   }
 
   draw() {
     const { board } = this.#editor;
     const { heads, headOf } = this.#editor.links;
     const names = [board.lights.map((light) => light.name), [...heads].flat(2).map(({ name }) => name)].join();
-    const left = names === this.names ? null : this.#fieldInUse;
-    if (names !== this.names) this.#make(names, headOf);
+    const left = names === this.#names ? null : this.#fieldInUse;
+    if (names !== this.#names) this.#make(names, headOf);
     for (const light of board.lights) {
-      labelLength(this.#fields.get(light.name).length, light, [light, ...(heads.get(light) ?? [])].map((one) => this.#editor.answerOf(one)).join('').length);
+      labelLength(this.#entryOf(light).length, light, [light, ...(heads.get(light) ?? [])].map((one) => this.#editor.answerOf(one)).join('').length);
       if (!this.#underWay.has(light.name)) this.#showText(light);
     }
     if (left) this.#goOn(left);
@@ -78,20 +104,23 @@ export class CluesView {
   }
 
   // Goes on in the clue of the same light after the fields were made anew, with what was typed, or in another clue if the light is gone.
+  /** @param {HTMLInputElement} left */
   #goOn(left) {
-    const light = this.#editor.board.byName.get(left.dataset.light) ?? null;
+    const light = this.#editor.board.byName.get(left.dataset.light ?? '') ?? null;
     this.open(light);
-    const field = light && this.#fields.get(light.name).field;
+    const field = light && this.#entryOf(light).field;
     if (!field || left.value === left.dataset.kept) return;
     field.value = left.value;
     field.dispatchEvent(new InputEvent('input', { bubbles: true }));
   }
 
   // how many edits of a clue are not answered yet, by the name of its light: until they are, its field shows what was typed
+  /** @type {Map<string, number>} */
   #underWay = new Map();
 
+  /** @param {Light} light */
   #showText(light) {
-    const { field } = this.#fields.get(light.name);
+    const { field } = this.#entryOf(light);
     // as the browser shows it
     const text = this.#editor.textOf(`clue ${light.name}`).replace(/\r\n?/g, '\n');
     if (document.activeElement !== field || field.dataset.kept !== text) field.value = text;
@@ -101,15 +130,17 @@ export class CluesView {
   }
 
   // The private note and the comments, below their clue.
+  /** @param {Light} light */
   #showNote(light) {
-    const { kept, comments } = this.#fields.get(light.name);
+    const { kept, comments } = this.#entryOf(light);
     put(kept, 'textContent', this.#editor.noteOf(light));
     put(comments, 'textContent', this.#editor.commentsOn(light).join('\n'));
   }
 
   // What follows from the text of a field: its height, the button of its length, and how its italics look.
+  /** @param {ClueField} field */
   #typed(field) {
-    const { italics } = this.#fields.get(field.dataset.light) ?? {};
+    const { italics } = this.#fields.get(field.dataset.light ?? '') ?? {};
     if (!italics) return;
     this.#showLength(field);
     italics.replaceChildren(...(hasItalics(field.value) ? nodesOfText(field.value) : []));
@@ -117,6 +148,7 @@ export class CluesView {
   }
 
   // A field is as high as its text, where the browser does not see to that.
+  /** @param {ClueField} field */
   #grow(field) {
     if (CSS.supports('field-sizing', 'content') || !field.clientHeight) return;
     field.style.height = 'auto';
@@ -124,6 +156,7 @@ export class CluesView {
   }
 
   // It is typing too, as far as others hear of it.
+  /** @param {ClueField} field */
   #toggleItalics(field) {
     const { text, start, end } = toggledItalics(field.value, field.selectionStart, field.selectionEnd);
     field.focus();
@@ -133,11 +166,15 @@ export class CluesView {
     field.dispatchEvent(new InputEvent('input', { bubbles: true, inputType: 'formatItalic' }));
   }
 
+  /**
+   * @param {string} names
+   * @param {Map<Light, Light>} headOf
+   */
   #make(names, headOf) {
-    this.names = names;
+    this.#names = names;
     this.#fields.clear();
     this.#old.end();
-    const part = (direction, title) => {
+    const part = (/** @type {Light['direction']} */ direction, /** @type {string} */ title) => {
       const rows = this.#editor.board.lights.filter((light) => light.direction === direction).map((light) => this.#row(light, headOf.get(light)));
       return box('clue-part', Object.assign(document.createElement('h3'), { textContent: title }), ...rows);
     };
@@ -145,11 +182,15 @@ export class CluesView {
   }
 
   // `head` is the light whose clue goes on in this one, if there is one: the clue leads to it.
+  /**
+   * @param {Light} light
+   * @param {Light | undefined} head
+   */
   #row(light, head) {
     const row = document.createElement('label');
     row.className = head ? 'clue linked' : 'clue';
     const { numbers } = this.#editor.cluedBy(light);
-    const span = (className, text = '') => Object.assign(document.createElement('span'), { className, textContent: text });
+    const span = (/** @type {string} */ className) => Object.assign(document.createElement('span'), { className });
     const number = Object.assign(document.createElement('b'), { textContent: numbers });
     const [word, italics, kept, comments, note] = ['word', 'italics', 'kept-note', 'kept-comments', 'written'].map((name) => span(name));
     note.id = `written-${light.number}-${light.direction}`;
@@ -163,27 +204,32 @@ export class CluesView {
   }
 
   // The button of a length can be pressed while the clue has no enumeration.
+  /** @param {ClueField} field */
   #showLength(field) {
-    const { length } = this.#fields.get(field.dataset.light) ?? {};
+    const { length } = this.#fields.get(field.dataset.light ?? '') ?? {};
     if (length) length.disabled = !field.value.trim() || hasEnumeration(field.value);
   }
 
+  /** @param {HTMLElement | null} button */
   #click(button) {
     if (!button) return;
     const { keep, drop, use } = button.dataset;
-    if (button.className === 'length') return this.#addLength(button.parentElement.querySelector('textarea'));
+    if (button.className === 'length') return this.#addLength(/** @type {ClueField} */ (button.parentElement?.querySelector('textarea')));
     if (this.#more.root.contains(button)) return;
-    const light = this.#editor.board.byName.get(keep ?? drop ?? use);
+    const light = this.#editor.board.byName.get(keep ?? drop ?? use ?? '');
     if (!light) return;
     // the button goes
-    this.#fields.get(light.name).field.focus();
-    if (keep) this.actions.keep(light);
-    else this.actions.use(light, drop ? '' : button.textContent);
+    this.#entryOf(light).field.focus();
+    if (keep) this.#edits.keepClue(light);
+    else this.#edits.useClue(light, drop ? '' : button.textContent ?? '');
   }
 
   // Puts the length of a light at the end of its clue, and selects it, so that another one can be typed over it, such as 3,5.
+  /** @param {ClueField} field */
   #addLength(field) {
-    field.value = withEnumeration(field.value, this.#editor.cluedBy(this.#editor.board.byName.get(field.dataset.light)).answer.length);
+    const light = this.#editor.board.byName.get(field.dataset.light ?? '');
+    if (!light) return;
+    field.value = withEnumeration(field.value, this.#editor.cluedBy(light).answer.length);
     this.#typed(field);
     this.#change(field);
     field.focus();
@@ -192,8 +238,8 @@ export class CluesView {
 
   // The lights whose clues have a text and no enumeration.
   get #withoutLengths() {
-    return this.#editor.board.lights.filter(({ name }) => {
-      const { value, readOnly } = this.#fields.get(name).field;
+    return this.#editor.board.lights.filter((light) => {
+      const { value, readOnly } = this.#entryOf(light).field;
       return value.trim() && !readOnly && !hasEnumeration(value);
     });
   }
@@ -202,14 +248,14 @@ export class CluesView {
   async #addLengths() {
     const editor = this.#editor;
     const { puzzle } = editor;
-    const partsOf = (light) => editor.cluedWith(light).map((one) => editor.answerOf(one));
-    const known = await this.actions.enumerations(this.#withoutLengths.map(partsOf).flatMap((parts) => [parts.join(''), ...parts]));
+    const partsOf = (/** @type {Light} */ light) => editor.cluedWith(light).map((one) => editor.answerOf(one));
+    const known = await editor.do('enumerations', this.#withoutLengths.map(partsOf).flatMap((parts) => [parts.join(''), ...parts]));
     // these clues are no longer here
     if (editor.puzzle !== puzzle) return;
-    const lengthsOf = (parts) => known.get(parts.join('')) ?? (parts.every((part) => known.has(part)) ? parts.map((part) => known.get(part)).join(',') : null);
+    const lengthsOf = (/** @type {string[]} */ parts) => known.get(parts.join('')) ?? (parts.every((part) => known.has(part)) ? parts.map((part) => known.get(part)).join(',') : null);
     const due = this.#withoutLengths.map((light) => ({ light, lengths: lengthsOf(partsOf(light)) }));
-    const texts = due.filter(({ lengths }) => lengths).map(({ light, lengths }) => [editor.board.clueField(light), withEnumeration(this.#fields.get(light.name).field.value, lengths)]);
-    await this.actions.lengths(texts, due.length - texts.length);
+    const texts = due.flatMap(({ light, lengths }) => (lengths ? [/** @type {[string, string]} */ ([editor.board.clueField(light), withEnumeration(this.#entryOf(light).field.value, lengths)])] : []));
+    await this.#edits.addLengths(texts, due.length - texts.length);
   }
 
   // Letters come one after another: the words are shown once for those of a frame, and only in sight.
@@ -232,7 +278,7 @@ export class CluesView {
   #words() {
     const { board } = this.#editor;
     for (const light of board.lights) {
-      const { word } = this.#fields.get(light.name);
+      const { word } = this.#entryOf(light);
       put(word, 'textContent', this.#editor.answerOf(light).replaceAll('.', '·'));
       word.classList.toggle('entered', board.isEntered(light));
       this.#showWritten(light);
@@ -245,9 +291,10 @@ export class CluesView {
   }
 
   // Marks a clue that was written for another word, with what can be done.
+  /** @param {Light} light */
   #showWritten(light) {
     const { board, written } = this.#editor;
-    const entry = this.#fields.get(light.name);
+    const entry = this.#entryOf(light);
     const word = staleWord(board, light, written);
     if (entry.stale === word) return;
     entry.stale = word;
@@ -258,7 +305,7 @@ export class CluesView {
   // Shows how the word of the cursor's light was clued before.
   #showOld() {
     const { light } = this.#editor;
-    this.#old.show(this.isShown ? light : null, this.#fields.get(light?.name)?.row);
+    this.#old.show(this.isShown ? light : null, (light && this.#fields.get(light.name)?.row) ?? null);
   }
 
   #mark() {
@@ -269,42 +316,50 @@ export class CluesView {
     this.#showOld();
     this.#more.show(here && this.isShown ? light : null, here?.row);
     if (!this.isShown) return;
-    if (here && !this.#root.contains(document.activeElement)) [this.#root, here.row.parentElement].forEach((column) => scrollWithin(column, here.row));
-    if (other) scrollWithin(other.row.parentElement, other.row);
+    if (here && !this.#root.contains(document.activeElement)) [this.#root, columnOf(here)].forEach((column) => scrollWithin(column, here.row));
+    if (other) scrollWithin(columnOf(other), other.row);
   }
 
+  /** @param {HTMLElement} field */
   #focused(field) {
-    const light = this.#editor.board.byName.get(field.dataset.light);
+    const light = this.#editor.board.byName.get(field.dataset.light ?? '');
     if (light && light !== this.#editor.light) this.#editor.moveTo(light.cells[0], light.direction);
   }
 
+  /** @param {KeyboardEvent} event */
   #key(event) {
-    if (event.target.dataset.light && (event.ctrlKey || event.metaKey) && event.key.toLowerCase() === 'i') {
+    const target = /** @type {ClueField} */ (event.target);
+    if (target.dataset.light && (event.ctrlKey || event.metaKey) && event.key.toLowerCase() === 'i') {
       event.preventDefault();
-      return this.#toggleItalics(event.target);
+      return this.#toggleItalics(target);
     }
     return this.#step(event);
   }
 
+  /** @param {KeyboardEvent} event */
   #step(event) {
-    const step = { Enter: event.shiftKey ? -1 : 1, ArrowDown: 1, ArrowUp: -1 }[event.key];
-    if (!event.target.dataset.light) return;
+    /** @type {Record<string, number>} */
+    const steps = { Enter: event.shiftKey ? -1 : 1, ArrowDown: 1, ArrowUp: -1 };
+    const step = steps[event.key];
+    const target = /** @type {ClueField} */ (event.target);
+    if (!target.dataset.light) return;
     if (event.key === 'Escape') {
-      this.#change(event.target);
-      this.actions.leave(event);
+      this.#change(target);
+      this.#typing.leave(event);
     }
     if (!step || event.isComposing) return;
     event.preventDefault();
     const fields = [...this.#root.querySelectorAll('textarea')];
-    const next = fields[(fields.indexOf(event.target) + step + fields.length) % fields.length];
-    if (next === event.target) next.blur();
+    const next = fields[(fields.indexOf(target) + step + fields.length) % fields.length];
+    if (next === target) next.blur();
     next.focus();
     next.select();
   }
 
   // Goes to the clue of a light, or of the first one without.
+  /** @param {Light | null} light */
   open(light) {
-    const field = this.#fields.get((light ?? this.#lacking())?.name)?.field;
+    const field = this.#fields.get((light ?? this.#lacking())?.name ?? '')?.field;
     field?.focus();
     field?.select();
   }
@@ -315,20 +370,22 @@ export class CluesView {
   }
 
   // Takes over what a field holds, if that is another clue. The field stays as it is.
+  /** @param {ClueField} field */
   #change(field) {
-    const light = this.#editor.board.byName.get(field.dataset.light);
+    const light = this.#editor.board.byName.get(field.dataset.light ?? '');
     const text = clueIn(field);
-    if (!light || [field.value, text].includes(field.dataset.kept)) return;
+    if (!light || [field.value, text].includes(field.dataset.kept ?? '')) return;
     field.dataset.kept = text;
     this.#send(field, light, text);
   }
 
   // Takes over what a field that is left holds, and shows it so.
+  /** @param {ClueField} field */
   #leave(field) {
     if (!field.dataset.light) return;
     this.#change(field);
     if (field.value !== field.dataset.kept && clueIn(field) === field.dataset.kept) {
-      field.value = field.dataset.kept;
+      field.value = field.dataset.kept ?? '';
       this.#typed(field);
     }
   }
@@ -343,16 +400,21 @@ export class CluesView {
   }
 
   // The name that records have for the clue that is being typed; or ''.
-  unfinished(field) {
-    const light = this.#editor.board.byName.get(field?.dataset.light);
+  get #unfinished() {
+    const light = this.#editor.board.byName.get(this.#typing.unfinished?.dataset.light ?? '');
     return light ? this.#editor.board.clueField(light) : '';
   }
 
+  /**
+   * @param {ClueField} field
+   * @param {Light} light
+   * @param {string} text
+   */
   async #send(field, light, text) {
     const { name } = light;
-    const count = (step) => this.#underWay.set(name, (this.#underWay.get(name) ?? 0) + step).get(name);
+    const count = (/** @type {number} */ step) => this.#underWay.set(name, (this.#underWay.get(name) ?? 0) + step).get(name);
     count(1);
-    const refused = await this.actions.text(field, this.#editor.board.clueField(light), text);
+    const refused = await this.#typing.text(field, this.#editor.board.clueField(light), text);
     if (count(-1)) return;
     this.#underWay.delete(name);
     const now = this.#editor.board.byName.get(name);
@@ -363,9 +425,16 @@ export class CluesView {
   }
 }
 
-// The clue that a field holds: one line, without spaces around it.
-const clueIn = (field) => field.value.replace(/\s*\n\s*/g, ' ').trim();
+// The column that the row of an entry is in.
+const columnOf = (/** @type {Entry} */ { row }) => /** @type {HTMLElement} */ (row.parentElement);
 
+// The clue that a field holds: one line, without spaces around it.
+const clueIn = (/** @type {ClueField} */ field) => field.value.replace(/\s*\n\s*/g, ' ').trim();
+
+/**
+ * @param {Light} light
+ * @param {string} described
+ */
 function makeField(light, described) {
   const field = document.createElement('textarea');
   field.rows = 1;
@@ -387,12 +456,21 @@ function makeLength() {
 }
 
 // The number of letters changes where a cell gets several.
+/**
+ * @param {HTMLElement} length
+ * @param {Light} light
+ * @param {number} letters
+ */
 function labelLength(length, light, letters) {
   if (length.textContent === `(${letters})`) return;
   length.textContent = `(${letters})`;
   length.setAttribute('aria-label', `put (${letters}) at the end of the clue of ${titleOf(light)}`);
 }
 
+/**
+ * @param {string} text
+ * @param {Record<string, string>} data
+ */
 function dataButton(text, data) {
   const button = Object.assign(document.createElement('button'), { type: 'button', textContent: text });
   Object.assign(button.dataset, data);
@@ -400,12 +478,21 @@ function dataButton(text, data) {
 }
 
 // Gives the row of an entry a class, which that of another one had before; returns the entry.
+/**
+ * @param {Entry | null} before
+ * @param {Entry | null} now
+ * @param {string} name
+ */
 function marked(before, now, name) {
   if (before !== now) before?.row.classList.remove(name);
   now?.row.classList.add(name);
   return now;
 }
 
+/**
+ * @param {string} className
+ * @param {Node[]} inner
+ */
 function box(className, ...inner) {
   const made = Object.assign(document.createElement('div'), { className });
   made.append(...inner);

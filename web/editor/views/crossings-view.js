@@ -10,20 +10,18 @@ export class CrossingsView {
   /** @type {ReturnType<typeof makeCrossing>[]} */
   #rows = [];
 
-  // `go` goes to a light, at a cell.
   /**
    * @param {import('../model/editor.js').Editor} editor
    * @param {HTMLElement} root
-   * @param {(light: import('../model/board.js').Light, cell: number) => void} go
    */
-  constructor(editor, root, go) {
+  constructor(editor, root) {
     this.#editor = editor;
     this.#root = root;
     editor.on(['board', 'letters', 'cursor'], onceIdle(() => this.#show()));
     root.addEventListener('click', (event) => {
       const { light: name, cell } = pressed(event, 'button')?.dataset ?? {};
       const light = editor.board.byName.get(name ?? '');
-      if (light) go(light, Number(cell));
+      if (light) editor.do('goTo', light, Number(cell));
     });
   }
 

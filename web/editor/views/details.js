@@ -1,5 +1,5 @@
 // The tab of the puzzle: its texts, counts, repeats and words.
-import { dups, stats } from '../engine/answers.js';
+import { named } from '../engine/told.js';
 import { lettersByColour, nameOfColour } from '../model/colours.js';
 import { faultsOf } from '../model/faults.js';
 import { languagesFor } from '../model/language.js';
@@ -8,46 +8,69 @@ import { warningsOf } from '../model/rules.js';
 import { termed } from '../model/terms.js';
 import { staleClues } from '../model/written.js';
 import { refuse, say } from './messages.js';
-import { all, option, speakIn } from './page.js';
+import { all, option, pressed, speakIn } from './page.js';
 import { titleOf } from './words.js';
 
+// the fields of texts
+const FIELDS = /** @type {const} */ (['title', 'author', 'copyright', 'notes']);
 // how long after an edit counts are asked for, in milliseconds
 const SETTLED = 200;
+
+/** @typedef {import('../engine/told.js').Answers} Answers */
+/** @typedef {typeof FIELDS[number]} Field */
+/**
+ * @typedef {Record<Field, HTMLInputElement | HTMLTextAreaElement> & Record<'panel' | 'checks' | 'counts' | 'lengths' | 'frequency' | 'changed', HTMLElement> & {
+ *   language: HTMLSelectElement, wordForm: HTMLFormElement, word: HTMLInputElement,
+ * }} Elements
+ */
 
 export class DetailsView {
   /** @type {import('../model/editor.js').Editor} */
   #editor;
   #elements;
-  #timer = null;
+  #edits;
+  #typed;
+  #parts;
+  #timer = 0;
 
-  constructor(editor, elements, actions) {
+  // `parts` are shown with the counts.
+  /**
+   * @param {import('../model/editor.js').Editor} editor
+   * @param {Elements} elements
+   * @param {import('./edits.js').Edits} edits
+   * @param {import('./typed.js').Typed} typed
+   * @param {{ show: () => unknown }[]} parts
+   */
+  constructor(editor, elements, edits, typed, parts) {
     this.#editor = editor;
     this.#elements = elements;
-    this.actions = actions;
+    this.#edits = edits;
+    this.#typed = typed;
+    this.#parts = parts;
     editor.on(['board'], () => this.#takeTexts());
+    editor.on(['scores'], () => this.soon());
     editor.on(['step', 'written'], () => this.soon());
-    for (const field of ['title', 'author', 'copyright', 'notes']) {
+    for (const field of FIELDS) {
       elements[field].addEventListener('change', () => this.#change(field));
       elements[field].addEventListener('focusout', () => this.#leave(field));
-      elements[field].addEventListener('keydown', (event) => {
+      elements[field].addEventListener('keydown', (/** @type {any} */ event) => {
         if (event.key !== 'Escape') return;
         this.#change(field);
-        actions.leave(event);
+        typed.leave(event);
       });
     }
-    elements.language.addEventListener('change', () => actions.language(elements.language.value));
+    elements.language.addEventListener('change', () => edits.language(elements.language.value));
     editor.on(['left'], () => this.#forgetTyped());
     elements.wordForm.addEventListener('submit', (event) => {
       event.preventDefault();
-      this.#addOrStrike(event.submitter?.value ?? 'add');
+      this.#addOrStrike(/** @type {HTMLButtonElement | null} */ (event.submitter)?.value ?? 'add');
     });
-    elements.checks.addEventListener('click', (event) => this.#click(event.target.closest('button')));
-    elements.changed.addEventListener('click', (event) => this.#click(event.target.closest('button')));
+    for (const list of [elements.checks, elements.changed]) list.addEventListener('click', (event) => this.#click(pressed(event, 'button')));
   }
 
   #takeTexts() {
     if (this.#elements.language.dataset.shown !== this.#editor.language) this.#showLanguage();
-    for (const field of ['title', 'author', 'copyright', 'notes']) {
+    for (const field of FIELDS) {
       const element = this.#elements[field];
       const text = this.#editor.textOf(field);
       // what is being typed stays when the answer to an earlier edit comes
@@ -71,17 +94,19 @@ export class DetailsView {
   }
 
   // Takes over what a field holds, if that is another text. The field stays as it is.
+  /** @param {Field} field */
   #change(field) {
     const element = this.#elements[field];
     const text = element.value.trim();
-    if ([element.value, text].includes(element.dataset.kept)) return;
+    if ([element.value, text].includes(element.dataset.kept ?? '')) return;
     element.dataset.kept = text;
     // what is typed after it stays when the answer comes
     element.dataset.text = text;
-    this.actions.text(element, field, text);
+    this.#typed.text(element, field, text);
   }
 
   // Shows the text of a field that is left, without spaces around it.
+  /** @param {Field} field */
   #leave(field) {
     const element = this.#elements[field];
     if (element.value.trim() === element.dataset.kept) element.value = element.dataset.kept;
@@ -89,52 +114,59 @@ export class DetailsView {
 
   // What is typed belongs to the puzzle that was here.
   #forgetTyped() {
-    for (const field of ['title', 'author', 'copyright', 'notes']) this.#elements[field].value = this.#elements[field].dataset.kept;
+    for (const field of FIELDS) this.#elements[field].value = this.#elements[field].dataset.kept ?? '';
   }
 
   // Asks for counts and faults when edits have come to a rest.
   soon() {
     clearTimeout(this.#timer);
-    this.#timer = setTimeout(() => this.refresh().catch(() => {}), SETTLED);
+    this.#timer = window.setTimeout(() => this.refresh().catch(() => {}), SETTLED);
   }
 
   // Asks for counts and faults, if the tab is in sight.
   async refresh() {
     if (this.#elements.panel.hidden) return;
-    this.actions.refreshed();
+    for (const part of this.#parts) part.show();
     const editor = this.#editor;
-    const [counted, repeated, found] = await Promise.all([editor.ask(stats()), editor.ask(dups()), faultsOf(editor)]);
-    this.#showCounts(counted);
-    this.#showChecks(repeated, found);
+    const [counted, repeated, found] = await Promise.all([editor.ask('stats'), editor.ask('dups'), faultsOf(editor)]);
+    if (counted) this.#showCounts(counted);
+    this.#showChecks(repeated ?? [], found);
     this.#showChanged();
   }
 
-  #showCounts({ figures: named, lengths, letters }) {
+  /** @param {Answers['stats']} stats */
+  #showCounts(stats) {
     const { board } = this.#editor;
+    /** @type {[string, string | number][]} */
     const rows = [
-      ['Size', `${board.width} × ${board.height}`], ['Words', named.get('lights')], ['Mean length', named.get('mean')],
-      ['Blocks', `${named.get('blocks')} (${Math.round((100 * named.get('blocks')) / named.get('cells'))} %)`],
-      ...(named.get('bars') === '0' ? [] : [['Bars', named.get('bars')]]), ['Unchecked cells', named.get('unchecked')],
-      ['Letters entered', `${named.get('entered')} of ${board.open}`], ...this.#markedRows(),
+      ['Size', `${board.width} × ${board.height}`], ['Words', stats.lights], ['Mean length', stats.mean.toFixed(2)],
+      ['Blocks', `${stats.blocks} (${Math.round((100 * stats.blocks) / stats.cells)} %)`],
+      ...(stats.bars ? [pair('Bars', stats.bars)] : []), ['Unchecked cells', stats.unchecked],
+      ['Letters entered', `${stats.entered} of ${board.open}`], ...this.#markedRows(),
     ];
     this.#elements.counts.replaceChildren(...rows.flatMap(([name, value]) => [element('dt', name), element('dd', value)]));
-    this.#elements.lengths.replaceChildren(...bars(lengths));
-    const alphabet = Array.from('ABCDEFGHIJKLMNOPQRSTUVWXYZ', (letter) => [letter, letters.get(letter) ?? 0]);
+    this.#elements.lengths.replaceChildren(...bars(Object.entries(stats.lengths)));
+    const alphabet = Array.from('ABCDEFGHIJKLMNOPQRSTUVWXYZ', (letter) => pair(letter, stats.letters[letter] ?? 0));
     this.#elements.frequency.replaceChildren(...bars(alphabet));
   }
 
   // The letters of the cells of each colour, and of those with a circle, in reading order.
+  /** @returns {[string, string][]} */
   #markedRows() {
     const editor = this.#editor;
     const circled = editor.board.cells.filter((cell) => cell.circle && !cell.block).map((cell) => editor.entryOf(cell) || '·').join('');
-    const coloured = [...lettersByColour(editor)].map(([colour, letters]) => [`${nameOfColour(colour)} cells`.replace(/^./, (first) => first.toUpperCase()), letters]);
-    return [...coloured, ...(circled ? [['Circled', circled]] : [])];
+    const coloured = [...lettersByColour(editor)].map(([colour, letters]) => pair(`${nameOfColour(colour)} cells`.replace(/^./, (first) => first.toUpperCase()), letters));
+    return [...coloured, ...(circled ? [pair('Circled', circled)] : [])];
   }
 
+  /**
+   * @param {Answers['dups']} repeated
+   * @param {Awaited<ReturnType<typeof faultsOf>>} found
+   */
   #showChecks(repeated, found) {
     const { board } = this.#editor;
     const items = [];
-    for (const { first, word, ...light } of repeated) items.push(check(`${word} stands twice: ${titleOf(light)} and ${titleOf(first)}`, light.name));
+    for (const { light, first, word } of repeated) items.push(check(`${word} stands twice: ${titleOf(named(light))} and ${titleOf(named(first))}`, light));
     for (const { word, why, ...light } of found) {
       const item = check(`${why}: ${titleOf(light)}`, light.name);
       item.append(button('Add it', { add: word }), button('Erase it', { erase: light.name }));
@@ -163,8 +195,9 @@ export class DetailsView {
     if (dead.length) items.unshift(check(dead.length === 1 ? `${titleOf(dead[0])} has no word left` : `${dead.length} lights have no word left`, dead[0].name));
     for (const warning of warningsOf(this.#editor)) {
       const item = element('li', '', 'warning');
+      /** @type {Record<string, string | number>} */
       const place = warning.cell === undefined ? { light: warning.light ?? '' } : { cell: warning.cell };
-      item.append(button(`⚠ ${warning.text}`, { ...place, ...(warning.isClue && { tab: 'clue' }) }));
+      item.append(button(`⚠ ${warning.text}`, warning.isClue ? { ...place, tab: 'clue' } : place));
       items.push(item);
     }
     if (!items.length) items.push(element('li', 'Nothing is missing: no repeat, no unlisted word, no empty cell, a clue for each light and its word.', 'good'));
@@ -181,6 +214,7 @@ export class DetailsView {
     this.#elements.changed.hidden = items.length === 0;
   }
 
+  /** @param {string} command */
   async #addOrStrike(command) {
     const { word } = this.#elements;
     const spelled = word.value.replace(/[\s'’-]/g, '').toUpperCase();
@@ -190,41 +224,69 @@ export class DetailsView {
     word.focus();
   }
 
+  /**
+   * @param {string} command
+   * @param {string} word
+   */
   async #edit(command, word) {
-    const refused = await this.actions.edit([`${command} ${word}`]);
+    const refused = await this.#edits.edit([`${command} ${word}`]);
     if (refused) return;
     say(command === 'add' ? `${word} is added to this puzzle` : `${word} is hidden in this puzzle`, 'good');
   }
 
+  /** @param {HTMLElement | null} pressed */
   #click(pressed) {
     if (!pressed) return;
     const { add, strike, erase, keep, hide, light, cell, tab } = pressed.dataset;
-    if (keep ?? hide) return this.actions.keepWord(keep ?? hide, Boolean(hide));
-    if (erase) return this.actions.edit([`erase ${erase}`]);
+    const kept = keep ?? hide;
+    if (kept) return this.#editor.do('keepWord', kept, Boolean(hide));
+    if (erase) return this.#edits.edit([`erase ${erase}`]);
     if (add) return this.#edit('add', add);
     if (strike) return this.#edit('strike', strike);
     if (cell) this.#editor.moveTo(Number(cell));
-    const named = light && this.#editor.board.byName.get(light);
-    if (named) this.#editor.moveTo(named.cells[0], named.direction);
-    if (tab === 'clue') this.actions.toClue(named);
-    else this.actions.toGrid();
+    const there = this.#editor.board.byName.get(light ?? '');
+    if (there) this.#editor.moveTo(there.cells[0], there.direction);
+    if (tab === 'clue') this.#editor.do('toClue', there ?? null);
+    else this.#editor.do('toGrid');
   }
 }
 
+/**
+ * @template T
+ * @param {string} name
+ * @param {T} value
+ * @returns {[string, T]}
+ */
+const pair = (name, value) => [name, value];
+
+/**
+ * @param {string} name
+ * @param {string | number} text
+ * @param {string} className
+ */
 function element(name, text, className = '') {
   const made = document.createElement(name);
-  made.textContent = typeof text === 'string' ? termed(text) : text;
+  made.textContent = typeof text === 'string' ? termed(text) : String(text);
   made.className = className;
   return made;
 }
 
+/**
+ * @param {string} text
+ * @param {Record<string, string | number>} data
+ */
 function button(text, data) {
-  const made = element('button', text);
+  const made = /** @type {HTMLButtonElement} */ (element('button', text));
   made.type = 'button';
   Object.assign(made.dataset, data);
   return made;
 }
 
+/**
+ * @param {string} text
+ * @param {string} light
+ * @param {string} tab
+ */
 function check(text, light, tab = '') {
   const item = element('li', '');
   item.append(button(text, { light, tab }));
@@ -232,6 +294,10 @@ function check(text, light, tab = '') {
 }
 
 // A word that was added or struck, with buttons: each a name and what it does.
+/**
+ * @param {string} text
+ * @param {[string, Record<string, string>][]} buttons
+ */
 function changed(text, ...buttons) {
   const item = element('li', '');
   item.append(element('span', text), ...buttons.map(([name, data]) => button(name, data)));
@@ -239,6 +305,7 @@ function changed(text, ...buttons) {
 }
 
 // A bar for each pair of a name and a count.
+/** @param {[string, number][]} pairs */
 function bars(pairs) {
   const most = Math.max(1, ...pairs.map(([, count]) => count));
   return pairs.map(([name, count]) => {

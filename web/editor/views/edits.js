@@ -7,50 +7,53 @@ import { commentField, isReference, linkField, linkedTo, namedLights, noteField,
 import { hasItalics } from '../model/marks.js';
 import { cellField } from '../model/rebus.js';
 import { engineText, escapeText, strangeCharacter, textLines } from '../model/record.js';
-import { endingMessage, refusalText, refuse, say, sayAsIs } from './messages.js';
+import { endingMessage, mayEdit, refusalText, refuse, say, sayAsIs } from './messages.js';
 import { $ } from './page.js';
 import { titleOf } from './words.js';
+
+/** @typedef {import('../model/board.js').Light} Light */
+/** @typedef {import('../model/state.js').Pair} Pair */
+/** @typedef {import('../model/state.js').Step} Step */
+/** @typedef {import('../engine/told.js').Direction} Direction */
+/** @typedef {import('../model/editor.js').EditOptions} EditOptions */
 
 export class Edits {
   /** @type {import('../model/editor.js').Editor} */
   #editor;
 
-  // `actions`: `isFilling` tells whether a fill has the engine, `soon` looks for dead ends, `toGrid` goes to the grid, `showTab`
-  // shows a tab, `kept` is told what takes a text back that Esc keeps.
-  constructor(editor, actions) {
+  /** @param {import('../model/editor.js').Editor} editor */
+  constructor(editor) {
     this.#editor = editor;
-    this.actions = actions;
-  }
-
-  // Whether something can be changed now; says why not.
-  mayEdit() {
-    const isFilling = this.actions.isFilling();
-    if (isFilling) refuse('a fill is running: Esc stops it');
-    return !isFilling;
   }
 
   // Sends lines as one step; returns what they are refused for, or null.
-  async edit(lines, options) {
-    if (!this.mayEdit()) return 'Filling';
+  /**
+   * @param {string[]} lines
+   * @param {EditOptions & { isBlock?: boolean }} options
+   * @returns {Promise<string | null>}
+   */
+  async edit(lines, options = {}) {
+    if (!mayEdit(this.#editor)) return 'Filling';
     const endMessage = endingMessage();
     const clued = this.#cluesAt(lines);
     const refused = await this.#editor.edit(lines, options);
     if (!refused) {
       this.#tellHidden(clued);
       if (clued.size) await this.#renumber();
-      if (options?.isWhole !== false || $('status').dataset.tone === 'bad') endMessage();
+      if (options.isWhole !== false || $('status').dataset.tone === 'bad') endMessage();
       // of several letters the last one tells
-      if (!this.#editor.hasEdits) this.actions.soon();
+      if (!this.#editor.hasEdits) this.#editor.do('findDeadEnds');
       return null;
     }
     // what the page showed before the engine answered is taken back; after a failure the restart says so
     if (refused === 'Engine' || refused === 'Restart') return refused;
     // a block over letters is another thing to try
-    if (!(options?.isBlock && refused === 'Occupied')) refuse(refusalText(refused));
+    if (!(options.isBlock && refused === 'Occupied')) refuse(refusalText(refused));
     return refused;
   }
 
   // The lights with clues before lines that change blocks or bars, by the names that records have for the clues.
+  /** @param {string[]} lines */
   #cluesAt(lines) {
     const { board } = this.#editor;
     const isOfGrid = lines.some((line) => /^(block|bar) /.test(line));
@@ -58,6 +61,7 @@ export class Edits {
   }
 
   // Says which clues have no light any more. They are kept for it.
+  /** @param {Map<string, string>} clued */
   #tellHidden(clued) {
     if (!clued.size) return;
     const { board } = this.#editor;
@@ -72,13 +76,17 @@ export class Edits {
   async #renumber() {
     const editor = this.#editor;
     const { board } = editor;
-    const isOther = ([light, head]) => isReference(editor.textOf(`clue ${light.name}`)) && editor.textOf(`clue ${light.name}`) !== referenceTo(light, head);
+    const isOther = (/** @type {[Light, Light]} */ [light, head]) => isReference(editor.textOf(`clue ${light.name}`)) && editor.textOf(`clue ${light.name}`) !== referenceTo(light, head);
     const others = [...editor.links.headOf].filter(isOther);
     const lines = others.flatMap(([light, head]) => textLines(board.clueField(light), referenceTo(light, head)));
     if (lines.length) await editor.edit(lines, { only: editor.record });
   }
 
   // Enters letters into a cell: several, of which the engine gets the first, one, or none.
+  /**
+   * @param {number} index
+   * @param {string} typed
+   */
   async enter(index, typed) {
     const editor = this.#editor;
     const cell = editor.board.cells[index];
@@ -94,6 +102,11 @@ export class Edits {
   }
 
   // Sets a text; returns what it is refused for, or null. Edits of one `stroke` are one step.
+  /**
+   * @param {string} field
+   * @param {string} typed
+   * @param {object | null} stroke
+   */
   async text(field, typed, stroke = null) {
     const refused = await this.#texts([[field, typed]], [], stroke);
     const { near, count } = engineText(typed);
@@ -103,6 +116,11 @@ export class Edits {
 
   // Sets the texts of fields in one step, and with them what is kept beside those, by field; '' takes it away. The engine gets near characters for those
   // that it cannot keep, and no italics.
+  /**
+   * @param {Pair[]} texts
+   * @param {Pair[]} beside
+   * @param {object | null} stroke
+   */
   #texts(texts, beside = [], stroke = null) {
     const originals = this.#beside(beside);
     const rewritten = texts.filter(([field, typed]) => this.#isRewritten(field, typed)).map(([field]) => field);
@@ -117,24 +135,34 @@ export class Edits {
   }
 
   // The light of a clue, by the name that records have for it; or null.
+  /** @param {string} field */
   #lightOf(field) {
     const [, row, column, direction] = field.split(' ');
-    return (direction && this.#editor.board.at(`${row} ${column}`)?.[direction]) || null;
+    return (direction && this.#editor.board.at(`${row} ${column}`)?.[/** @type {Direction} */ (direction)]) || null;
   }
 
   // Whether a clue says something else than before: a length at its end says nothing of another word.
+  /**
+   * @param {string} field
+   * @param {string} typed
+   */
   #isRewritten(field, typed) {
     const light = this.#lightOf(field);
-    const said = (text) => enumerated(text, 0).text.trim();
-    return Boolean(light) && said(typed) !== said(this.#editor.textOf(`clue ${light.name}`));
+    const said = (/** @type {string} */ text) => enumerated(text, 0).text.trim();
+    return light !== null && said(typed) !== said(this.#editor.textOf(`clue ${light.name}`));
   }
 
   // Keeps the clue of a light for the word that is there now.
+  /** @param {Light} light */
   async keepClue(light) {
-    if (this.mayEdit()) await this.#editor.keepClue(light);
+    if (mayEdit(this.#editor)) await this.#editor.keepClue(light);
   }
 
   // Gives a light another clue, or none.
+  /**
+   * @param {Light} light
+   * @param {string} clue
+   */
   useClue(light, clue) {
     return this.#texts([[this.#editor.board.clueField(light), clue]]);
   }
@@ -144,32 +172,52 @@ export class Edits {
   /** @param {import('../formats/clue-table.js').Change[]} changes */
   takeClues(changes) {
     const { board } = this.#editor;
-    const texts = changes.filter(({ clue }) => clue !== null).map(({ light, clue }) => [board.clueField(light), clue]);
-    const notes = changes.filter(({ note }) => note !== null).map(({ light, note }) => [noteField(board, light), note]);
+    const texts = changes.flatMap(({ light, clue }) => (clue === null ? [] : [pairOf(board.clueField(light), clue)]));
+    const notes = changes.flatMap(({ light, note }) => (note === null ? [] : [pairOf(noteField(board, light), note)]));
     return this.#texts(texts, notes);
   }
 
   // Keeps a private note on the clue of a light; or none. Edits of one `stroke` are one step.
+  /**
+   * @param {Light} light
+   * @param {string} text
+   * @param {object | null} stroke
+   */
   note(light, text, stroke = null) {
     return this.#keepBeside(noteField(this.#editor.board, light), light, text, stroke);
   }
 
   // Keeps comments on the clue of a light, or none, in one step.
+  /**
+   * @param {Light} light
+   * @param {string} text
+   */
   comments(light, text) {
     return this.#keepBeside(commentField(this.#editor.board, light), light, text, null);
   }
 
   // Takes over comments on several clues, by the names that they are kept under, in one step. Returns what that is refused for, or null.
-  /** @param {[string, string][]} texts */
+  /** @param {Pair[]} texts */
   takeComments(texts) {
     return this.edit([], { originals: this.#beside(texts) });
   }
 
+  /**
+   * @param {string} field
+   * @param {Light} light
+   * @param {string} text
+   * @param {object | null} stroke
+   */
   #keepBeside(field, light, text, stroke) {
     return this.edit([], { originals: this.#beside([[field, text]]), stroke, at: { cursor: light.cells[0], direction: light.direction } });
   }
 
   // Has the clue of a light go on in those that a text names, whose clues lead to it; or in none. Returns what that is refused for, or null.
+  /**
+   * @param {Light} light
+   * @param {string} text
+   * @param {object | null} stroke
+   */
   async link(light, text, stroke = null) {
     const editor = this.#editor;
     const { board, originals, links } = editor;
@@ -179,27 +227,35 @@ export class Edits {
     if (fault) return this.#refuseLink(`no other light is called ${fault}: name lights such as 17, 4 down`);
     if (taken) return this.#refuseLink(`${titleOf(taken)} is linked to other lights already`);
     const gone = before.filter((one) => !lights.includes(one) && isReference(editor.textOf(`clue ${one.name}`)));
-    const texts = [...gone.map((one) => [board.clueField(one), '']), ...lights.map((one) => [board.clueField(one), referenceTo(one, light)])];
+    const texts = [...gone.map((one) => pairOf(board.clueField(one), '')), ...lights.map((one) => pairOf(board.clueField(one), referenceTo(one, light)))];
     return this.#texts(texts, [[linkField(board, light), spelledLink(board, lights)]], stroke);
   }
 
+  /** @param {string} text */
   #refuseLink(text) {
     refuse(text);
     return 'Link';
   }
 
   // Gives a cell a colour, or takes it away.
+  /**
+   * @param {number} index
+   * @param {string} colour
+   * @param {object | null} stroke
+   */
   colour(index, colour, stroke = null) {
     const { coordinates } = this.#editor.board.cells[index];
     return this.edit([], { originals: this.#beside([[colourField(coordinates), colour]]), stroke });
   }
 
   // Gives the puzzle a language, or none.
+  /** @param {string} code */
   language(code) {
     return this.edit([], { originals: this.#beside([[LANGUAGE, code]]) });
   }
 
   // What is kept beside the record, with other texts by field; '' takes one away.
+  /** @param {Pair[]} texts */
   #beside(texts) {
     const originals = new Map(this.#editor.dueOriginals);
     for (const [field, text] of texts) {
@@ -209,15 +265,11 @@ export class Edits {
     return originals;
   }
 
-  // Leaves a field of texts by Esc. Another Esc does `takeBack`, if that is not null.
-  leave(event, takeBack) {
-    this.actions.toGrid();
-    if (!takeBack) return;
-    event.stopPropagation();
-    this.actions.kept(takeBack);
-  }
-
   // Gives clues lengths; so many others have none, since no list shows how their answers part.
+  /**
+   * @param {Pair[]} texts
+   * @param {number} left
+   */
   async addLengths(texts, left) {
     if (texts.length && (await this.#texts(texts))) return;
     const told = texts.length ? `${texts.length} ${texts.length === 1 ? 'clue has' : 'clues have'} a length now` : 'no clue has got a length';
@@ -227,9 +279,16 @@ export class Edits {
 
   // Places a word in a light of the cursor. `needs` names the crossing lights whose letters in pencil are in its way, if there are some: those
   // letters are cleared, or with no name those of all crossing lights.
+  /**
+   * @param {string} word
+   * @param {string[] | null} needs
+   * @param {Light | null} light
+   * @returns {Promise<string | null>}
+   */
   async place(word, needs = null, light = this.#editor.light) {
     const editor = this.#editor;
     const { board } = editor;
+    if (!light) return 'NoLight';
     editor.change({ edited: { cell: editor.cursor, direction: light.direction } });
     const cells = light.cells.filter((index, at) => board.cells[index].letter !== word[at]).map((index) => board.cells[index].coordinates);
     const pencil = new Set([...editor.pencil].filter((cell) => !cells.includes(cell)));
@@ -239,36 +298,50 @@ export class Edits {
     return refused;
   }
 
+  /** @param {string} word */
   async strike(word) {
     if (!(await this.edit([`strike ${word}`]))) say(`${word} is hidden in this puzzle; undo takes it back`, 'good');
   }
 
+  /** @param {string} word */
   async add(word) {
     if (!(await this.edit([`add ${word}`]))) say(`${word} is added to this puzzle`, 'good');
-    this.actions.toGrid();
+    this.#editor.do('toGrid');
   }
 
   // Goes a step of the history back, or forth.
+  /** @param {boolean} isBack */
   async step(isBack) {
-    if (!this.mayEdit()) return;
+    if (!mayEdit(this.#editor)) return;
     const endMessage = endingMessage();
     const done = await (isBack ? this.#editor.undo() : this.#editor.redo());
     if (!done) return say(isBack ? 'there is nothing to undo' : 'there is nothing to redo');
     endMessage();
     this.#showChange(done, isBack);
-    this.actions.soon();
+    this.#editor.do('findDeadEnds');
   }
 
   // Shows the tab of a step that changes nothing in the grid, and says what it changes.
+  /**
+   * @param {{ before: Step, now: Step }} steps
+   * @param {boolean} isBack
+   */
   #showChange({ before, now }, isBack) {
     const { board } = this.#editor;
-    const titled = (coordinates, direction) => {
-      const light = board.at(coordinates)?.[direction];
+    const titled = (/** @type {string} */ coordinates, /** @type {string} */ direction) => {
+      const light = board.at(coordinates)?.[/** @type {Direction} */ (direction)];
       return light ? titleOf(light) : 'a light that is gone';
     };
     const change = changeBeside(before, now, titled);
     if (!change) return;
-    if (change.tab) this.actions.showTab(change.tab);
+    if (change.tab) this.#editor.do('showTab', change.tab);
     say(`${isBack ? 'undone' : 'done again'}: ${change.text}`);
   }
 }
+
+/**
+ * @param {string} field
+ * @param {string} text
+ * @returns {Pair}
+ */
+const pairOf = (field, text) => [field, text];

@@ -10,12 +10,19 @@ import { $, put } from './page.js';
 export class Facts {
   /** @type {import('../model/editor.js').Editor} */
   #editor;
+  #edits;
 
-  /** @param {import('../model/editor.js').Editor} editor */
-  constructor(editor) {
+  /**
+   * @param {import('../model/editor.js').Editor} editor
+   * @param {import('./edits.js').Edits} edits
+   */
+  constructor(editor, edits) {
     this.#editor = editor;
+    this.#edits = edits;
     editor.on(['step', 'written'], () => whenIdle(() => this.show()));
-    editor.on(['board'], () => this.show());
+    editor.on(['board', 'list'], () => this.show());
+    editor.on(['fill'], () => this.#showFill());
+    $('symmetry').addEventListener('change', () => this.#useSymmetry());
     editor.on(['board', 'chosen'], () => this.#showChosen());
   }
 
@@ -50,25 +57,30 @@ export class Facts {
     const { size } = this.#editor.chosen;
     $('fill-label').textContent = size ? termed(`Fill ${size} ${size === 1 ? 'light' : 'lights'}`) : 'Fill all';
   }
+
+  // A symmetry that is refused is not the one of the grid.
+  async #useSymmetry() {
+    if (await this.#edits.edit([`sym ${$('symmetry').value}`])) this.show();
+    this.#editor.do('toGrid');
+  }
+
+  // How far a fill is, or that it has ended; a raising goes on beside edits.
+  #showFill() {
+    const { isRunning, progress } = this.#editor.fill;
+    $('stop').hidden = !progress;
+    $('fill').disabled = $('another').disabled = isRunning;
+    $('progress').hidden = !isRunning;
+    if (!progress) return toGridIfLost(this.#editor);
+    if (progress.isRaising) return;
+    $('progress').value = progress.part;
+    say(`filling … ${progress.placements?.toLocaleString('en')} placements tried; Esc stops`, 'busy');
+  }
 }
 
-// Shows how far a fill is, or with null that it has ended; a raising goes on beside edits.
-/**
- * @param {import('../engine/fill.js').Progress | null} progress
- * @param {boolean} isRunning
- * @param {() => void} toGrid
- */
-export function showFill(progress, isRunning, toGrid) {
-  $('stop').hidden = !progress;
-  $('fill').disabled = $('another').disabled = isRunning;
-  $('progress').hidden = !isRunning;
-  if (!progress) {
-    if (document.activeElement === document.body) toGrid();
-    return;
-  }
-  if (progress.isRaising) return;
-  $('progress').value = progress.part;
-  say(`filling … ${progress.placements?.toLocaleString('en')} placements tried; Esc stops`, 'busy');
+// Keys go to the grid where what had the focus is gone.
+/** @param {import('../model/editor.js').Editor} editor */
+export function toGridIfLost(editor) {
+  if (document.activeElement === document.body) editor.do('toGrid');
 }
 
 // Says whether the browser keeps the puzzle, or why it does not.

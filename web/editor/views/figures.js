@@ -33,18 +33,14 @@ export class Figures {
   /** @type {(Proof & { key: string }) | null} */
   #proof = null;
 
-  // `elements` are the box, the text in it, and the button that goes to the worst word. `told` is told the scores of the words in the grid, by the names of
-  // their lights.
+  // `elements` are the box, the text in it, and the button that goes to the worst word.
   /**
    * @param {import('../model/editor.js').Editor} editor
    * @param {Record<'box' | 'text' | 'worst', HTMLElement>} elements
-   * @param {{ go: (light: Light) => void, told: (scores: ReadonlyMap<string, number>) => void }} actions
    */
-  constructor(editor, elements, { go, told }) {
+  constructor(editor, elements) {
     this.#editor = editor;
     this.#elements = elements;
-    this.go = go;
-    this.told = told;
     editor.on(['step', 'board'], () => this.#soon());
   }
 
@@ -170,7 +166,7 @@ export class Figures {
   #tell() {
     const { box, text, worst } = this.#elements;
     box.hidden = !this.#figures;
-    this.told(this.#scores);
+    this.#editor.change({ scores: this.#scores });
     const { board } = this.#editor;
     const [name = ''] = [...this.#scores].find(([, score]) => score === this.#figures?.worst) ?? [];
     const light = board.byName.get(name);
@@ -179,7 +175,7 @@ export class Figures {
     if (text.textContent !== told) text.textContent = told;
     worst.textContent = `Worst: ${board.spell(light)}`;
     worst.title = `Go to the worst word, ${titleOf(light)}`;
-    worst.onclick = () => this.go(this.#editor.board.byName.get(name) ?? light);
+    worst.onclick = () => this.#editor.do('goTo', this.#editor.board.byName.get(name) ?? light);
   }
 }
 

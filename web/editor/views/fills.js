@@ -3,7 +3,7 @@ import { byFigures, figuresOf, figuresText } from '../model/grades.js';
 import { letterIn, wordsOf } from '../model/record.js';
 import { whenIdle } from './idle.js';
 import { sketchOf } from './library.js';
-import { say } from './messages.js';
+import { mayEdit, say } from './messages.js';
 
 const MOST_KEPT = 5;
 
@@ -23,16 +23,14 @@ export class Fills {
   // rises with each change, so that late answers are dropped
   #turn = 0;
 
-  // `elements` are the box and the list in it; `mayEdit` tells whether a fill can be put into the grid now.
+  // `elements` are the box and the list in it.
   /**
    * @param {import('../model/editor.js').Editor} editor
    * @param {Record<'box' | 'list', HTMLElement>} elements
-   * @param {() => boolean} mayEdit
    */
-  constructor(editor, elements, mayEdit) {
+  constructor(editor, elements) {
     this.#editor = editor;
     this.#elements = elements;
-    this.mayEdit = mayEdit;
     editor.on(['step', 'board'], () => this.#soon());
   }
 
@@ -150,9 +148,19 @@ export class Fills {
 
   /** @param {Fill} fill */
   async #choose(fill) {
-    if (!this.mayEdit()) return;
+    if (!mayEdit(this.#editor)) return;
     this.#editor.change({ edited: null });
     if ((await this.put(fill)) === null) say('this fill is in the grid; undo takes it back', 'good');
+  }
+
+  // Puts letters into the grid in one step, and keeps them. Returns what they are refused for, or null.
+  /** @param {Fill} letters */
+  async use(letters) {
+    if (!mayEdit(this.#editor)) return 'Filling';
+    this.#editor.change({ edited: null });
+    const refused = await this.put(letters);
+    if (!refused) this.add();
+    return refused;
   }
 
   // Puts a fill into the grid, in pencil but for what is in ink: as a step, or within the one that led to a record. Returns what it is refused for, or null;

@@ -1,10 +1,11 @@
 // The grid: its cells, the keys and the mouse.
-import { PALETTE, nameOfColour } from '../model/colours.js';
+import { nameOfColour } from '../model/colours.js';
 import { nearDeadEnd } from '../model/near.js';
 import { placeOf } from '../model/record.js';
 import { NO_REASON, only } from '../model/state.js';
-import { refusalText, refuse, say } from './messages.js';
-import { spokenOf } from './spoken.js';
+import { mayEdit, refusalText, refuse, say } from './messages.js';
+import { askEntry } from './questions.js';
+import { speak, spokenOf } from './spoken.js';
 import { tintClass } from './tints.js';
 import { TypingField } from './typing.js';
 import { titleOf } from './words.js';
@@ -22,37 +23,60 @@ const SMALL = 30;
 // cells with so many letters or more have letters of one size
 const MOST_SIZED = 6;
 
+/** @typedef {import('../model/board.js').Light} Light */
+/** @typedef {import('../engine/told.js').Direction} Direction */
+/** @typedef {import('../model/state.js').Tool} Tool */
+/** @typedef {Record<'classes' | 'letter' | 'number' | 'label', string>} Painted what a cell shows */
+/** @typedef {{ tool: Tool, isOn: boolean, done: Set<number>, at: number, last: Promise<unknown> }} Painting a drag of a tool */
+/** @typedef {{ key: string, shiftKey: boolean, timeStamp?: number }} Key */
+
+/** @type {Record<string, [Direction, number]>} */
 const ARROWS = { ArrowLeft: ['across', -1], ArrowRight: ['across', 1], ArrowUp: ['down', -1], ArrowDown: ['down', 1] };
 
 export class GridView {
   /** @type {import('../model/editor.js').Editor} */
   #editor;
   #root;
+  /** @type {{ root: HTMLElement, number: Text, letter: Text }[]} */
   #cells = [];
   // what each cell shows
+  /** @type {Partial<Painted>[]} */
   #painted = [];
   // what lies over the light of the cursor, over the one that crosses it, and around the light of a reason
   #bands = ['light-band', 'crossing-band', 'reason-band'].map((name) => Object.assign(document.createElement('div'), { className: name }));
   #typing = new TypingField((key) => this.#actionOf({ key, shiftKey: false })?.());
+  // how many columns the cells stand in
+  #width = 0;
   // whether lights without a word wait for blocks, since there are none yet or few
   #isOpenGrid = false;
   // the cells near a dead end; null if all are
+  /** @type {ReadonlySet<number> | null} */
   #near = null;
   // cells whose letters are entered but not shown yet, by index
+  /** @type {Set<number>} */
   #undrawn = new Set();
-  #drawing = null;
+  #drawing = 0;
   // a corner of the rectangle that is being chosen, by index
+  /** @type {number | null} */
   #anchor = null;
+  /** @type {number | null} */
   #far = null;
-  // `block`, `right`, `below`, `circle`, `colour` or `pencil` if a click does more than move, and the colour that it gives
-  /** @type {string | null} */
-  tool = null;
-  colour = PALETTE.yellow;
+  #edits;
+  #room;
 
-  constructor(editor, root, actions) {
+  /**
+   * @param {import('../model/editor.js').Editor} editor
+   * @param {HTMLElement} root
+   * @param {import('./edits.js').Edits} edits
+   */
+  constructor(editor, root, edits) {
     this.#editor = editor;
     this.#root = root;
-    this.actions = actions;
+    this.#edits = edits;
+    editor.takes({
+      toGrid: () => this.focus(), goTo: (light, cell) => this.#goTo(light, cell), enterLetter: (letter) => this.enter(letter), eraseLight: () => this.eraseLight(),
+      toggleBlock: (index) => this.toggleBlock(index),
+    });
     root.addEventListener('keydown', (event) => this.#key(event));
     root.addEventListener('pointerdown', (event) => this.#pointerDown(event));
     root.addEventListener('pointermove', (event) => this.#pointerMove(event));
@@ -62,14 +86,15 @@ export class GridView {
     });
     root.addEventListener('paste', (event) => {
       event.preventDefault();
-      this.paste(event.clipboardData.getData('text'));
+      this.paste(event.clipboardData?.getData('text') ?? '');
     });
     root.append(...this.#bands, this.#typing.element);
     editor.on(['board', 'reason', 'unmatched', 'letters', 'faulty', 'weak', 'ghosts', 'cursor', 'chosen', 'originals'], (transaction) => this.#take(transaction));
     document.addEventListener('paste', (event) => {
-      if (document.activeElement === document.body) this.paste(event.clipboardData.getData('text'));
+      if (document.activeElement === document.body) this.paste(event.clipboardData?.getData('text') ?? '');
     });
-    new ResizeObserver(() => this.#fit()).observe(root.parentElement);
+    this.#room = /** @type {HTMLElement} */ (root.parentElement);
+    new ResizeObserver(() => this.#fit()).observe(this.#room);
   }
 
   // Brings the cursor into sight, in a grid that is larger than its room.
@@ -81,7 +106,7 @@ export class GridView {
   #fit() {
     const { board } = this.#editor;
     if (!board.width) return;
-    const { clientWidth, clientHeight } = this.#root.parentElement;
+    const { clientWidth, clientHeight } = this.#room;
     const margin = clientWidth < NARROW ? 8 : 16;
     const size = Math.floor(Math.min((clientWidth - margin) / board.width, (clientHeight - margin) / board.height, 64));
     this.#root.style.setProperty('--cell', `${Math.max(size, LEAST_CELL)}px`);
@@ -97,18 +122,19 @@ export class GridView {
     this.#isOpenGrid = board.isOpenGrid || (this.#editor.waits && board.isSparse);
     this.#near = nearDeadEnd(this.#editor);
     if (!chosen.size) this.#anchor = this.#far = null;
-    if (this.#cells.length !== board.cells.length || this.width !== board.width) this.#make(board);
+    if (this.#cells.length !== board.cells.length || this.#width !== board.width) this.#make(board);
     for (let index = 0; index < this.#cells.length; index++) this.paint(index);
     this.#fit();
     this.mark();
   }
 
+  /** @param {import('../model/board.js').Board} board */
   #make(board) {
-    this.width = board.width;
-    this.#root.style.setProperty('--columns', board.width);
-    this.#root.style.setProperty('--rows', board.height);
-    this.#root.setAttribute('aria-rowcount', board.height);
-    this.#root.setAttribute('aria-colcount', board.width);
+    this.#width = board.width;
+    this.#root.style.setProperty('--columns', String(board.width));
+    this.#root.style.setProperty('--rows', String(board.height));
+    this.#root.setAttribute('aria-rowcount', String(board.height));
+    this.#root.setAttribute('aria-colcount', String(board.width));
     this.#cells = [];
     this.#painted = [];
     const rows = [];
@@ -123,6 +149,10 @@ export class GridView {
     this.#root.prepend(...rows);
   }
 
+  /**
+   * @param {number} row
+   * @param {number} column
+   */
   #makeCell(row, column) {
     const root = document.createElement('div');
     root.setAttribute('role', 'gridcell');
@@ -140,6 +170,7 @@ export class GridView {
   }
 
   // Shows a cell as the board has it.
+  /** @param {number} index */
   paint(index) {
     const { board, pencil, reason, unmatched, faulty, weak, worst, ghosts } = this.#editor;
     const cell = board.cells[index];
@@ -155,7 +186,7 @@ export class GridView {
     if (reason.cells.has(index)) classes.push('reason');
     if (unmatched.has(index)) classes.push('unmatched');
     if (faulty.has(index) && cell.letter) classes.push('faulty');
-    if (cell.letter) for (const direction of ['across', 'down']) if (weak[direction].has(index)) classes.push(`weak-${direction}`);
+    if (cell.letter) for (const direction of /** @type {const} */ (['across', 'down'])) if (weak[direction].has(index)) classes.push(`weak-${direction}`);
     if (cell.letter && worst.has(index)) classes.push('worst');
     const isOpen = !cell.block && !cell.letter;
     if (isOpen && !cell.left && !this.isBlank) classes.push(this.#isOpenGrid ? 'waiting' : this.#near?.has(index) ?? true ? 'dead' : 'spent');
@@ -169,6 +200,10 @@ export class GridView {
   }
 
   // Writes what differs from what the cell shows.
+  /**
+   * @param {number} index
+   * @param {Painted} now
+   */
   #put(index, now) {
     const { root, number, letter } = this.#cells[index];
     const old = this.#painted[index] ?? { number: '', letter: '' };
@@ -184,6 +219,7 @@ export class GridView {
     return this.#editor.board.entered === 0;
   }
 
+  /** @param {number} index */
   #nameOf(index) {
     const { board } = this.#editor;
     const cell = board.cells[index];
@@ -196,11 +232,15 @@ export class GridView {
     else words.push(`empty, ${cell.left.length} letters are left`);
     if (cell.circle && !cell.block) words.push('circled');
     if (this.#editor.colourOf(cell)) words.push(nameOfColour(this.#editor.colourOf(cell)));
-    const placed = (light) => light.cells.indexOf(index) + 1;
+    const placed = (/** @type {Light} */ light) => light.cells.indexOf(index) + 1;
     words.push(...board.through(index).map((light) => `${titleOf(light)}, letter ${placed(light)} of ${light.cells.length}`));
     return words.join(', ');
   }
 
+  /**
+   * @param {number} index
+   * @param {string[]} classes
+   */
   #marksOf(index, classes) {
     const editor = this.#editor;
     if (index === editor.cursor) classes.push('cursor', editor.direction);
@@ -208,17 +248,19 @@ export class GridView {
     if (this.#isWithin(index)) classes.push('within');
   }
 
-  // the cell where the cursor is shown, by index
+  // whether lights were chosen then, and the cell where the cursor is shown, by index
+  #wasChosen = false;
   #marked = 0;
 
   // Shows where the cursor is. The cells that are painted already have their marks.
+  /** @param {ReadonlySet<number>} painted */
   mark(painted = new Set()) {
     const editor = this.#editor;
     const { board, cursor } = editor;
     const isChosen = editor.chosen.size > 0 || this.#anchor !== null;
-    const cells = isChosen || this.wasChosen ? board.cells.keys() : [this.#marked, cursor];
+    const cells = isChosen || this.#wasChosen ? board.cells.keys() : [this.#marked, cursor];
     for (const index of cells) if (index < this.#cells.length && !painted.has(index)) this.paint(index);
-    this.wasChosen = isChosen;
+    this.#wasChosen = isChosen;
     this.#marked = cursor;
     this.#cover(this.#bands[0], editor.light);
     this.#cover(this.#bands[1], editor.crossing);
@@ -229,6 +271,10 @@ export class GridView {
   }
 
   // Lays a band over a light.
+  /**
+   * @param {HTMLElement} band
+   * @param {Light | null | undefined} light
+   */
   #cover(band, light) {
     band.hidden = !light;
     if (!light) return;
@@ -238,13 +284,19 @@ export class GridView {
   }
 
   // Lays an element over so many columns and rows, from a cell on.
+  /**
+   * @param {HTMLElement} element
+   * @param {number} first
+   * @param {number} columns
+   * @param {number} rows
+   */
   #lay(element, first, columns, rows) {
     const { board } = this.#editor;
     const [column, row] = [board.columnOf(first) - 1, board.rowOf(first) - 1];
     const bounds = [column, row, columns, rows].join();
     if (element.dataset.bounds === bounds) return;
     element.dataset.bounds = bounds;
-    const cells = (count) => `calc(var(--cell) * ${count})`;
+    const cells = (/** @type {number} */ count) => `calc(var(--cell) * ${count})`;
     element.style.transform = `translate(${cells(column)}, ${cells(row)})`;
     element.style.width = cells(columns);
     element.style.height = cells(rows);
@@ -273,12 +325,9 @@ export class GridView {
   // The cells that look other after letters, or after words got marks or lost them.
   /** @param {import('../model/state.js').Transaction} transaction */
   #changedBy({ changes: { letters, faulty, weak, worst, ghosts }, before }) {
-    const pairs = [
-      ...(faulty ? [[faulty, before.faulty]] : []), ...(weak ? [[weak.across, before.weak.across], [weak.down, before.weak.down]] : []),
-      ...(worst ? [[worst, before.worst]] : []),
-    ];
-    const marked = pairs.flatMap(([now, old]) => [...now, ...old].filter((index) => now.has(index) !== old.has(index)));
-    const ghostly = ghosts ? [...ghosts.keys(), ...before.ghosts.keys()] : [];
+    const pairs = [[faulty, before.faulty], [weak?.across, before.weak?.across], [weak?.down, before.weak?.down], [worst, before.worst]];
+    const marked = pairs.flatMap(([now, old]) => (now && old ? [...now, ...old].filter((index) => now.has(index) !== old.has(index)) : []));
+    const ghostly = ghosts ? [...ghosts.keys(), ...(before.ghosts?.keys() ?? [])] : [];
     return new Set([...(letters?.cells ?? []), ...marked, ...ghostly]);
   }
 
@@ -286,15 +335,16 @@ export class GridView {
   #takeNear() {
     const before = this.#near;
     this.#near = nearDeadEnd(this.#editor);
-    const isOther = (index) => (before?.has(index) ?? true) !== (this.#near?.has(index) ?? true);
+    const isOther = (/** @type {number} */ index) => (before?.has(index) ?? true) !== (this.#near?.has(index) ?? true);
     return before || this.#near ? [...this.#editor.board.cells.keys()].filter(isOther) : [];
   }
 
   // Shows a letter that was entered, with the move of the cursor, when the engine answers; or soon, if it has other work.
+  /** @param {number} index */
   #drawSoon(index) {
     this.#undrawn.add(index);
     if (this.#editor.engine.waiting) this.#drawLate();
-    else this.#drawing ??= setTimeout(() => this.#drawLate(), WAIT);
+    else this.#drawing ||= window.setTimeout(() => this.#drawLate(), WAIT);
   }
 
   #drawLate() {
@@ -306,7 +356,7 @@ export class GridView {
   // The cells whose letters are entered and not shown yet, which are to be painted now.
   #takeUndrawn() {
     clearTimeout(this.#drawing);
-    this.#drawing = null;
+    this.#drawing = 0;
     const undrawn = [...this.#undrawn];
     this.#undrawn.clear();
     if (undrawn.length) mark('letter drawn');
@@ -318,6 +368,7 @@ export class GridView {
   }
 
   // Enters a letter at the cursor, as its key does.
+  /** @param {string} letter */
   enter(letter) {
     this.#letter(letter);
     this.focus();
@@ -325,6 +376,7 @@ export class GridView {
 
   // The keys.
 
+  /** @param {KeyboardEvent} event */
   #key(event) {
     if (event.ctrlKey || event.metaKey || event.altKey) return;
     // after Escape, Tab goes on to what is beside the grid
@@ -350,12 +402,13 @@ export class GridView {
   }
 
   // Enters the letters of a text from the cursor on, as far as the light goes.
+  /** @param {string} text */
   async paste(text) {
     const editor = this.#editor;
     const { light, board, cursor } = editor;
     const letters = text.normalize('NFD').replace(/[^A-Za-z]/g, '').toUpperCase();
     if (!letters) return refuse('there is no letter to paste');
-    if (!light || !this.actions.mayEdit()) return undefined;
+    if (!light || !mayEdit(this.#editor)) return undefined;
     const isWhole = letters.length === light.cells.length;
     const cells = isWhole ? light.cells : light.cells.slice(light.cells.indexOf(cursor));
     if (letters.length > cells.length) return refuse(`${letters} is too long: there are ${cells.length} cells from the cursor on`);
@@ -365,15 +418,20 @@ export class GridView {
     return this.#send(changed.map((cell, at) => `set ${cell} ${letters[at]}`), { pencil });
   }
 
+  /**
+   * @param {Key} event
+   * @returns {(() => unknown) | undefined}
+   */
   #actionOf(event) {
     const { key, shiftKey } = event;
     if (ARROWS[key]) return () => (shiftKey ? this.#extend(...ARROWS[key]) : this.#arrow(...ARROWS[key]));
     if (/^[a-zA-Z]$/.test(key)) return () => this.#letter(key.toUpperCase(), event.timeStamp);
+    /** @type {Record<string, () => unknown>} */
     const keys = {
       Tab: () => this.#nextLight(shiftKey ? -1 : 1),
       Enter: () => (shiftKey ? this.#choose() : this.turn()),
       ' ': () => this.#clear(1),
-      Insert: () => this.actions.askEntry(this.#editor.cursor),
+      Insert: () => this.#enterSeveral(this.#editor.cursor),
       Backspace: () => (shiftKey ? this.eraseLight() : this.#backspace()),
       Delete: () => (shiftKey ? this.eraseLight() : this.#clear(0)),
       Home: () => this.#toEnd(0),
@@ -386,12 +444,16 @@ export class GridView {
       '#': () => this.toggleColour(this.#editor.cursor),
       '=': () => this.togglePencil([this.#editor.cursor]),
       '+': () => this.togglePencil(this.#editor.light?.cells ?? []),
-      '?': () => this.actions.why(),
-      '/': () => this.actions.filter(),
+      '?': () => this.#explain(),
+      '/': () => this.#editor.do('toField', 'words', 'filter'),
     };
     return keys[key];
   }
 
+  /**
+   * @param {Direction} direction
+   * @param {number} step
+   */
   #arrow(direction, step) {
     const editor = this.#editor;
     this.#unchoose();
@@ -402,6 +464,11 @@ export class GridView {
   }
 
   // The neighbour of a cell, or -1.
+  /**
+   * @param {number} index
+   * @param {Direction} direction
+   * @param {number} step
+   */
   #beside(index, direction, step) {
     const { board } = this.#editor;
     if (direction === 'down') {
@@ -413,6 +480,7 @@ export class GridView {
   }
 
   // The place beside the cursor in its light; at the end of the light the cursor's own.
+  /** @param {number} step */
   #beyond(step) {
     const editor = this.#editor;
     const { cursor, direction, light, board } = editor;
@@ -423,11 +491,15 @@ export class GridView {
 
   // Enters a letter, which is on the board at once, and goes to the engine before anything is drawn. If it is refused, the session puts the
   // board back.
-  #letter(letter, typedAt) {
+  /**
+   * @param {string} letter
+   * @param {number} typedAt
+   */
+  #letter(letter, typedAt = 0) {
     const editor = this.#editor;
     const cell = editor.board.cells[editor.cursor];
     if (cell.block) return refuse(refusalText('OnBlock'));
-    if (!this.actions.mayEdit()) return;
+    if (!mayEdit(this.#editor)) return;
     if (cell.letter && this.#ended === this.#place) return refuse('the light ends here: Tab goes on, Backspace takes the letter back');
     const index = editor.cursor;
     const to = this.#beyond(1);
@@ -443,10 +515,15 @@ export class GridView {
     });
   }
 
+  /**
+   * @param {string[]} lines
+   * @param {Parameters<import('./edits.js').Edits['edit']>[1]} options
+   */
   #send(lines, options = {}) {
-    return this.actions.edit(lines, options);
+    return this.#edits.edit(lines, options);
   }
 
+  /** @param {number} step */
   #clear(step) {
     const editor = this.#editor;
     this.#ended = '';
@@ -456,13 +533,14 @@ export class GridView {
       if (step) this.#stepFreely(step);
       return;
     }
-    if (!this.actions.mayEdit()) return;
+    if (!mayEdit(this.#editor)) return;
     const to = this.#beyond(step);
     this.#send([`clear ${cell.coordinates}`], { isWhole: false, to });
     editor.enter(index, '', to);
     this.#drawSoon(index);
   }
 
+  /** @param {number} step */
   #stepFreely(step) {
     const next = this.#beside(this.#editor.cursor, this.#editor.direction, step);
     if (next >= 0) this.#editor.moveTo(next);
@@ -483,9 +561,10 @@ export class GridView {
     await this.#send([`erase ${light.name}`]);
   }
 
+  /** @param {number} at */
   #toEnd(at) {
     const cells = this.#editor.light?.cells;
-    if (cells) this.#editor.moveTo(cells.at(at));
+    if (cells) this.#editor.moveTo(cells[at < 0 ? cells.length + at : at]);
   }
 
   // Turns to the other light of the cell, which is spoken: the cell that has the focus stays.
@@ -494,15 +573,17 @@ export class GridView {
     const other = editor.direction === 'across' ? 'down' : 'across';
     if (!editor.board.cells[editor.cursor][other]) return;
     editor.moveTo(editor.cursor, other);
-    this.actions.speak(spokenOf(editor.light, editor.answerParts(editor.light)));
+    const { light } = editor;
+    if (light) speak(spokenOf(light, editor.answerParts(light)));
   }
 
+  /** @param {number} step */
   #nextLight(step) {
     const editor = this.#editor;
     const { lights } = editor.board;
     if (!lights.length) return;
     const order = [...lights.filter((light) => light.direction === 'across'), ...lights.filter((light) => light.direction === 'down')];
-    const at = order.indexOf(editor.light);
+    const at = editor.light ? order.indexOf(editor.light) : -1;
     const light = at < 0 ? order[0] : order[(at + step + order.length) % order.length];
     const empty = light.cells.find((index) => !editor.board.cells[index].letter);
     editor.moveTo(empty ?? light.cells[0], light.direction);
@@ -511,12 +592,38 @@ export class GridView {
   #escape() {
     this.#unchoose();
     if (this.#editor.reason.light) this.#editor.change({ reason: NO_REASON });
-    this.tool = null;
-    this.actions.escape();
+    this.#editor.do('stopFill');
+    this.#editor.change({ tool: null });
+  }
+
+  #explain() {
+    return this.#editor.do('explainDeadEnd').catch(() => {});
+  }
+
+  /**
+   * @param {Light} light
+   * @param {number} cell
+   */
+  #goTo(light, cell = light.cells[0]) {
+    this.#editor.moveTo(cell, light.direction);
+    this.focus();
+  }
+
+  // Asks for the letters of a cell, which may be several.
+  /** @param {number} index */
+  async #enterSeveral(index) {
+    const cell = this.#editor.board.cells[index];
+    if (cell.block || !mayEdit(this.#editor)) return;
+    const typed = await askEntry(this.#editor.entryOf(cell));
+    if (typed !== null) await this.#edits.enter(index, typed);
   }
 
   // Blocks, bars, circles, pencil.
 
+  /**
+   * @param {number} index
+   * @param {{ isTyped?: boolean, stroke?: object | null }} how
+   */
   async toggleBlock(index, { isTyped = false, stroke = null } = {}) {
     const editor = this.#editor;
     const { board } = editor;
@@ -536,6 +643,11 @@ export class GridView {
   }
 
   // Puts a block where letters are in its way. Those in pencil give way; one in ink is named.
+  /**
+   * @param {number} index
+   * @param {string} block
+   * @param {object | null} stroke
+   */
   async #blockOver(index, block, stroke) {
     const editor = this.#editor;
     const images = (await editor.orbit(index)).filter((cell) => cell.letter);
@@ -549,25 +661,43 @@ export class GridView {
   // the cell with a letter in ink that a block is asked for, by index
   #blocking = -1;
 
+  /**
+   * @param {number} index
+   * @param {string} side
+   * @param {object | null} stroke
+   */
   toggleBar(index, side, stroke = null) {
     return this.#send([`bar ${this.#editor.board.cells[index].coordinates} ${side}`], { stroke });
   }
 
+  /**
+   * @param {number} index
+   * @param {object | null} stroke
+   */
   toggleCircle(index, stroke = null) {
     return this.#send([`circle ${this.#editor.board.cells[index].coordinates}`], { stroke });
   }
 
   // Gives a cell the colour of the tool, or takes it away.
+  /**
+   * @param {number} index
+   * @param {object | null} stroke
+   */
   toggleColour(index, stroke = null) {
     const cell = this.#editor.board.cells[index];
     if (cell.block) return refuse(refusalText('OnBlock'));
-    return this.actions.colour(index, this.#editor.colourOf(cell) === this.colour ? '' : this.colour, stroke);
+    const { colour } = this.#editor;
+    return this.#edits.colour(index, this.#editor.colourOf(cell) === colour ? '' : colour, stroke);
   }
 
   // Letters in pencil are changed by another fill; the others are locked.
+  /**
+   * @param {readonly number[]} indices
+   * @param {object | null} stroke
+   */
   async togglePencil(indices, stroke = null) {
     const editor = this.#editor;
-    if (!this.actions.mayEdit()) return;
+    if (!mayEdit(this.#editor)) return;
     const entered = indices.map((index) => editor.board.cells[index]).filter((cell) => cell.letter).map((cell) => cell.coordinates);
     if (!entered.length) return refuse('there is no letter to lock');
     const pencil = new Set(editor.pencil);
@@ -582,14 +712,19 @@ export class GridView {
 
   // The lights to fill.
 
+  /** @param {number} index */
   #isWithin(index) {
     if (this.#anchor === null || this.#far === null) return false;
     const { board } = this.#editor;
-    const between = (value, one, other) => value >= Math.min(one, other) && value <= Math.max(one, other);
+    const between = (/** @type {number} */ value, /** @type {number} */ one, /** @type {number} */ other) => value >= Math.min(one, other) && value <= Math.max(one, other);
     return between(board.rowOf(index), board.rowOf(this.#anchor), board.rowOf(this.#far)) &&
       between(board.columnOf(index), board.columnOf(this.#anchor), board.columnOf(this.#far));
   }
 
+  /**
+   * @param {Direction} direction
+   * @param {number} step
+   */
   #extend(direction, step) {
     const editor = this.#editor;
     this.#anchor ??= editor.cursor;
@@ -602,7 +737,7 @@ export class GridView {
 
   // Chooses the lights that have at least half of their cells in the rectangle.
   #chooseWithin() {
-    const isWithin = ({ cells }) => 2 * cells.filter((index) => this.#isWithin(index)).length >= cells.length;
+    const isWithin = (/** @type {Light} */ { cells }) => 2 * cells.filter((index) => this.#isWithin(index)).length >= cells.length;
     const { board } = this.#editor;
     this.#editor.change({ chosen: new Set(board.lights.filter(isWithin).map(({ name }) => name)) });
   }
@@ -622,18 +757,21 @@ export class GridView {
 
   // The mouse.
 
+  /** @param {PointerEvent} event */
   #indexOf(event) {
     const element = /** @type {HTMLElement | undefined} */ (document.elementFromPoint(event.clientX, event.clientY)?.closest('.cell'));
     return element && this.#root.contains(element) ? Number(element.dataset.index) : -1;
   }
 
+  /** @param {PointerEvent} event */
   #pointerDown(event) {
     const index = this.#indexOf(event);
     if (index < 0 || event.button !== 0) return;
     event.preventDefault();
     if (event.pointerType !== 'touch') this.#root.focus({ preventScroll: true });
-    if (this.tool) {
-      this.#painting = { tool: this.tool, isOn: !this.#hasTool(index, this.tool), done: new Set([index]), at: index, last: Promise.resolve() };
+    const { tool } = this.#editor;
+    if (tool) {
+      this.#painting = { tool, isOn: !this.#hasTool(index, tool), done: new Set([index]), at: index, last: Promise.resolve() };
       this.#painting.last = this.#useTool(index, this.#painting);
       return this.#painting.last;
     }
@@ -649,26 +787,33 @@ export class GridView {
     // the first tap only brings up the keyboard
     if (!isSame) editor.moveTo(index);
     else if (event.pointerType !== 'touch' || this.#typing.isActive) this.turn();
-    if (wasDead) this.actions.why();
+    if (wasDead) this.#explain();
   }
 
+  /** @type {number | null} */
   #pressed = null;
 
   // while a tool is dragged: which one, whether it sets or takes away, and the cells that it was on
+  /** @type {Painting | null} */
   #painting = null;
 
   // Whether a cell has what the tool makes.
+  /**
+   * @param {number} index
+   * @param {Tool} tool
+   */
   #hasTool(index, tool) {
     const { board, pencil } = this.#editor;
     const cell = board.cells[index];
-    if (tool === 'colour') return this.#editor.colourOf(cell) === this.colour;
-    return tool === 'pencil' ? !pencil.has(cell.coordinates) : cell[tool];
+    if (tool === 'colour') return this.#editor.colourOf(cell) === this.#editor.colour;
+    return tool === 'pencil' ? !pencil.has(cell.coordinates) : Boolean(cell[tool]);
   }
 
   // Paints from the last cell of the drag to this one.
+  /** @param {number} index */
   #paint(index) {
     const painting = this.#painting;
-    if (index < 0 || index === painting.at) return;
+    if (!painting || index < 0 || index === painting.at) return;
     for (const cell of this.#between(painting.at, index)) {
       if (painting.done.has(cell)) continue;
       painting.done.add(cell);
@@ -678,12 +823,20 @@ export class GridView {
   }
 
   // What an image of an earlier cell has made already stays.
+  /**
+   * @param {number} index
+   * @param {Painting} painting
+   */
   #paintCell(index, painting) {
     if (this.#hasTool(index, painting.tool) === painting.isOn) return null;
     return painting.tool !== 'pencil' || this.#editor.board.cells[index].letter ? this.#useTool(index, painting) : null;
   }
 
   // The cells on a line from one cell, which is left out, to another: a fast drag skips some.
+  /**
+   * @param {number} from
+   * @param {number} to
+   */
   #between(from, to) {
     const { board } = this.#editor;
     const [row, column] = [board.rowOf(from), board.columnOf(from)];
@@ -692,6 +845,7 @@ export class GridView {
     return Array.from({ length: steps }, (_, at) => board.index(row + Math.round((down * (at + 1)) / steps), column + Math.round((right * (at + 1)) / steps)));
   }
 
+  /** @param {PointerEvent} event */
   #pointerMove(event) {
     if (this.#painting && event.buttons & 1) return this.#paint(this.#indexOf(event));
     if (this.#pressed === null || !(event.buttons & 1)) return;
@@ -704,6 +858,7 @@ export class GridView {
   }
 
   // A tap brings up the keyboard of the screen.
+  /** @param {PointerEvent} event */
   #pointerUp(event) {
     // the last moves of a fast drag may not be told
     if (this.#painting) this.#paint(this.#indexOf(event));
@@ -716,7 +871,11 @@ export class GridView {
   }
 
   // What is painted in one stroke is undone as one, also by a tool that is put away meanwhile.
-  #useTool(index, stroke) {
+  /**
+   * @param {number} index
+   * @param {Painting} stroke
+   */
+  async #useTool(index, stroke) {
     this.#editor.moveTo(index);
     const tools = {
       block: () => this.toggleBlock(index, { stroke }),
@@ -731,6 +890,10 @@ export class GridView {
 }
 
 // Marks a moment for whoever measures the page. Nothing of it is kept.
+/**
+ * @param {string} name
+ * @param {PerformanceMarkOptions} options
+ */
 function mark(name, options = {}) {
   performance.mark(name, options);
   performance.clearMarks(name);
@@ -738,4 +901,4 @@ function mark(name, options = {}) {
 
 // How strongly a cell is shaded that has this many letters left, of 26: from 0 to 8.
 const DEEPEST = 10;
-const shadeOf = (left) => Math.round(DEEPEST * (1 - Math.log(left) / Math.log(26)));
+const shadeOf = (/** @type {number} */ left) => Math.round(DEEPEST * (1 - Math.log(left) / Math.log(26)));

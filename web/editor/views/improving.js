@@ -20,6 +20,7 @@ export function progressText({ least, bound, isPart, seconds }, { worst, best })
 }
 
 export class ImprovingView {
+  #editor;
   #elements;
 
   // `elements` are the row, the button and the text. Words without scores have no better fills.
@@ -28,14 +29,16 @@ export class ImprovingView {
    * @param {Record<'row' | 'button' | 'told', HTMLElement>} elements
    */
   constructor(editor, elements) {
+    this.#editor = editor;
     this.#elements = elements;
+    editor.on(['fill'], () => this.#show());
     editor.on(['list'], () => put(elements.row, 'hidden', !editor.list.scored));
   }
 
-  /** @param {boolean} isImproving */
-  show(isImproving, text = '') {
+  #show() {
+    const { isImproving, progress } = this.#editor.fill;
     const { button, told } = this.#elements;
     button.setAttribute('aria-pressed', String(isImproving));
-    put(told, 'textContent', isImproving ? termed(text) : '');
+    put(told, 'textContent', isImproving ? termed(progress?.text ?? '') : '');
   }
 }

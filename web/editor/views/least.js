@@ -1,6 +1,7 @@
 // The least score of a word, as a slider beside the candidates with what it leaves, and the score below which words are marked.
 import { wordCount } from '../formats/word-list.js';
 import { gradeOf, scoreOf } from '../model/grades.js';
+import { mayEdit } from './messages.js';
 
 // How many words of the lists in use a least grade leaves.
 /**
@@ -21,13 +22,12 @@ export class LeastView {
   // whether the slider is moved by a pointer, after which letters go to the grid again
   #isPointed = false;
 
-  // `actions`: `mayChange` tells whether the words can change now, `use` has the engine take a least score, `kept` is told of the one that is chosen,
-  // `chosen` of another score to mark words below, of words that are to be apart and of the score at which a raising ends, `threes` of a least score for words of three letters, and `toGrid`
-  // goes back to the grid.
+  // `actions`: `use` has the engine take a least score, `kept` is told of the one that is chosen, `chosen` of another score to mark words below, of words that
+  // are to be apart and of the score at which a raising ends, and `threes` of a least score for words of three letters.
   /**
    * @param {import('../model/editor.js').Editor} editor
    * @param {{ row: HTMLDetailsElement, told: HTMLElement, shown: HTMLElement, left: HTMLElement } & Record<'slider' | 'weak' | 'threes' | 'apart' | 'target', HTMLInputElement>} elements
-   * @param {{ mayChange: () => boolean, use: (least: number) => Promise<void>, kept: () => void, chosen: (changed: { weak?: number, apart?: boolean, target?: number | null }) => void, threes: (least: number) => void, toGrid: () => void }} actions
+   * @param {{ use: (least: number) => Promise<void>, kept: () => void, chosen: (changed: { weak?: number, apart?: boolean, target?: number | null }) => void, threes: (least: number) => void }} actions
    */
   constructor(editor, elements, actions) {
     this.#editor = editor;
@@ -48,7 +48,7 @@ export class LeastView {
     slider.addEventListener('change', () => this.#chosen());
     const take = (/** @type {HTMLInputElement} */ field, /** @type {(score: number) => void} */ action) => field.addEventListener('change', () => (field.value && Number(field.value) >= 0 ? action(Number(field.value)) : this.show()));
     take(weak, (score) => actions.chosen({ weak: score }));
-    take(threes, (score) => (actions.mayChange() ? actions.threes(score) : this.show()));
+    take(threes, (score) => (mayEdit(editor) ? actions.threes(score) : this.show()));
     apart.addEventListener('change', () => actions.chosen({ apart: apart.checked }));
     target.addEventListener('change', () => (Number(target.value) >= 0 ? actions.chosen({ target: target.value ? Number(target.value) : null }) : this.show()));
   }
@@ -82,7 +82,7 @@ export class LeastView {
   }
 
   #move() {
-    if (!this.actions.mayChange()) return this.show();
+    if (!mayEdit(this.#editor)) return this.show();
     this.#wanted = Number(this.#elements.slider.value);
     this.#showLeft(this.#wanted);
     return this.#take();
@@ -108,12 +108,12 @@ export class LeastView {
   async #chosen() {
     const isPointed = this.#isPointed;
     this.#isPointed = false;
-    if (this.actions.mayChange()) {
+    if (mayEdit(this.#editor)) {
       this.#wanted = Number(this.#elements.slider.value);
       await this.#take();
       this.actions.kept();
     }
     this.show();
-    if (isPointed) this.actions.toGrid();
+    if (isPointed) this.#editor.do('toGrid');
   }
 }

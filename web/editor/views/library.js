@@ -2,19 +2,31 @@
 import { parseRecord, placeOf, unescapeText } from '../model/record.js';
 import { versionsOf, whyNotKept } from '../store/keep.js';
 import { openDialog } from './dialogs.js';
-import { svgElement } from './page.js';
+import { unforeseen } from './messages.js';
+import { first, svgElement } from './page.js';
+
+/** @typedef {import('../store/keep.js').Session} Session */
+/** @typedef {Awaited<ReturnType<import('../store/shelf.js').Shelf['puzzles']>>[number]} Entry */
+/** @typedef {import('../model/record.js').Said} Said */
 
 export class LibraryView {
   #dialog;
   #list;
   #shelf;
+  /** @type {import('../model/editor.js').Editor} */
+  #editor;
 
-  // `open` opens a session; `isVersion` tells whether it is an earlier one of its puzzle.
-  constructor(dialog, list, shelf, open) {
+  /**
+   * @param {import('../model/editor.js').Editor} editor
+   * @param {HTMLDialogElement} dialog
+   * @param {HTMLElement} list
+   * @param {import('../store/shelf.js').Shelf} shelf
+   */
+  constructor(editor, dialog, list, shelf) {
+    this.#editor = editor;
     this.#dialog = dialog;
     this.#list = list;
     this.#shelf = shelf;
-    this.open = open;
   }
 
   async show() {
@@ -33,9 +45,10 @@ export class LibraryView {
     }
   }
 
+  /** @param {Entry} entry */
   #entry(entry) {
     const { isHere, isElsewhere } = entry;
-    const note = (isHere && 'open here') || (isElsewhere && 'open in another tab');
+    const note = (isHere && 'open here') || (isElsewhere && 'open in another tab') || '';
     const deleting = puzzleButton('delete', 'Delete', () => this.#change(() => this.#shelf.setDeleted(entry, true)));
     deleting.disabled = isHere || isElsewhere;
     const versions = puzzleButton('versions', 'Versions', () => this.#showVersions(entry));
@@ -43,6 +56,7 @@ export class LibraryView {
   }
 
   // Puzzles that were deleted, which stay until they are destroyed.
+  /** @param {Entry[]} entries */
   #bin(entries) {
     const bin = document.createElement('details');
     bin.className = 'bin';
@@ -56,24 +70,36 @@ export class LibraryView {
     return bin;
   }
 
+  /** @param {() => Promise<unknown>} action */
   async #change(action) {
     await action();
     await this.#showPuzzles();
-    this.#dialog.querySelector('.pattern, [value=close]').focus();
+    first('.pattern, [value=close]', this.#dialog).focus();
   }
 
+  /** @param {Entry} entry */
   async #openLatest(entry) {
     this.#dialog.close();
-    if (!entry.isHere) this.open((await this.#shelf.latest(entry.puzzle)) ?? entry, false);
+    if (!entry.isHere) this.#open((await this.#shelf.latest(entry.puzzle)) ?? entry, false);
   }
 
+  // Opens a session; `isVersion` tells whether it is an earlier one of its puzzle.
+  /**
+   * @param {Session} session
+   * @param {boolean} isVersion
+   */
+  #open(session, isVersion) {
+    this.#editor.do('reopen', session, isVersion).catch(unforeseen);
+  }
+
+  /** @param {Entry} entry */
   async #showVersions(entry) {
     const versions = (await versionsOf(entry.puzzle)).reverse();
     const back = puzzleButton('back', '← All puzzles', () => this.#showPuzzles());
     const cards = versions.map((version) => this.#card(version, {
       open: () => {
         this.#dialog.close();
-        this.open(version, true);
+        this.#open(version, true);
       },
       buttons: [],
     }));
@@ -83,6 +109,10 @@ export class LibraryView {
   }
 
   // A picture of a session with its title and facts, which opens it, and buttons below.
+  /**
+   * @param {Session} session
+   * @param {{ note?: string, open?: (() => void) | null, buttons: HTMLElement[] }} given
+   */
   #card(session, { note = '', open = null, buttons }) {
     const card = document.createElement('div');
     card.className = 'card';
@@ -100,6 +130,7 @@ export class LibraryView {
   }
 }
 
+/** @param {HTMLElement[]} cards */
 function gallery(cards) {
   const made = document.createElement('div');
   made.className = 'patterns';
@@ -107,14 +138,23 @@ function gallery(cards) {
   return made;
 }
 
-const paragraph = (text) => Object.assign(document.createElement('p'), { textContent: text });
+const paragraph = (/** @type {string} */ text) => Object.assign(document.createElement('p'), { textContent: text });
 
+/**
+ * @param {string} className
+ * @param {string} text
+ * @param {(() => unknown) | null} action
+ */
 function puzzleButton(className, text, action) {
   return Object.assign(document.createElement('button'), { type: 'button', className, textContent: text, onclick: action });
 }
 
-const titleOfState = ({ texts, width, height }) => unescapeText(texts.get('title') ?? '').trim() || `${width} × ${height}`;
+const titleOfState = (/** @type {Said} */ { texts, width, height }) => unescapeText(texts.get('title') ?? '').trim() || `${width} × ${height}`;
 
+/**
+ * @param {Said} said
+ * @param {Session} session
+ */
 function factsOf({ letters, texts }, { at }) {
   const clues = [...texts].filter(([field, text]) => text && field.startsWith('clue ')).length;
   const count = `${letters.size} ${letters.size === 1 ? 'letter' : 'letters'}${clues ? `, ${clues} ${clues === 1 ? 'clue' : 'clues'}` : ''}`;
@@ -127,14 +167,20 @@ function factsOf({ letters, texts }, { at }) {
 const MOST_DRAWN = 1000;
 
 // A small picture of a grid with its letters. Those of `marked` cells are marked, `dead` cells are shaded, and `held` cells are tinted.
+/**
+ * @param {Pick<Said, 'width' | 'height' | 'blocks' | 'bars' | 'letters'>} grid
+ * @param {ReadonlySet<string>} marked
+ * @param {ReadonlySet<string>} dead
+ * @param {ReadonlySet<string>} held
+ */
 export function sketchOf({ width, height, blocks, bars, letters }, marked = new Set(), dead = new Set(), held = new Set()) {
   const svg = svgElement('svg', { viewBox: `0 0 ${width} ${height}`, 'aria-hidden': 'true' });
-  const square = ([row, column]) => `M${column - 1} ${row - 1}h1v1h-1z`;
-  const squares = (cells) => [...cells].map((cell) => square(placeOf(cell))).join('');
+  const square = (/** @type {[number, number]} */ [row, column]) => `M${column - 1} ${row - 1}h1v1h-1z`;
+  const squares = (/** @type {Iterable<string>} */ cells) => [...cells].map((cell) => square(placeOf(cell))).join('');
   if (dead.size) svg.append(svgElement('path', { class: 'dead', d: squares(dead) }));
   if (held.size) svg.append(svgElement('path', { class: 'held', d: squares(held) }));
   svg.append(svgElement('path', { d: squares(blocks) }));
-  const line = ([row, column, side]) => (side === 'right' ? `M${column} ${row - 1}v1` : `M${column - 1} ${row}h1`);
+  const line = (/** @type {string[]} */ [row, column, side]) => (side === 'right' ? `M${column} ${Number(row) - 1}v1` : `M${Number(column) - 1} ${row}h1`);
   const lines = [...Array.from({ length: width - 1 }, (_, at) => `M${at + 1} 0v${height}`), ...Array.from({ length: height - 1 }, (_, at) => `M0 ${at + 1}h${width}`)];
   svg.append(svgElement('path', { class: 'lines', d: lines.join('') }));
   if (bars.size) svg.append(svgElement('path', { class: 'bars', d: [...bars].map((bar) => line(bar.split(' '))).join('') }));

@@ -11,6 +11,7 @@ const MOST_SHOWN = 40;
 /** @typedef {import('../formats/list-form.js').Form} Form */
 
 export class ListDialog {
+  #editor;
   #elements;
   // rises with each question, so that late answers are dropped; and the last question
   #turn = 0;
@@ -20,14 +21,13 @@ export class ListDialog {
   /** @type {Form} */
   #form = PLAIN;
 
-  // `look` promises the preview of a list, with what is chosen of its form.
   /**
+   * @param {import('../model/editor.js').Editor} editor
    * @param {{ dialog: HTMLDialogElement } & Record<'separator' | 'word' | 'score' | 'scale', HTMLSelectElement> & Record<'told' | 'scaleRow' | 'lines' | 'left', HTMLElement>} elements
-   * @param {(bytes: Uint8Array, chosen: Partial<Form>) => Promise<import('../formats/list-preview.js').Preview>} look
    */
-  constructor(elements, look) {
+  constructor(editor, elements) {
+    this.#editor = editor;
     this.#elements = elements;
-    this.look = look;
     const { separator, word, score, scale } = elements;
     separator.addEventListener('change', () => this.#choose({ separator: separator.value }));
     word.addEventListener('change', () => this.#choose(withColumn(this.#form, 'word', Number(word.value))));
@@ -61,7 +61,7 @@ export class ListDialog {
   async #ask(chosen) {
     const turn = ++this.#turn;
     this.#elements.told.setAttribute('aria-busy', 'true');
-    const preview = await this.look(this.#bytes, chosen);
+    const preview = await this.#editor.engine.call('lookAtList', { bytes: this.#bytes, chosen });
     if (turn !== this.#turn) return;
     this.#elements.told.setAttribute('aria-busy', 'false');
     this.#show(preview);

@@ -5,7 +5,7 @@ import { whyNotKept } from '../store/keep.js';
 import { Lists } from '../store/lists.js';
 import { LeastView, leftOf } from './least.js';
 import { ListsView } from './lists-view.js';
-import { endWarning, refusalText, refuseAsIs, say, sayAsIs, warn } from './messages.js';
+import { endWarning, mayEdit, refusalText, refuseAsIs, say, sayAsIs, unforeseen, warn } from './messages.js';
 import { $ } from './page.js';
 import { RescoreDialog } from './rescore-dialog.js';
 
@@ -29,21 +29,22 @@ export class ListsInUse {
   #view;
   #aside;
 
-  // `actions`: `mayEdit`, `stop` ends a fill, `soon` looks for dead ends, `shown` is told when other lists are shown, `toGrid`, `save` saves a text,
-  // `makeWorker` makes a worker, `unforeseen` takes what fails, `kept` is told what takes a text back that Esc keeps.
   /**
    * @param {import('../model/editor.js').Editor} editor
-   * @param {{ mayEdit: () => boolean, stop: () => void, soon: () => void, shown: () => void, toGrid: () => void, save: (text: string, name: string) => void, makeWorker: () => Worker, unforeseen: (error: Error) => void, kept: (takeBack: () => Promise<unknown>) => void }} actions
+   * @param {import('./leaving.js').Leaving} leaving
+   * @param {() => Worker} makeWorker
    */
-  constructor(editor, actions) {
+  constructor(editor, leaving, makeWorker) {
     this.#editor = editor;
-    this.actions = actions;
+    editor.takes({
+      changeLists: (changed, name) => this.change(changed, name), regrade: (word, score) => this.#regrade(word, score), keepWord: (word, isHidden) => this.#keepWord(word, isHidden),
+      enumerations: (words) => this.#enumerations(words),
+    });
     this.#least = new LeastView(
       editor,
       { row: $('least-row'), told: $('least-told'), slider: $('least'), shown: $('least-shown'), left: $('least-left'), weak: $('weak'), threes: $('threes'), apart: $('apart'), target: $('target') },
       {
-        mayChange: actions.mayEdit, use: (least) => this.#useLeast(least), kept: () => this.#keepLeast(), chosen: (chosen) => this.#choose(chosen),
-        threes: (score) => this.#useThrees(score), toGrid: actions.toGrid,
+        use: (least) => this.#useLeast(least), kept: () => this.#keepLeast(), chosen: (chosen) => this.#choose(chosen), threes: (score) => this.#useThrees(score),
       },
     );
     const rescoring = new RescoreDialog(
@@ -51,10 +52,10 @@ export class ListsInUse {
         dialog: $('rescore-dialog'), title: $('rescore-title'), kind: $('rescore-kind'), text: $('rescore-text'), how: $('rescore-how'), value: $('rescore-value'),
         preview: $('rescore-preview'), stop: $('rescore-stop'), told: $('rescore-told'), changes: $('rescore-changes'), take: $('rescore-take'), back: $('rescore-back'),
       },
-      actions.makeWorker,
+      makeWorker,
       (name, rescored) => this.#foreseen(this.change((now) => now.rescoring(name, rescored))),
     );
-    this.#aside = new Aside(actions.makeWorker);
+    this.#aside = new Aside(makeWorker);
     this.#view = new ListsView(
       {
         list: $('lists'), undo: $('lists-undo'), summary: $('personal-summary'), edit: $('personal-edit'), export: $('personal-export'), dialog: $('personal-dialog'),
@@ -62,7 +63,7 @@ export class ListsInUse {
       },
       {
         change: (changed) => this.#foreseen(this.change(changed)), undo: () => this.#foreseen(this.#undo()),
-        export: (text) => actions.save(text, 'my-words.txt'), kept: actions.kept, exportList: (part) => this.#export(part).catch(actions.unforeseen),
+        export: (text) => editor.do('saveText', text, 'my-words.txt'), kept: (takeBack) => leaving.kept(takeBack), exportList: (part) => this.#export(part).catch(unforeseen),
         rescore: (part) => rescoring.open(part),
       },
     );
@@ -72,7 +73,7 @@ export class ListsInUse {
   /** @param {Promise<boolean>} changed */
   #foreseen(changed) {
     return changed.catch((fault) => {
-      this.actions.unforeseen(fault);
+      unforeseen(fault);
       return false;
     });
   }
@@ -81,7 +82,7 @@ export class ListsInUse {
   /** @param {import('../store/lists.js').Part} part */
   async #export(part) {
     const text = await this.#aside.ask('linesOfList', part);
-    if (text !== null) this.actions.save(text, `${part.name.replace(/\.\w+$/, '')}.txt`);
+    if (text !== null) this.#editor.do('saveText', text, `${part.name.replace(/\.\w+$/, '')}.txt`);
   }
 
   // Takes over the lists that the browser keeps, or those that the editor began with.
@@ -134,7 +135,7 @@ export class ListsInUse {
    * @param {string} word
    * @param {boolean} isHidden
    */
-  keepWord(word, isHidden) {
+  #keepWord(word, isHidden) {
     const line = `${isHidden ? '-' : ''}${word}`;
     return this.change((now) => now.withPersonal([now.personal.trimEnd(), line].filter(Boolean).join('\n')));
   }
@@ -144,8 +145,8 @@ export class ListsInUse {
    * @param {string} word
    * @param {number} score
    */
-  regrade(word, score) {
-    if (!this.actions.mayEdit()) return Promise.resolve(false);
+  #regrade(word, score) {
+    if (!mayEdit(this.#editor)) return Promise.resolve(false);
     this.#regraded.set(word, score);
     const said = `${word} has the score ${score} in My words`;
     sayAsIs(said, 'good');
@@ -161,7 +162,7 @@ export class ListsInUse {
    * @param {string[]} words
    * @returns {Promise<Map<string, string>>}
    */
-  async enumerations(words) {
+  async #enumerations(words) {
     const { plain, chosen: { sources, personal } } = this.#lists;
     return new Map(await this.#editor.engine.call('enumerations', { words, sources, personal, plain }));
   }
@@ -173,8 +174,8 @@ export class ListsInUse {
    * @param {string} said
    */
   async #use(other, name = '', said = '') {
-    if (!this.actions.mayEdit()) return false;
-    this.actions.stop();
+    if (!mayEdit(this.#editor)) return false;
+    this.#editor.do('stopFill');
     const fault = await this.#editor.useList(other.chosen);
     if (fault) {
       const why = fault.status === 'NoWord' ? fault.answer : '';
@@ -213,24 +214,22 @@ export class ListsInUse {
     $('list-name').textContent = name ? [`${name}: ${wordCount(count)}`, ...this.#notes()].join('; ') : none;
     this.#least.show();
     this.#view.show(this.#lists, this.#former.length > 0);
-    this.actions.shown();
   }
 
   // Has the engine take over a least score, which may lead into a dead end.
   /** @param {number} least */
   async #useLeast(least) {
-    this.actions.stop();
+    this.#editor.do('stopFill');
     this.#editor.change({ edited: null });
     await this.#editor.useLeast(least);
     this.#lists = this.#lists.atLeast(least);
-    this.actions.shown();
   }
 
   #keepLeast() {
     const { list, board } = this.#editor;
     const left = leftOf(list, list.grade);
     say(list.grade ? `${left.toLocaleString('en')} of ${wordCount(list.words)} have ${list.least} or more` : `all ${wordCount(list.words)} are in use`, left ? 'good' : 'bad');
-    if (board.lights.some((light) => board.countOf(light) === 0 && !board.isEntered(light))) this.actions.soon();
+    if (board.lights.some((light) => board.countOf(light) === 0 && !board.isEntered(light))) this.#editor.do('findDeadEnds');
     this.#store();
   }
 
@@ -240,14 +239,14 @@ export class ListsInUse {
     this.#editor.changeList(chosen);
     this.#lists = this.#lists.choosing(chosen);
     this.#store();
-    this.actions.toGrid();
+    this.#editor.do('toGrid');
   }
 
   // Uses another least score of words of three letters.
   /** @param {number} threes */
   async #useThrees(threes) {
     const said = threes ? `words of three letters have ${threes} or more` : 'words of three letters have any score';
-    if (await this.change((now) => now.choosing({ threes }), 'the lists', said)) this.actions.soon();
-    this.actions.toGrid();
+    if (await this.change((now) => now.choosing({ threes }), 'the lists', said)) this.#editor.do('findDeadEnds');
+    this.#editor.do('toGrid');
   }
 }

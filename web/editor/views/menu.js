@@ -1,5 +1,5 @@
 // The menu and other parts that a button shows, and what buttons and keys do.
-import { say } from './messages.js';
+import { say, unforeseen } from './messages.js';
 import { $, all, first, isText, pressed } from './page.js';
 import { hasUndoOfPuzzle } from './typed.js';
 
@@ -9,19 +9,20 @@ import { hasUndoOfPuzzle } from './typed.js';
 /** @type {Record<string, string>} */
 const CONTROL_KEYS = { o: 'open', s: 'save', p: 'print', f: 'fill', g: 'another', j: 'hardest' };
 
-// Has the buttons that name an action do it, and its keys. `keys` has what keys without Ctrl do now, by their names, and `takeTyped` has a text taken
-// over that is being typed.
+// Has the buttons that name an action do it, and its keys. `keys` has what keys without Ctrl do now, by their names, and `typed` takes a text over that is
+// being typed.
 /**
  * @param {Actions} actions
- * @param {{ keys: () => Actions, takeTyped: () => void, unforeseen: (error: Error) => void }} given
+ * @param {() => Actions} keys
+ * @param {import('./typed.js').Typed} typed
  */
-export function takeActions(actions, { keys, takeTyped, unforeseen }) {
+export function takeActions(actions, keys, typed) {
   document.addEventListener('click', (event) => {
     const button = pressed(event, '[data-do]');
     if (button) actions[button.dataset.do ?? '']?.()?.catch?.(unforeseen);
   });
   document.addEventListener('keydown', (event) => {
-    const action = actionOf(event, actions, keys, takeTyped);
+    const action = actionOf(event, actions, keys, typed);
     if (!action) return;
     event.preventDefault();
     action()?.catch?.(unforeseen);
@@ -32,10 +33,10 @@ export function takeActions(actions, { keys, takeTyped, unforeseen }) {
  * @param {KeyboardEvent} event
  * @param {Actions} actions
  * @param {() => Actions} keys
- * @param {() => void} takeTyped
+ * @param {import('./typed.js').Typed} typed
  * @returns {(() => any) | null | undefined}
  */
-function actionOf(event, actions, keys, takeTyped) {
+function actionOf(event, actions, keys, typed) {
   const key = event.key.toLowerCase();
   const isInDialog = document.querySelector('dialog[open]') !== null;
   if (!event.ctrlKey && !event.metaKey) return isInDialog && key === 'escape' ? null : keys()[key];
@@ -47,7 +48,7 @@ function actionOf(event, actions, keys, takeTyped) {
   const name = isHistory ? (key === 'y' || event.shiftKey ? 'redo' : 'undo') : CONTROL_KEYS[key];
   const action = actions[name];
   return action && (() => {
-    takeTyped();
+    typed.take();
     return action();
   });
 }
@@ -71,8 +72,8 @@ function showPart(button, part, isOpen) {
   button.setAttribute('aria-expanded', String(isOpen));
 }
 
-/** @param {() => void} toGrid */
-export function takeParts(toGrid) {
+/** @param {import('../model/editor.js').Editor} editor */
+export function takeParts(editor) {
   for (const [button, part] of [[$('more'), $('tools')], [$('messages'), $('history')]]) {
     button.addEventListener('click', () => showPart(button, part, button.getAttribute('aria-expanded') !== 'true'));
     document.addEventListener('click', (event) => {
@@ -81,7 +82,7 @@ export function takeParts(toGrid) {
   }
   $('toast-close').addEventListener('click', () => {
     say('');
-    toGrid();
+    editor.do('toGrid');
   });
 }
 
@@ -125,12 +126,12 @@ function itemFor({ key, ctrlKey, metaKey, altKey }, items) {
 }
 
 // Keys go to the grid after a dialog that was opened from the menu, whose item is hidden again.
-/** @param {() => void} toGrid */
-export function leaveDialogsTo(toGrid) {
+/** @param {import('../model/editor.js').Editor} editor */
+export function leaveDialogs(editor) {
   for (const dialog of all('dialog')) {
     dialog.addEventListener('close', () => {
       const activeElement = /** @type {HTMLElement} */ (document.activeElement);
-      if (activeElement === document.body || dialog.contains(activeElement)) toGrid();
+      if (activeElement === document.body || dialog.contains(activeElement)) editor.do('toGrid');
     });
   }
 }

@@ -121,6 +121,20 @@ export const refuse = (text) => say(text, 'bad');
  */
 export const refuseAsIs = (text, isSentence = false) => sayAsIs(text, 'bad', isSentence);
 
+// Says that something failed of which nobody thought.
+/** @param {Error} error */
+export function unforeseen(error) {
+  refuse(`that failed: ${error.message}; the grid is kept`);
+  console.error(error);
+}
+
+// Whether something can be changed now; says why not.
+/** @param {Pick<import('../model/state.js').EditorState, 'fill'>} editor */
+export function mayEdit({ fill }) {
+  if (fill.isRunning) refuse('a fill is running: Esc stops it');
+  return !fill.isRunning;
+}
+
 // A function that ends the message that stands now. It does nothing if another one has come since.
 export function endingMessage() {
   const now = count;

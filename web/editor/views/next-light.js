@@ -1,5 +1,4 @@
 // Goes to the light that is the hardest to fill, or in an entered grid to what is left to do.
-import { suggest } from '../engine/answers.js';
 import { staleClues } from '../model/written.js';
 import { refuse, say } from './messages.js';
 import { titleOf } from './words.js';
@@ -12,17 +11,15 @@ export class NextLight {
   /**
    * @param {import('../model/editor.js').Editor} editor
    * @param {import('../model/faults.js').Faults} faults
-   * @param {() => void} toGrid
    */
-  constructor(editor, faults, toGrid) {
+  constructor(editor, faults) {
     this.#editor = editor;
     this.#faults = faults;
-    this.toGrid = toGrid;
   }
 
   async go() {
     const editor = this.#editor;
-    const { what, light: name } = (await editor.ask(suggest())) ?? {};
+    const { kind: what, light: name } = (await editor.ask('suggest')) ?? {};
     if (what === 'done') return this.#showLeft();
     // of several parts one may be dead: the tightest light is one of another part
     const { board } = editor;
@@ -32,7 +29,7 @@ export class NextLight {
     const empty = light.cells.find((index) => !board.cells[index].letter);
     const count = board.countOf(light);
     editor.moveTo(empty ?? light.cells[0], light.direction);
-    this.toGrid();
+    editor.do('toGrid');
     if (what === 'try' || (what === 'dead' && count)) say(`${titleOf(light)} has ${count === 1 ? 'one word' : `${count} words`} left, the fewest`);
     else refuse(what === 'dead' ? `${titleOf(light)} has no word left` : `each word of ${titleOf(light)} leaves another light without one`);
   }
@@ -48,7 +45,7 @@ export class NextLight {
     const light = editor.board.byName.get(left.light);
     if (!light) return undefined;
     editor.moveTo(light.cells[0], light.direction);
-    this.toGrid();
+    editor.do('toGrid');
     return refuse(`every light is entered, but ${left.text}: ${titleOf(light)}`);
   }
 }

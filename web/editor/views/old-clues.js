@@ -40,18 +40,18 @@ export function usesText(uses, here) {
 export class OldClues {
   /** @type {import('../model/editor.js').Editor} */
   #editor;
+  #bank;
   root = Object.assign(document.createElement('div'), { className: 'offers', hidden: true });
   // what they are shown for
   #shown = '';
 
-  // `former` promises what the bank has of a word.
   /**
    * @param {import('../model/editor.js').Editor} editor
-   * @param {(word: string, clue: string) => Promise<KeptClue[]>} former
+   * @param {import('../store/clue-bank.js').ClueBank} bank
    */
-  constructor(editor, former) {
+  constructor(editor, bank) {
     this.#editor = editor;
-    this.former = former;
+    this.#bank = bank;
   }
 
   // Shows none.
@@ -73,7 +73,7 @@ export class OldClues {
     if (shown === this.#shown) return;
     this.#shown = shown;
     this.root.hidden = true;
-    const entries = light && word ? await this.former(word, this.#editor.textOf(`clue ${light.name}`)) : [];
+    const entries = light && word ? await this.#bank.of(word, this.#editor.textOf(`clue ${light.name}`)) : [];
     if (!light || shown !== this.#shown || !entries.length || !row) return;
     this.root.replaceChildren(this.#list(light, entries, isDue));
     row.after(this.root);

@@ -2,7 +2,7 @@
 import { headLines, manuscriptRows } from '../formats/manuscript.js';
 import { brightened } from '../model/colours.js';
 import { hasEnumeration } from '../model/enumeration.js';
-import { nodesOfText, svgElement } from './page.js';
+import { first, nodesOfText, svgElement } from './page.js';
 
 // The room on the papers within the margins, in millimetres.
 const ROOM = { A4: { width: 182, height: 269 }, letter: { width: 188, height: 251 } };
@@ -22,12 +22,24 @@ const LEAST = 40;
 // the side of a cell in the picture of the grid
 const SIDE = 30;
 
+/** @typedef {import('../model/board.js').Cell} Cell */
+/** @typedef {import('../model/board.js').Light} Light */
+/** @typedef {'A4' | 'letter'} Paper */
+/**
+ * @template Part
+ * @typedef {(parts: Part[]) => void} Show what shows parts in an element
+ */
+
 export class Printer {
   /** @type {import('../model/editor.js').Editor} */
   #editor;
   #sheet;
   #style;
 
+  /**
+   * @param {import('../model/editor.js').Editor} editor
+   * @param {HTMLElement} sheet
+   */
   constructor(editor, sheet) {
     this.#editor = editor;
     this.#sheet = sheet;
@@ -36,6 +48,7 @@ export class Printer {
   }
 
   parts = 'both';
+  /** @type {Paper} */
   paper = 'A4';
   // whether clues without an enumeration get the length of their word
   hasLengths = true;
@@ -66,6 +79,11 @@ export class Printer {
   }
 
   // Begins a page: its head has the title, and lines beside that.
+  /**
+   * @param {string} name
+   * @param {string} what
+   * @param {string[]} lines
+   */
   #begin(name, what, lines) {
     const page = make('section', `page ${name}`);
     page.style.width = `${ROOM[this.paper].width}mm`;
@@ -76,12 +94,20 @@ export class Printer {
     return page;
   }
 
+  /** @param {HTMLElement} page */
   #fits(page) {
     return page.offsetHeight <= (ROOM[this.paper].height - SPARE) * PIXELS;
   }
 
   // Shows parts on a page, and those that do not fit on further ones; returns the last page. `box` adds a box to a page and returns what shows parts in it,
   // and `begin` begins a page.
+  /**
+   * @template {Node | string} Part
+   * @param {HTMLElement} page
+   * @param {Part[]} parts
+   * @param {(page: HTMLElement) => Show<Part>} box
+   * @param {() => HTMLElement} begin
+   */
   #flow(page, parts, box, begin) {
     let [last, rest] = [page, parts];
     while (rest.length) {
@@ -96,6 +122,12 @@ export class Printer {
   }
 
   // How many of the first parts fit on a page. A heading does not come last.
+  /**
+   * @template {Node | string} Part
+   * @param {HTMLElement} page
+   * @param {Part[]} parts
+   * @param {Show<Part>} show
+   */
   #countOn(page, parts, show) {
     let [low, high] = [0, parts.length];
     while (low < high) {
@@ -104,14 +136,20 @@ export class Printer {
       if (this.#fits(page)) low = middle;
       else high = middle - 1;
     }
-    return low < parts.length && parts[low - 1]?.matches?.('h2, .heading') ? low - 1 : low;
+    const last = parts[low - 1];
+    return low < parts.length && last instanceof Element && last.matches('h2, .heading') ? low - 1 : low;
   }
 
   // Texts at the foot, such as notes.
+  /**
+   * @param {HTMLElement} page
+   * @param {string[]} texts
+   * @param {() => HTMLElement} begin
+   */
   #flowTexts(page, texts, begin) {
-    const box = (on) => {
+    const box = (/** @type {HTMLElement} */ on) => {
       const foot = on.appendChild(make('p', 'foot'));
-      return (words) => {
+      return (/** @type {string[]} */ words) => {
         foot.textContent = words.join('');
       };
     };
@@ -120,6 +158,11 @@ export class Printer {
   }
 
   // The width of so many grids, one below another, in the room that a page has left; `most` is the greatest one, in millimetres.
+  /**
+   * @param {HTMLElement} page
+   * @param {number} count
+   * @param {number} most
+   */
   #widthOn(page, count, most) {
     const { board } = this.#editor;
     const { width, height } = ROOM[this.paper];
@@ -127,6 +170,11 @@ export class Printer {
     return Math.min(most, width, (Math.max(left / count - AROUND, LEAST) * board.width) / board.height);
   }
 
+  /**
+   * @param {HTMLElement} page
+   * @param {boolean} isSolution
+   * @param {number} width
+   */
   #addGrid(page, isSolution, width) {
     const grid = this.#grid(isSolution);
     grid.style.width = `${width}mm`;
@@ -168,7 +216,7 @@ export class Printer {
   // address.
   #submission() {
     const lines = headLines(this.#editor, this.address);
-    const begin = (what) => this.#begin('submission', what, [...lines, pageText(1, 1)]);
+    const begin = (/** @type {string} */ what) => this.#begin('submission', what, [...lines, pageText(1, 1)]);
     const page = begin('');
     const both = this.#widthOn(page, 2, 110);
     const isEach = this.#isLarge || both < LEAST_OF_TWO;
@@ -180,20 +228,23 @@ export class Printer {
     this.#flow(beginAnswers(), manuscriptRows(this.#editor, this.hasLengths, this.hasComments).map(rowOf), (on) => showIn(on.appendChild(table())), beginAnswers);
     const pages = [...this.#sheet.children];
     pages.forEach((one, at) => {
-      one.querySelector('.address').textContent = [...lines, pageText(at + 1, pages.length)].join('\n');
+      first('.address', one).textContent = [...lines, pageText(at + 1, pages.length)].join('\n');
     });
   }
 
   // Whether the clue of a light leads to that of another one, which it goes on from.
+  /** @param {Light} light */
   #isLinked(light) {
     return this.#editor.links.headOf.has(light);
   }
 
+  /** @param {string} field */
   #text(field) {
     return this.#editor.textOf(field);
   }
 
   // The grid as a picture. Its parts are elements, so no text of the puzzle is read as markup.
+  /** @param {boolean} isSolution */
   #grid(isSolution) {
     const { board } = this.#editor;
     const [width, height] = [board.width * SIDE, board.height * SIDE];
@@ -206,6 +257,11 @@ export class Printer {
   }
 
   // The square of a cell, with its circle, its number, and in a solution its letters.
+  /**
+   * @param {Cell} cell
+   * @param {number} index
+   * @param {boolean} isSolution
+   */
   #cell(cell, index, isSolution) {
     const { board } = this.#editor;
     const [x, y] = [(board.columnOf(index) - 1) * SIDE, (board.rowOf(index) - 1) * SIDE];
@@ -220,9 +276,13 @@ export class Printer {
   }
 
   // Adds a box of clues to a page, with type of a size in points.
+  /**
+   * @param {HTMLElement} page
+   * @param {number} size
+   */
   #clueBox(page, size) {
     const box = page.appendChild(make('div', 'clues'));
-    box.style.columns = this.#editor.board.lights.length > 50 ? 4 : 3;
+    box.style.columns = this.#editor.board.lights.length > 50 ? '4' : '3';
     box.style.fontSize = `${size}pt`;
     return box;
   }
@@ -235,6 +295,7 @@ export class Printer {
     ]);
   }
 
+  /** @param {Light} light */
   #clue(light) {
     const clue = make('p', '');
     const text = this.#text(`clue ${light.name}`);
@@ -246,14 +307,20 @@ export class Printer {
 }
 
 // The bars of a cell, whose lower right corner is at a point.
+/**
+ * @param {Cell} cell
+ * @param {number} x
+ * @param {number} y
+ */
 function barsOf({ right, below }, x, y) {
-  const bar = (d) => svgElement('path', { d, stroke: '#000', 'stroke-width': 3 });
+  const bar = (/** @type {string} */ d) => svgElement('path', { d, stroke: '#000', 'stroke-width': 3 });
   return [...(right ? [bar(`M${x} ${y - SIDE}V${y}`)] : []), ...(below ? [bar(`M${x - SIDE} ${y}H${x}`)] : [])];
 }
 
-const pageText = (number, count) => `page ${number} of ${count}`;
+const pageText = (/** @type {number} */ number, /** @type {number} */ count) => `page ${number} of ${count}`;
 
 // A row of the table of clues and answers.
+/** @param {Partial<Record<'heading' | 'comments' | 'number' | 'clue' | 'answer', string>>} row */
 function rowOf({ heading = '', comments = '', number = '', clue = '', answer = '' }) {
   const row = make('tr', heading ? 'heading' : comments ? 'comments' : '');
   if (heading || comments) {
@@ -268,8 +335,14 @@ function rowOf({ heading = '', comments = '', number = '', clue = '', answer = '
 }
 
 // What shows parts in an element.
-const showIn = (element) => (parts) => element.replaceChildren(...parts);
+const showIn = (/** @type {HTMLElement} */ element) => (/** @type {Node[]} */ parts) => element.replaceChildren(...parts);
 
+/**
+ * @template {keyof HTMLElementTagNameMap} Name
+ * @param {Name} name
+ * @param {string} className
+ * @returns {HTMLElementTagNameMap[Name]}
+ */
 function make(name, className, text = '') {
   const element = document.createElement(name);
   element.className = className;

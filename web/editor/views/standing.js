@@ -8,19 +8,19 @@ export class StandingView {
   #editor;
   #root;
   #faults;
+  #edits;
 
-  // `actions` are `add` of a word, `erase` of the light, and `go` to another light.
   /**
    * @param {import('../model/editor.js').Editor} editor
    * @param {HTMLElement} root
    * @param {import('../model/faults.js').Faults} faults
-   * @param {{ add: (word: string) => void, erase: () => void, go: (light: Light) => void }} actions
+   * @param {import('./edits.js').Edits} edits
    */
-  constructor(editor, root, faults, actions) {
+  constructor(editor, root, faults, edits) {
     this.#editor = editor;
     this.#root = root;
     this.#faults = faults;
-    this.actions = actions;
+    this.#edits = edits;
     editor.on(['board', 'letters', 'cursor'], () => this.#show());
     faults.addEventListener('told', () => this.#show());
   }
@@ -32,13 +32,15 @@ export class StandingView {
    */
   #fault(light) {
     const { board } = this.#editor;
+    /** @type {[string, () => void]} */
+    const erasing = ['Erase it', () => this.#editor.do('eraseLight').then(() => this.#editor.do('toGrid'))];
     const unlisted = this.#faults.unlisted.get(light.name);
     if (unlisted && unlisted.word === this.#editor.answerOf(light)) {
-      return { text: unlisted.why, buttons: [['Add it', () => this.actions.add(unlisted.word)], ['Erase it', () => this.actions.erase()]] };
+      return { text: unlisted.why, buttons: [['Add it', () => this.#edits.add(unlisted.word)], erasing] };
     }
     const other = board.byName.get(this.#faults.repeated.get(light.name) ?? '');
     if (!other) return null;
-    return { text: `${board.spell(other)} stands in ${titleOf(other)} too`, buttons: [['Go there', () => this.actions.go(other)], ['Erase it', () => this.actions.erase()]] };
+    return { text: `${board.spell(other)} stands in ${titleOf(other)} too`, buttons: [['Go there', () => this.#editor.do('goTo', other)], erasing] };
   }
 
   #show() {

@@ -13,19 +13,20 @@ export class StatisticsView {
   /** @type {import('../model/editor.js').Editor} */
   #editor;
   #elements;
+  #words;
   // what is shown of outlets, so that a letter draws nothing of them anew
   #shown = '';
 
-  // `elements` are the panel, the list of figures, and the box of the outlets. `scores` tells what is said of the scores of the words, or ''.
+  // `elements` are the panel, the list of figures, and the box of the outlets. `words` tells what is said of the scores of the words, or ''.
   /**
    * @param {import('../model/editor.js').Editor} editor
    * @param {Record<'panel' | 'list' | 'outlets', HTMLElement>} elements
-   * @param {() => string} scores
+   * @param {import('./figures.js').Figures} words
    */
-  constructor(editor, elements, scores) {
+  constructor(editor, elements, words) {
     this.#editor = editor;
     this.#elements = elements;
-    this.scores = scores;
+    this.#words = words;
   }
 
   // Shows the figures, if their tab is in sight.
@@ -35,7 +36,7 @@ export class StatisticsView {
     const { board } = this.#editor;
     const figures = gridFigures(board);
     const entries = board.cells.filter(({ block }) => !block).map((cell) => this.#editor.entryOf(cell));
-    const rows = rowsOfFigures(figures, letterFigures(entries), this.scores());
+    const rows = rowsOfFigures(figures, letterFigures(entries), this.#words.worst);
     list.replaceChildren(...rows.flatMap(([name, value]) => [made('dt', name), made('dd', value)]));
     const judged = judgedByAll(figures, keptLimits());
     const shown = JSON.stringify(judged);

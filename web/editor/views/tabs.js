@@ -1,6 +1,9 @@
 // The tabs beside the grid.
 import { $ } from './page.js';
 
+/** @typedef {import('../model/commands.js').Tab} Tab */
+
+/** @type {Tab[]} */
 const TABS = ['words', 'clues', 'puzzle'];
 
 export class Tabs {
@@ -8,18 +11,19 @@ export class Tabs {
   #clues;
 
   /**
+   * @param {import('../model/editor.js').Editor} editor
    * @param {import('./details.js').DetailsView} details
    * @param {import('./clues.js').CluesView} clues
-   * @param {() => void} toGrid
    */
-  constructor(details, clues, toGrid) {
+  constructor(editor, details, clues) {
     this.#details = details;
     this.#clues = clues;
+    editor.takes({ showTab: (tab) => this.show(tab), toField: (tab, id) => this.#toField(tab, id), toClue: (light) => this.#toClue(light) });
     for (const tab of TABS) {
       $(`tab-${tab}`).addEventListener('click', (/** @type {MouseEvent} */ event) => {
         this.show(tab);
         // after a click, other than after Enter, letters go to the grid again
-        if (event.detail) toGrid();
+        if (event.detail) editor.do('toGrid');
       });
       $(`tab-${tab}`).addEventListener('keydown', (/** @type {KeyboardEvent} */ event) => this.#key(event, tab));
     }
@@ -27,7 +31,7 @@ export class Tabs {
 
   /**
    * @param {KeyboardEvent} event
-   * @param {string} tab
+   * @param {Tab} tab
    */
   #key({ key }, tab) {
     const step = Number(key === 'ArrowRight') - Number(key === 'ArrowLeft');
@@ -37,7 +41,7 @@ export class Tabs {
     $(`tab-${next}`).focus();
   }
 
-  /** @param {string} name */
+  /** @param {Tab} name */
   show(name) {
     for (const tab of TABS) {
       $(tab).hidden = tab !== name;
@@ -51,17 +55,17 @@ export class Tabs {
 
   // Shows a tab, and goes to a field of it.
   /**
-   * @param {string} name
+   * @param {Tab} name
    * @param {string} id
    */
-  toField(name, id) {
+  #toField(name, id) {
     this.show(name);
     $(id).focus();
   }
 
   // Goes to the clue of a light, or of the first one without.
   /** @param {import('../model/board.js').Light | null} light */
-  toClue(light) {
+  #toClue(light) {
     this.show('clues');
     this.#clues.open(light);
   }

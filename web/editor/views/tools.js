@@ -11,16 +11,20 @@ const MODES = {
   pencil: 'Locks: click a letter in pencil to lock it, and a locked one to put it in pencil, or drag over several. Esc ends this.',
 };
 
-export class Tools {
-  #grid;
+/** @typedef {import('../model/state.js').Tool} Tool */
 
-  /** @param {import('./grid.js').GridView} grid */
-  constructor(grid) {
-    this.#grid = grid;
+export class Tools {
+  /** @type {import('../model/editor.js').Editor} */
+  #editor;
+
+  /** @param {import('../model/editor.js').Editor} editor */
+  constructor(editor) {
+    this.#editor = editor;
     document.addEventListener('click', (event) => {
       const tool = pressed(event, '[data-tool].tool');
-      if (tool) this.#take(grid.tool === tool.dataset.tool ? null : tool.dataset.tool);
+      if (tool) this.#take(editor.tool === tool.dataset.tool ? null : /** @type {Tool} */ (tool.dataset.tool));
     });
+    editor.on(['tool', 'colour'], () => this.#show());
     this.#makePalette();
   }
 
@@ -37,17 +41,14 @@ export class Tools {
     new Roving(palette);
     palette.addEventListener('click', (/** @type {Event} */ event) => {
       const { colour } = pressed(event, 'button')?.dataset ?? {};
-      if (!colour) return;
-      this.#grid.colour = colour;
-      this.show();
+      if (colour) this.#editor.change({ colour });
     });
   }
 
-  /** @param {string | null | undefined} tool */
+  /** @param {Tool | null} tool */
   #take(tool) {
-    this.#grid.tool = tool ?? null;
-    this.show();
-    this.#grid.focus();
+    this.#editor.change({ tool });
+    this.#editor.do('toGrid');
   }
 
   // Puts the tool away.
@@ -55,13 +56,13 @@ export class Tools {
     this.#take(null);
   }
 
-  show() {
-    const { tool } = this.#grid;
+  #show() {
+    const { tool, colour } = this.#editor;
     const text = MODES[tool ?? ''] ?? '';
     $('mode').hidden = !text;
     first('span', $('mode')).textContent = text;
     $('palette').hidden = tool !== 'colour';
-    for (const button of all('button', $('palette'))) button.setAttribute('aria-pressed', String(button.dataset.colour === this.#grid.colour));
+    for (const button of all('button', $('palette'))) button.setAttribute('aria-pressed', String(button.dataset.colour === colour));
     $('more').setAttribute('aria-pressed', String(Boolean(text)));
     for (const button of all('.tool')) button.setAttribute('aria-pressed', String(button.dataset.tool === tool));
     $('grid').dataset.tool = tool ?? '';

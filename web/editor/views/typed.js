@@ -15,10 +15,16 @@ export const hasUndoOfPuzzle = (field) => field.matches(TEXTS) || (field.matches
 // A run of typing: the cursor after its last key, or null before the first one, and whether an edit of it was made.
 /** @typedef {{ caret: number | null, isMade: Promise<boolean> | null }} Run */
 
+/** @typedef {import('../model/board.js').Light} Light */
+
 /** @returns {Run} */
 const newRun = () => ({ caret: null, isMade: null });
 
 export class Typed {
+  /** @type {import('../model/editor.js').Editor} */
+  #editor;
+  #edits;
+  #leaving;
   // the field that is in use, and the runs since it was entered
   /** @type {HTMLInputElement | null} */
   #field = null;
@@ -29,20 +35,23 @@ export class Typed {
   /** @type {(() => void)[]} */
   #waiting = [];
 
-  // `actions`: `isFilling` tells whether a fill has the engine; `undo` takes a step of the history back, `finished` is told when a field is left. A field takes
-  // its text over at the event `change`.
+  // A field takes its text over at the event `change`.
   /**
-   * @param {import('../model/state.js').EditorState} editor
-   * @param {{ isFilling: () => boolean, undo: () => Promise<unknown>, finished: () => void }} actions
+   * @param {import('../model/editor.js').Editor} editor
+   * @param {import('./edits.js').Edits} edits
+   * @param {import('./leaving.js').Leaving} leaving
    */
-  constructor(editor, actions) {
-    this.actions = actions;
+  constructor(editor, edits, leaving) {
+    this.#editor = editor;
+    this.#edits = edits;
+    this.#leaving = leaving;
     document.addEventListener('focusin', ({ target }) => this.#begin(/** @type {Element} */ (target)));
     document.addEventListener('focusout', () => this.#end());
     document.addEventListener('beforeinput', (event) => this.#before(event));
     for (const kind of ['input', 'compositionend']) document.addEventListener(kind, (event) => this.#typed(/** @type {InputEvent} */ (event)));
     editor.on(['leaving'], () => this.take());
     editor.on(['left'], () => this.startAnew());
+    editor.on(['fill'], () => !editor.fill.isRunning && this.#goOn());
   }
 
   // Has the puzzle take over what the field in use holds. The field stays as it is.
@@ -52,21 +61,60 @@ export class Typed {
     if (field?.matches(`${TEXTS}, ${WHOLE}`)) field.dispatchEvent(new Event('change', { bubbles: true }));
   }
 
+  // Each of these takes over what is typed in an element: the text of a field, or what belongs to the clue of a light. It promises what that is refused for, or
+  // null.
+
+  /**
+   * @param {HTMLElement} element
+   * @param {string} field
+   * @param {string} text
+   */
+  text(element, field, text) {
+    return this.#edit(element, (run) => this.#edits.text(field, text, run));
+  }
+
+  /**
+   * @param {HTMLElement} element
+   * @param {Light} light
+   * @param {string} text
+   */
+  note(element, light, text) {
+    return this.#edit(element, (run) => this.#edits.note(light, text, run));
+  }
+
+  /**
+   * @param {HTMLElement} element
+   * @param {Light} light
+   * @param {string} text
+   */
+  link(element, light, text) {
+    return this.#edit(element, (run) => this.#edits.link(light, text, run));
+  }
+
+  /**
+   * @param {HTMLElement} element
+   * @param {Light} light
+   * @param {string} text
+   */
+  comments(element, light, text) {
+    return this.#edit(element, () => this.#edits.comments(light, text));
+  }
+
   // Makes an edit of what is typed in a field: `action` gets the run, whose edits are one step.
   /**
    * @param {HTMLElement} field
    * @param {(run: Run | null) => Promise<string | null>} action
    * @returns {Promise<string | null>}
    */
-  edit(field, action) {
+  #edit(field, action) {
     const run = this.#runIn(field);
-    const refused = this.actions.isFilling() ? new Promise((resolve) => this.#waiting.push(() => resolve(action(run)))) : action(run);
+    const refused = this.#editor.fill.isRunning ? new Promise((resolve) => this.#waiting.push(() => resolve(action(run)))) : action(run);
     if (run) run.isMade = Promise.all([run.isMade, refused]).then(([isMade, why]) => isMade || why === null);
     return refused;
   }
 
   // Makes the edits that waited for the end of a fill.
-  goOn() {
+  #goOn() {
     for (const edit of this.#waiting.splice(0)) edit();
   }
 
@@ -75,8 +123,18 @@ export class Typed {
     const made = this.#runs.map(({ isMade }) => isMade).filter(Boolean);
     if (!made.length) return null;
     return async () => {
-      for (const isMade of made) if (await isMade) await this.actions.undo();
+      for (const isMade of made) if (await isMade) await this.#editor.undo();
     };
+  }
+
+  // Leaves a field of texts by Esc. Another Esc takes back what was typed.
+  /** @param {KeyboardEvent} event */
+  leave(event) {
+    const { takeBack } = this;
+    this.#editor.do('toGrid');
+    if (!takeBack) return;
+    event.stopPropagation();
+    this.#leaving.kept(takeBack);
   }
 
   // The field whose text may not be whole yet, or null.
@@ -107,7 +165,7 @@ export class Typed {
     const isFinished = this.unfinished !== null;
     this.#field = null;
     this.#runs = [];
-    if (isFinished) this.actions.finished();
+    if (isFinished) this.#editor.do('bankClues');
   }
 
   // A key elsewhere than behind the last one begins another run.

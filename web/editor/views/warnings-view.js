@@ -10,20 +10,19 @@ export class WarningsView {
   #faults;
   #elements;
 
-  // `elements` are the button of the first warning, the number on the tab, and the tab. `open` shows the list.
+  // `elements` are the button of the first warning, which shows the list, the number on the tab, and the tab.
   /**
    * @param {import('../model/editor.js').Editor} editor
    * @param {import('../model/faults.js').Faults} faults
    * @param {Record<'button' | 'count' | 'tab', HTMLElement>} elements
-   * @param {() => void} open
    */
-  constructor(editor, faults, elements, open) {
+  constructor(editor, faults, elements) {
     this.#editor = editor;
     this.#faults = faults;
     this.#elements = elements;
     // an edit is shown before its warnings are looked for, and its faults are told after each
     faults.addEventListener('told', onceIdle(() => this.#show()));
-    elements.button.addEventListener('click', open);
+    elements.button.addEventListener('click', () => editor.do('showTab', 'puzzle'));
   }
 
   get #texts() {

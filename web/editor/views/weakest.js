@@ -5,59 +5,55 @@ import { figuresText } from '../model/grades.js';
 import { termed } from '../model/terms.js';
 import { holderText, offerText, unmendedText, weakestOf } from '../model/weak-words.js';
 import { fillCard } from './fills.js';
-import { say } from './messages.js';
+import { mayEdit, say, unforeseen } from './messages.js';
 import { put } from './page.js';
 import { titleOf } from './words.js';
 
 /** @typedef {import('../model/board.js').Light} Light */
-/** @typedef {import('../engine/mending.js').Offer} Offer */
 
 export class WeakestView {
   /** @type {import('../model/editor.js').Editor} */
   #editor;
   #elements;
-  /** @type {Offer | null} */
-  #offer = null;
-  /** @type {ReadonlyMap<string, number>} */
-  #scores = new Map();
+  #figures;
+  #fills;
   // what is said of lights around which nothing better was found, by their names, and the grid for which it is said
   /** @type {Map<string, { grid: string, text: string }>} */
   #unmended = new Map();
 
-  // `elements` are the box, the list, and the box of an offer with its text, its place and its buttons. `actions`: `go` goes to a light, `mend` looks for
-  // better words around one and promises what it found, `forced` has the lights that are proved to hold one, `use` puts letters into the grid, and `toGrid` goes back to it.
+  // `elements` are the box, the list, and the box of an offer with its text, its place and its buttons. `figures` tell which lights
+  // are proved to hold one, and `fills` puts letters into the grid.
   /**
    * @param {import('../model/editor.js').Editor} editor
    * @param {{ box: HTMLDetailsElement } & Record<'list' | 'offered' | 'told' | 'place' | 'use' | 'leave', HTMLElement>} elements
-   * @param {{ go: (light: Light) => void, mend: (light: Light) => Promise<any>, forced: (light: Light) => Light[], use: (letters: Map<string, string>) => Promise<string | null>, toGrid: () => void }} actions
+   * @param {import('./figures.js').Figures} figures
+   * @param {import('./fills.js').Fills} fills
    */
-  constructor(editor, elements, actions) {
+  constructor(editor, elements, figures, fills) {
     this.#editor = editor;
     this.#elements = elements;
-    this.actions = actions;
+    this.#figures = figures;
+    this.#fills = fills;
     elements.box.addEventListener('toggle', () => this.#show());
     elements.list.addEventListener('click', ({ target }) => this.#chosen(/** @type {Element} */ (target).closest('button')));
     elements.use.addEventListener('click', () => this.#use());
     elements.leave.addEventListener('click', () => {
-      this.offer(null);
-      actions.toGrid();
+      editor.change({ offer: null });
+      editor.do('toGrid');
     });
     editor.on(['step', 'board'], () => this.#stepped());
-  }
-
-  // Shows other scores, by the names of lights; those without one have no score.
-  /** @param {ReadonlyMap<string, number>} scores */
-  show(scores) {
-    this.#scores = scores;
-    put(this.#elements.box, 'hidden', !scores.size);
-    this.#show();
+    editor.on(['scores'], () => {
+      put(elements.box, 'hidden', !editor.scores.size);
+      this.#show();
+    });
+    editor.on(['offer'], () => this.#showOffer());
   }
 
   #show() {
     const { box, list } = this.#elements;
     if (!box.open || box.hidden) return;
     const focused = list.contains(document.activeElement) ? /** @type {HTMLElement} */ (document.activeElement).dataset : null;
-    const rows = weakestOf(this.#editor.board, this.#scores).map((one) => this.#row(one));
+    const rows = weakestOf(this.#editor.board, this.#editor.scores).map((one) => this.#row(one));
     list.replaceChildren(...rows);
     // the row that has the keys may have another place
     const same = focused && list.querySelector(`[data-light="${focused.light}"]${focused.mend ? '[data-mend]' : ''}`);
@@ -71,7 +67,7 @@ export class WeakestView {
     const row = made('li');
     const word = made('button', { type: 'button', className: 'word', title: `Go to ${titleOf(light)}` });
     word.append(made('b', { textContent: board.spell(light) }), made('span', { textContent: String(score) }), made('span', { textContent: titleOf(light) }));
-    const held = holderText(board, pencil, light, this.actions.forced(light));
+    const held = holderText(board, pencil, light, this.#figures.forcedAt(light));
     const unmended = this.#unmended.get(light.name);
     const told = [held, unmended?.grid === gridOf(this.#editor) ? unmended.text : ''].filter(Boolean).join('; ');
     const mend = made('button', { type: 'button', textContent: 'Mend', disabled: held === 'locked', title: termed('Looks for better words around this light, and changes nothing before you choose them') });
@@ -87,21 +83,20 @@ export class WeakestView {
     const light = this.#editor.board.byName.get(button?.dataset.light ?? '');
     if (!button || !light) return;
     if (button.dataset.mend) this.#mend(light);
-    else this.actions.go(light);
+    else this.#editor.do('goTo', light);
   }
 
   /** @param {Light} light */
   async #mend(light) {
-    const told = await this.actions.mend(light);
+    const told = mayEdit(this.#editor) ? await this.#editor.do('mend', light).catch(unforeseen) : null;
     if (!told || told.offer || told.isChanged || told.isLocked) return;
     this.#unmended.set(light.name, { grid: gridOf(this.#editor), text: unmendedText(told) });
     this.#show();
   }
 
   // Shows what is offered in place of the words around a light, or nothing. The keys go to it from the list.
-  /** @param {Offer | null} offer */
-  offer(offer) {
-    this.#offer = offer;
+  #showOffer() {
+    const { offer } = this.#editor;
     const { offered, told, place, list, use } = this.#elements;
     put(offered, 'hidden', !offer);
     if (!offer) return place.replaceChildren();
@@ -114,14 +109,15 @@ export class WeakestView {
 
   // An offer is for the grid as it was.
   #stepped() {
-    if (this.#offer && gridOf(this.#editor) !== this.#offer.grid) this.offer(null);
+    const { offer } = this.#editor;
+    if (offer && gridOf(this.#editor) !== offer.grid) this.#editor.change({ offer: null });
   }
 
   async #use() {
-    const offer = this.#offer;
+    const { offer } = this.#editor;
     if (!offer) return;
-    if ((await this.actions.use(offer.letters)) !== null) return;
+    if ((await this.#fills.use(offer.letters)) !== null) return;
     say(`mended around ${titleOf(offer.light)}: ${figuresText(offer.after)}, in place of ${figuresText(offer.before)}; undo takes it back`, 'good');
-    this.actions.toGrid();
+    this.#editor.do('toGrid');
   }
 }

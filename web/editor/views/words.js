@@ -1,5 +1,6 @@
 // The tab of words: the candidates of the light under the cursor, or of the one that crosses it, and the letters of its cell.
-import { choices, match, tally, unpacked } from '../engine/answers.js';
+import { statusOf } from '../engine/engine.js';
+import { unpacked } from '../engine/told.js';
 import { OWN } from '../formats/joined-lists.js';
 import { filtered } from '../model/filter.js';
 import { UNSCORED, scoreOf } from '../model/grades.js';
@@ -7,7 +8,7 @@ import { Kin } from '../model/kin.js';
 import { termed } from '../model/terms.js';
 import { onceIdle, whenIdle } from './idle.js';
 import { refuse, refusalText } from './messages.js';
-import { put } from './page.js';
+import { pressed, put } from './page.js';
 import { Roving } from './roving.js';
 
 // The most candidates that are listed, those of them that are listed at once, and the most words that are counted in one call.
@@ -27,14 +28,27 @@ const SHOWN_EACH = 150;
 // how long the first candidates stand alone, in milliseconds
 const ALONE = 400;
 
+/** @typedef {import('../model/board.js').Light} Light */
+/** @typedef {import('../engine/told.js').Answers} Answers */
+/** @typedef {number | 'done'} Left the fewest words that a light has after a word, or that this fills the grid */
+/** @typedef {HTMLLIElement & { parts: Record<'name' | 'score' | 'from' | 'worse' | 'better' | 'left' | 'strike', HTMLElement> }} Row */
+/**
+ * @typedef {Record<'name' | 'summary' | 'list' | 'legend', HTMLElement> & Partial<Record<'spelled' | 'letters' | 'coordinates', HTMLElement>> & {
+ *   filter?: HTMLInputElement, order?: HTMLSelectElement,
+ * }} Elements
+ */
+
 export class WordsView {
   /** @type {import('../model/editor.js').Editor} */
   #editor;
   #elements;
-  #timer = null;
-  #countTimer = null;
-  #lateTimer = null;
-  #restTimer = null;
+  #edits;
+  #of;
+  #isShown;
+  #timer = 0;
+  #countTimer = 0;
+  #lateTimer = 0;
+  #restTimer = 0;
   // rises with each change, so that late answers are dropped; the last one whose words are listed
   #turn = 0;
   #answered = 0;
@@ -43,18 +57,27 @@ export class WordsView {
   // the cell whose letters are shown, by index
   #lettered = -1;
   // elements that are used again: boxes of the light's letters, rows of candidates, buttons of letters
+  /** @type {HTMLElement[]} */
   #boxes = [];
+  /** @type {Row[]} */
   #rows = [];
+  /** @type {HTMLElement[]} */
   #buttons = [];
   // the words that are listed, and whether their counts are under way
+  /** @type {string[]} */
   shown = [];
   #isCounting = false;
+  /** @type {string[]} */
   #words = [];
+  /** @type {Map<string, number | null>} */
   #scores = new Map();
   // the place of the list that a word is from, if there are several
+  /** @type {Map<string, number>} */
   #places = new Map();
+  /** @type {Map<string, Left>} */
   #left = new Map();
   // for a word of an entered light that needs other words changed, the names of their lights
+  /** @type {Map<string, string[]>} */
   #needs = new Map();
   #at = -1;
   #isDead = false;
@@ -67,14 +90,25 @@ export class WordsView {
   #counted = '';
   // whether words that sank are listed where they were, since the pointer is on the list
   #isLate = false;
-  #roving;
+  /** @type {Roving | null} */
+  #roving = null;
 
-  // `elements` may lack the filter with its order, and the letters: a list alone. `actions`: `light` tells whose words are listed, and `isShown` whether
-  // they are; `place` and `strike` take a word, `regrade` gives it another score, and `enter` takes a letter.
-  constructor(editor, elements, actions) {
+  // `elements` may lack the filter with its order, and the letters: a list alone. `of` tells whose words are listed, that under the cursor or the one that
+  // crosses it, and `isShown` whether they are.
+  /**
+   * @param {import('../model/editor.js').Editor} editor
+   * @param {Elements} elements
+   * @param {import('./edits.js').Edits} edits
+   * @param {'light' | 'crossing'} of
+   * @param {() => boolean} isShown
+   */
+  constructor(editor, elements, edits, of, isShown = () => true) {
     this.#editor = editor;
     this.#elements = elements;
-    this.actions = actions;
+    this.#edits = edits;
+    this.#of = of;
+    this.#isShown = isShown;
+    editor.on(['left'], () => this.clearFilter());
     editor.on(['board', 'letters'], () => {
       this.#version++;
     });
@@ -83,12 +117,15 @@ export class WordsView {
     elements.list.addEventListener('scroll', () => !this.#isDead && this.#countSoon());
     elements.list.addEventListener('pointermove', (event) => this.#hover(event));
     elements.list.addEventListener('pointerleave', () => this.#leave());
-    if (elements.filter) this.#takeFilter();
-    if (elements.letters) this.#takeLetters();
+    if (elements.filter && elements.order) this.#takeFilter(elements.filter, elements.order);
+    if (elements.letters) this.#takeLetters(elements.letters);
   }
 
-  #takeFilter() {
-    const { filter, order } = this.#elements;
+  /**
+   * @param {HTMLInputElement} filter
+   * @param {HTMLSelectElement} order
+   */
+  #takeFilter(filter, order) {
     filter.addEventListener('input', () => this.#list());
     filter.addEventListener('keydown', (event) => this.#key(event));
     filter.addEventListener('focus', () => this.#showGhost());
@@ -96,12 +133,12 @@ export class WordsView {
     order.addEventListener('change', () => this.#list());
   }
 
-  #takeLetters() {
-    const { letters } = this.#elements;
+  /** @param {HTMLElement} letters */
+  #takeLetters(letters) {
     this.#roving = new Roving(letters);
     letters.addEventListener('click', (event) => {
-      const letter = event.target.closest('button')?.dataset.letter;
-      if (letter && this.#lettered === this.#editor.cursor) this.actions.enter(letter);
+      const letter = pressed(event, 'button')?.dataset.letter;
+      if (letter && this.#lettered === this.#editor.cursor) this.#editor.do('enterLetter', letter);
     });
   }
 
@@ -118,17 +155,17 @@ export class WordsView {
   }
 
   get #light() {
-    return this.actions.light();
+    return this.#editor[this.#of];
   }
 
   // Asks anew for what is listed.
   soon() {
     this.#hovered = '';
     this.#showGhost('');
-    if (!this.actions.isShown()) return;
+    if (!this.#isShown()) return;
     this.#turn++;
     clearTimeout(this.#timer);
-    this.#timer = setTimeout(() => whenIdle(() => this.#ask(this.#turn)), REST);
+    this.#timer = window.setTimeout(() => whenIdle(() => this.#ask(this.#turn)), REST);
     this.#showBusy();
     this.#headSoon();
   }
@@ -152,7 +189,7 @@ export class WordsView {
     list.setAttribute('aria-busy', String(!this.#isCurrent || this.#answered !== this.#turn));
     letters?.setAttribute('aria-busy', String(isOther));
     clearTimeout(this.#lateTimer);
-    if (isOther || !this.#isCurrent) this.#lateTimer = setTimeout(() => this.#dim(), LATE);
+    if (isOther || !this.#isCurrent) this.#lateTimer = window.setTimeout(() => this.#dim(), LATE);
     else this.#dim();
   }
 
@@ -166,6 +203,10 @@ export class WordsView {
     return (this.#light?.name ?? '') === this.#listed;
   }
 
+  /**
+   * @param {HTMLElement} box
+   * @param {number} index
+   */
   #box(box, index) {
     const cell = this.#editor.board.cells[index];
     const names = [];
@@ -175,6 +216,7 @@ export class WordsView {
     setClass(box, names.join(' '));
   }
 
+  /** @param {number} turn */
   async #ask(turn) {
     const editor = this.#editor;
     const light = this.#light;
@@ -202,12 +244,17 @@ export class WordsView {
       await this.#askLetters(turn);
       if (!isDead) await this.#count(turn, light);
     } catch (fault) {
-      if (!fault.status) throw fault;
+      if (!statusOf(fault)) throw fault;
     }
   }
 
   // For an entered light: the words that fit what crosses it, and those that would if the letters in pencil were changed.
+  /**
+   * @param {number} turn
+   * @param {Light} light
+   */
   async #askAlternatives(turn, light) {
+    /** @type {{ fit: string[], others: { word: string, needs: string[] }[] } & Partial<ReturnType<typeof import('../engine/session.js').knownOf>>} */
     const { fit, others, ...known } = await this.#editor.engine.call('alternatives', { light: light.name, pencil: [...this.#editor.pencil] });
     if (turn !== this.#turn) return;
     this.#left = new Map();
@@ -221,6 +268,7 @@ export class WordsView {
   }
 
   // Keeps what words leave, as long as they are of the same light in the same grid.
+  /** @param {Light} light */
   #keepCounts(light) {
     const counted = `${light.name} ${this.#version}`;
     if (counted !== this.#counted) this.#left = new Map();
@@ -228,11 +276,17 @@ export class WordsView {
   }
 
   // In a dead end: the words that agree with the letters of the light alone.
+  /** @param {Light} light */
   async #matches(light) {
-    return (await this.#editor.ask(match(this.#editor.board.spell(light)))) ?? [];
+    return (await this.#editor.ask('match', this.#editor.board.spell(light))) ?? [];
   }
 
   // `scores` and `places` have what is known of the words, if anything is.
+  /**
+   * @param {number} turn
+   * @param {string[]} words
+   * @param {{ scores?: (number | null)[] | null, places?: (number | null)[] | null }} known
+   */
   #take(turn, words, { scores = null, places = null } = {}) {
     const pointed = this.#isCurrent ? this.#pointed : '';
     this.#answered = turn;
@@ -241,8 +295,8 @@ export class WordsView {
     this.#listed = this.#light?.name ?? '';
     this.#words = this.#apart(words);
     this.#scores = new Map(scores ? words.map((word, at) => [word, scores[at]]) : []);
-    const placed = words.map((word, at) => /** @type {[string, number | null]} */ ([word, places?.[at] ?? null]));
-    this.#places = new Map(placed.filter(([, place]) => place !== null));
+    const placed = words.map((word, at) => /** @type {[string, number]} */ ([word, places?.[at] ?? NaN]));
+    this.#places = new Map(placed.filter(([, place]) => !Number.isNaN(place)));
     this.#at = -1;
     this.#elements.list.scrollTop = 0;
     this.#list();
@@ -250,6 +304,7 @@ export class WordsView {
   }
 
   // The words that are close to none of the other lights, if that is wanted.
+  /** @param {string[]} words */
   #apart(words) {
     const { board, list } = this.#editor;
     if (!list.apart) return words;
@@ -269,12 +324,12 @@ export class WordsView {
     const words = filtered(this.#words, this.#filtered);
     if (this.#order === 'abc') return [...words].sort();
     if (this.#order !== 'left') return words;
-    const rank = (word) => {
+    const rank = (/** @type {string} */ word) => {
       const left = this.#left.get(word);
       return left === 'done' ? Number.MAX_VALUE : left ?? -1;
     };
     // words that need others changed come last
-    const isNeedy = (word) => Number(this.#needs.has(word));
+    const isNeedy = (/** @type {string} */ word) => Number(this.#needs.has(word));
     return [...words].sort((a, b) => isNeedy(a) - isNeedy(b) || rank(b) - rank(a));
   }
 
@@ -285,7 +340,7 @@ export class WordsView {
     if (this.#at >= this.shown.length) this.#at = -1;
     this.#fillRows(FIRST_LISTED);
     clearTimeout(this.#restTimer);
-    this.#restTimer = setTimeout(() => whenIdle(() => this.#fillRows(MOST_LISTED)), ALONE);
+    this.#restTimer = window.setTimeout(() => whenIdle(() => this.#fillRows(MOST_LISTED)), ALONE);
     list.hidden = !words.length && this.#isCurrent;
     // a column has room for a word
     list.style.setProperty('--letters', String(this.shown[0]?.length ?? 0));
@@ -301,6 +356,7 @@ export class WordsView {
   }
 
   // Fills the rows of the first words.
+  /** @param {number} most */
   #fillRows(most) {
     const words = this.shown.slice(0, most);
     const { list } = this.#elements;
@@ -331,6 +387,7 @@ export class WordsView {
     return this.#scores.size ? 'the numbers: score, and words left to the tightest light after it' : 'the number: words left to the tightest light after it';
   }
 
+  /** @param {number} count */
   #summary(count) {
     const all = this.#words.length;
     let text = all === 1 ? '1 word' : `${all.toLocaleString('en')} words`;
@@ -341,6 +398,10 @@ export class WordsView {
     setText(this.#elements.summary, text);
   }
 
+  /**
+   * @param {Row} row
+   * @param {string} word
+   */
   #fillRow(row, word) {
     const { name, score, from } = row.parts;
     row.dataset.word = word;
@@ -353,23 +414,32 @@ export class WordsView {
   }
 
   // What a word leaves, or a mark where it is not counted yet.
+  /**
+   * @param {Row} row
+   * @param {string} word
+   */
   #fillLeft(row, word) {
     const left = this.#left.get(word);
     const needs = this.#needs.get(word);
     setClass(row, [left === 0 ? 'dead' : '', needs ? 'needs' : ''].filter(Boolean).join(' '));
     const uncounted = this.#isDead ? '' : '·';
     // in a grid that is filled each word that fits fills it
+    /** @type {Record<string, string>} */
     const shown = { done: this.#isStanding ? '' : 'fills it', 0: 'dead end', undefined: uncounted };
-    setText(row.parts.left, needs && left !== 0 ? needsText(needs) : shown[left] ?? left);
+    setText(row.parts.left, needs && left !== 0 ? needsText(needs) : shown[String(left)] ?? String(left));
     setTitle(row.parts.left, needs ? `changes ${needsText(needs)}` : LEFT_TITLE);
   }
 
   // What each of the first words leaves, and then those in sight.
+  /**
+   * @param {number} turn
+   * @param {Light} light
+   */
   async #count(turn, light) {
     if (!this.#left.size) {
-      const told = await this.#editor.ask(choices(light.name, MOST_COUNTED));
+      const told = await this.#editor.ask('choices', light.name, MOST_COUNTED);
       if (turn !== this.#turn) return;
-      this.#takeLeft((told ?? []).map(({ word, left }) => [word, left]));
+      this.#takeLeft((told ?? []).map(({ word, left }) => [word, left ?? 'done']));
     }
     await this.#probe(turn, light);
   }
@@ -379,6 +449,7 @@ export class WordsView {
     setText(this.#elements.legend, this.#legend());
   }
 
+  /** @param {[string, Left][]} pairs */
   #takeLeft(pairs) {
     for (const [word, left] of pairs) this.#left.set(word, left);
     this.#isLate ||= this.#order === 'left' || pairs.some(([, left]) => left === 0);
@@ -388,10 +459,16 @@ export class WordsView {
   }
 
   // Counts the words in sight, a few in each call. They are shown now and then, so that frames are left for keys.
+  /**
+   * @param {number} turn
+   * @param {Light} light
+   */
   async #probe(turn, light) {
     const { engine } = this.#editor;
-    let [answers, shownAt] = [{}, performance.now()];
-    const isKnown = (word) => this.#left.has(word) || word in answers;
+    /** @type {Record<string, Left>} */
+    let answers = {};
+    let shownAt = performance.now();
+    const isKnown = (/** @type {string} */ word) => this.#left.has(word) || word in answers;
     const unknown = () => (this.#left.size < MOST_SUNK ? this.#inSight().filter((word) => !isKnown(word)).slice(0, MOST_PROBED) : []);
     while (turn === this.#turn) {
       let words = unknown();
@@ -401,7 +478,7 @@ export class WordsView {
         // dead ends that have sunk make room for others
         words = unknown();
       }
-      if (!words.length || this.actions.isFilling()) return this.#endCounting();
+      if (!words.length || this.#editor.fill.isRunning) return this.#endCounting();
       const { left, taken } = await engine.call('probe', { light: light.name, words, cleared: this.#cleared(light, words) });
       if (turn !== this.#turn) return undefined;
       Object.assign(answers, left);
@@ -410,10 +487,14 @@ export class WordsView {
   }
 
   // The letters in pencil that placing a word clears, by the words that need that: those of the crossing lights in its way, or else of all.
+  /**
+   * @param {Light} light
+   * @param {string[]} words
+   */
   #cleared(light, words) {
-    const cells = (names) => this.#editor.pencilledAcross(light, names);
+    const cells = (/** @type {string[]} */ names) => this.#editor.pencilledAcross(light, names);
     const needy = words.filter((word) => this.#needs.has(word));
-    return Object.fromEntries(needy.map((word) => [word, [cells(this.#needs.get(word)), cells([])]]));
+    return Object.fromEntries(needy.map((word) => [word, [cells(this.#needs.get(word) ?? []), cells([])]]));
   }
 
   #inSight() {
@@ -429,17 +510,18 @@ export class WordsView {
   #countSoon() {
     clearTimeout(this.#countTimer);
     const turn = this.#turn;
-    this.#countTimer = setTimeout(() => {
+    this.#countTimer = window.setTimeout(() => {
       if (this.#light) this.#probe(turn, this.#light).catch(() => {});
     }, REST);
   }
 
   // The feasible letters of the cell, with what they leave across and down.
+  /** @param {number} turn */
   async #askLetters(turn) {
     const { board, cursor } = this.#editor;
     const cell = board.cells[cursor];
     const { letters, coordinates } = this.#elements;
-    if (!letters) return this.#showBusy();
+    if (!letters || !coordinates) return this.#showBusy();
     if (cell.block) {
       this.#lettered = cursor;
       setText(coordinates, '');
@@ -447,17 +529,17 @@ export class WordsView {
       letters.classList.remove('none');
       return fit(letters, this.#buttons, 0, makeButton);
     }
-    const told = (await this.#editor.ask(tally(cell.coordinates))) ?? [];
+    const told = (await this.#editor.ask('tally', board.rowOf(cursor), board.columnOf(cursor))) ?? [];
     if (turn !== this.#turn) return undefined;
     this.#lettered = cursor;
-    letters.parentElement.classList.toggle('entered', Boolean(this.#editor.board.cells[cursor].letter));
+    letters.parentElement?.classList.toggle('entered', Boolean(this.#editor.board.cells[cursor].letter));
     setText(coordinates, `Row ${board.rowOf(cursor)}, column ${board.columnOf(cursor)}`);
     this.#showBusy();
     letters.classList.toggle('none', !told.length);
-    const most = Math.max(1, ...told.map(({ across, down }) => Math.max(Number(across) || 0, Number(down) || 0)));
+    const most = Math.max(1, ...told.map(({ across, down }) => Math.max(across ?? 0, down ?? 0)));
     fit(letters, this.#buttons, told.length, makeButton);
     told.forEach((counts, at) => fillButton(this.#buttons[at], counts, most));
-    return this.#roving.show();
+    return this.#roving?.show();
   }
 
   // The word that is pointed at.
@@ -480,8 +562,9 @@ export class WordsView {
   }
 
   // A list that moves under a pointer at rest is not pointed at.
+  /** @param {PointerEvent} event */
   #hover({ target, pointerType }) {
-    const word = pointerType === 'touch' ? '' : target.closest('li')?.dataset.word ?? '';
+    const word = pointerType === 'touch' ? '' : /** @type {HTMLElement} */ (target).closest('li')?.dataset.word ?? '';
     if (word === this.#hovered) return;
     this.#hovered = word;
     this.#showGhost();
@@ -500,11 +583,15 @@ export class WordsView {
     const shown = word && light?.cells.length === word.length ? `${light.name} ${word}` : '';
     if (shown === this.#ghost) return;
     this.#ghost = shown;
-    const cells = shown ? light.cells.map((cell, at) => /** @type {[number, string]} */ ([cell, word[at]])) : [];
+    const cells = shown && light ? light.cells.map((cell, at) => /** @type {[number, string]} */ ([cell, word[at]])) : [];
     this.#editor.change({ ghosts: new Map(cells.filter(([cell, letter]) => board.cells[cell].letter !== letter)) });
   }
 
   // Gives a word a score that is a step better, or worse, in the words of the user.
+  /**
+   * @param {string} word
+   * @param {number} direction
+   */
   #regrade(word, direction) {
     const { best } = this.#editor.list;
     if (!this.#scores.size) return refuse('your lists have no scores, so there is nothing to grade');
@@ -513,12 +600,15 @@ export class WordsView {
     if (other === score) return refuse(`${word} has ${score} already, the ${direction > 0 ? 'best' : 'least'} score`);
     this.#scores.set(word, other);
     this.#fillRows(this.#elements.list.childElementCount);
-    return this.actions.regrade(word, other);
+    return this.#editor.do('regrade', word, other);
   }
 
   // The keys of the filter.
 
+  /** @param {KeyboardEvent} event */
   #key(event) {
+    const { filter } = this.#elements;
+    /** @type {Record<string, number>} */
     const steps = { ArrowDown: 1, ArrowUp: -1, PageDown: 10, PageUp: -10 };
     if (steps[event.key]) {
       event.preventDefault();
@@ -532,23 +622,24 @@ export class WordsView {
       else refuse('no candidate passes the filter');
     } else if (event.key === 'Delete' && event.shiftKey) {
       event.preventDefault();
-      if (this.#pointed) this.actions.strike(this.#pointed);
+      if (this.#pointed) this.#edits.strike(this.#pointed);
     } else if (/^[+-]$/.test(event.key) && this.#pointed && !this.#filtered.startsWith('/')) {
       event.preventDefault();
       this.#regrade(this.#pointed, event.key === '+' ? 1 : -1);
     } else if (event.key === 'Escape') {
       event.preventDefault();
-      if (this.#elements.filter.value) {
-        this.#elements.filter.value = '';
+      if (filter?.value) {
+        filter.value = '';
         this.#list();
       } else {
-        this.actions.toGrid();
+        this.#editor.do('toGrid');
         this.#showGhost();
       }
     }
   }
 
   // Points at a word again after the list was asked for anew, if the word is still in it.
+  /** @param {string} word */
   #pointAt(word) {
     this.#at = this.shown.indexOf(word);
     this.#point();
@@ -563,56 +654,81 @@ export class WordsView {
     if (!row) return filter?.removeAttribute('aria-activedescendant');
     row.setAttribute('aria-selected', 'true');
     row.scrollIntoView({ block: 'nearest' });
-    filter.setAttribute('aria-activedescendant', row.id);
+    filter?.setAttribute('aria-activedescendant', row.id);
   }
 
+  /** @param {MouseEvent} event */
   #click(event) {
-    const word = event.target.closest('li')?.dataset.word;
+    const word = pressed(event, 'li')?.dataset.word;
     if (!word || !this.#isCurrent) return;
-    const step = event.target.closest('.grade')?.dataset.step;
-    if (event.target.closest('.strike')) this.actions.strike(word);
+    const step = pressed(event, '.grade')?.dataset.step;
+    if (pressed(event, '.strike')) this.#edits.strike(word);
     else if (step) this.#regrade(word, Number(step));
     else this.#place(word);
   }
 
+  /** @param {string} word */
   async #place(word) {
-    const refused = await this.actions.place(word, this.#needs.get(word) ?? null);
+    const refused = await this.#edits.place(word, this.#needs.get(word) ?? null, this.#light);
     if (refused) return refuse(refusalText(refused));
     this.clearFilter();
-    this.actions.toGrid();
+    this.#editor.do('toGrid');
   }
 }
 
+/**
+ * @param {number} fit
+ * @param {number} others
+ */
 function alternativesText(fit, others) {
   const text = `${fit.toLocaleString('en')} ${fit === 1 ? 'other word fits' : 'other words fit'}`;
   return others ? `${fit.toLocaleString('en')} fit, ${others} others` : text;
 }
 
 // The lights that would change, as in “5D 7D”; or all that cross.
-const needsText = (names) => names.map((name) => name.replace(/ (.).*/, (_, letter) => letter.toUpperCase())).join(' ') || 'all crossings';
+const needsText = (/** @type {string[]} */ names) => names.map((name) => name.replace(/ (.).*/, (_, letter) => letter.toUpperCase())).join(' ') || 'all crossings';
 
-export const titleOf = (light) => `${light.number} ${light.direction === 'across' ? 'Across' : 'Down'}`;
+export const titleOf = (/** @type {Pick<Light, 'number' | 'direction'>} */ light) => `${light.number} ${light.direction === 'across' ? 'Across' : 'Down'}`;
 
 // Elements that are used again.
 
 // Gives a parent its first elements, so many; makes those that are lacking.
+/**
+ * @template {HTMLElement} Kind
+ * @param {HTMLElement} parent
+ * @param {Kind[]} elements
+ * @param {number} count
+ * @param {(at: number) => Kind} make
+ */
 function fit(parent, elements, count, make) {
   while (elements.length < count) elements.push(make(elements.length));
-  while (parent.childElementCount > count) parent.lastElementChild.remove();
+  while (parent.childElementCount > count) parent.lastElementChild?.remove();
   for (let at = parent.childElementCount; at < count; at++) parent.append(elements[at]);
 }
 
-function setText(element, text) {
-  const spelled = termed(String(text));
-  if (element.firstChild?.data === spelled) return;
-  if (element.firstChild) element.firstChild.data = spelled;
-  else element.append(spelled);
+/**
+ * @param {HTMLElement} element
+ * @param {string | number} shown
+ */
+function setText(element, shown) {
+  const spelled = termed(String(shown));
+  const text = /** @type {Text | null} */ (element.firstChild);
+  if (!text) element.append(spelled);
+  else if (text.data !== spelled) text.data = spelled;
 }
 
+/**
+ * @param {HTMLElement} element
+ * @param {string} name
+ */
 function setClass(element, name) {
   if (element.className !== name) element.className = name;
 }
 
+/**
+ * @param {HTMLElement} element
+ * @param {string} title
+ */
 function setTitle(element, title) {
   const spelled = termed(title);
   if (element.title !== spelled) element.title = spelled;
@@ -622,23 +738,29 @@ const LEFT_TITLE = 'the least number of words that a light has then';
 
 const makeBox = () => document.createElement('span');
 
+/**
+ * @param {string} id
+ * @returns {Row}
+ */
 function makeRow(id) {
-  /** @type {HTMLLIElement & { parts?: Record<string, HTMLElement> }} */
   const row = document.createElement('li');
   row.setAttribute('role', 'option');
   row.id = id;
-  row.parts = {
+  const parts = {
     name: document.createElement('span'), score: small('score', 'score'), from: small('from', ''), worse: small('grade', 'a worse score, in My words ( - )'),
     better: small('grade', 'a better score, in My words ( + )'), left: small('left', LEFT_TITLE), strike: small('strike', 'hide this word in this puzzle (Shift Delete)'),
   };
-  for (const [name, sign, step] of [['worse', '−', '-1'], ['better', '+', '1'], ['strike', '×', '']]) {
-    setText(row.parts[name], sign);
-    if (step) row.parts[name].dataset.step = step;
-  }
-  row.append(...Object.values(row.parts));
-  return row;
+  for (const [part, sign] of /** @type {const} */ ([[parts.worse, '−'], [parts.better, '+'], [parts.strike, '×']])) setText(part, sign);
+  parts.worse.dataset.step = '-1';
+  parts.better.dataset.step = '1';
+  row.append(...Object.values(parts));
+  return Object.assign(row, { parts });
 }
 
+/**
+ * @param {string} name
+ * @param {string} title
+ */
 function small(name, title) {
   const element = document.createElement('small');
   element.className = name;
@@ -653,13 +775,20 @@ function makeButton() {
   return button;
 }
 
+/**
+ * @param {HTMLElement} button
+ * @param {Answers['tally'][number]} counts
+ * @param {number} most
+ */
 function fillButton(button, { letter, across, down }, most) {
-  const bar = (count) => `${Math.round((100 * Math.log1p(Number(count) || 0)) / Math.log1p(most))}%`;
+  const bar = (/** @type {number | null} */ count) => `${Math.round((100 * Math.log1p(count ?? 0)) / Math.log1p(most))}%`;
+  const [right, below] = [across ?? '-', down ?? '-'];
   button.dataset.letter = letter;
   button.style.setProperty('--across', bar(across));
   button.style.setProperty('--down', bar(down));
-  button.title = `${letter}: ${across} across, ${down} down`;
-  button.setAttribute('aria-label', `enter ${letter}: ${across} words across, ${down} down`);
-  setText(button.children[0], letter);
-  setText(button.children[1], `${across}→ ${down}↓`);
+  button.title = `${letter}: ${right} across, ${below} down`;
+  button.setAttribute('aria-label', `enter ${letter}: ${right} words across, ${below} down`);
+  const [name, told] = /** @type {HTMLElement[]} */ ([...button.children]);
+  setText(name, letter);
+  setText(told, `${right}→ ${below}↓`);
 }

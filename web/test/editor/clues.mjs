@@ -3,20 +3,20 @@ import { writeFileSync } from 'node:fs';
 import { join } from 'node:path';
 import { Xw } from '../../dist/xw.js';
 import { begin, menu, openFile, openList, openRecord, print, saved } from '../doing.mjs';
-import { hold, holdFill, isDrafted, isHeld, isInBank } from '../holding.mjs';
+import { hold, holdFill, isDrafted, isFillHeld, isHeld, isInBank, release, releaseFill } from '../holding.mjs';
 import { pageScript } from '../page-modules.mjs';
-import { LIST, PAGE, browser, expect, module, page, picture, ready, reload, room, runAlone } from '../page.mjs';
+import { LIST, PAGE, browser, expect, inPage, module, page, picture, ready, reload, room, runAlone, the, untilInPage } from '../page.mjs';
 
 // A row of four cells with a word.
 const rowOf = (word) => `size 4 1\n${[...word].map((letter, at) => `set 1 ${at + 1} ${letter}\n`).join('')}`;
-const clueIs = (text) => browser.until(`document.querySelector('#clue-list textarea').value === '${text}'`);
+const clueIs = (text) => the('#clue-list textarea').holds(text);
 const staleIs = (text) => browser.until(`document.querySelector('.clue .written').textContent === '${text}' && Boolean(document.querySelector('.clue.stale')) === ${Boolean(text)}`);
 const WRITTEN = 'Written for BAAS: Keep Drop';
 
 async function enterWord(word) {
   await browser.click('#cell-1-1');
   await browser.type(word);
-  await browser.until(`document.querySelector('.clue .word').textContent === '${word.toUpperCase()}'`);
+  await the('.clue .word').says(word.toUpperCase());
 }
 
 export const CASES = {
@@ -29,14 +29,14 @@ export const CASES = {
     await staleIs('');
     await enterWord('agar');
     await staleIs(WRITTEN);
-    await browser.until("document.getElementById('clue-summary').textContent === 'every light has a clue; 1 is for another word'");
+    await the('#clue-summary').says('every light has a clue; 1 is for another word');
     await picture('stale-clue');
     // a length at its end says nothing of the other word
     await browser.click('#clue-lengths');
     await clueIs('Sheep sounds (4)');
     await staleIs(WRITTEN);
     await browser.press('F4');
-    await browser.until("[...document.querySelectorAll('#checks button')].some(({ textContent }) => textContent === 'the clue of 1 Across was written for BAAS')");
+    await the('#checks button').oneSays('the clue of 1 Across was written for BAAS');
     // each file warns, and has the clue
     const puz = await saved('crossword.puz', () => browser.press('Control+s'));
     await page.statusIs(/^saved: crossword.puz; but the clue of 1 Across was written for BAAS$/, 'bad');
@@ -74,7 +74,7 @@ export const CASES = {
 
   async 'letters that come before a clue is recorded'() {
     await openRecord(`${rowOf('BAAS')}# originals [["cell 1 4","SH"]]\n`);
-    await browser.until("document.querySelector('#cell-1-4.rebus .letter').textContent === 'SH'");
+    await the('#cell-1-4.rebus .letter').says('SH');
     await browser.press('F3');
     await hold('record');
     await browser.insert('Sheep sounds');
@@ -83,30 +83,30 @@ export const CASES = {
     // the grid shows them at once, and the clue was written before
     await browser.click('#cell-1-1');
     await browser.type('agar');
-    await browser.until("document.querySelector('#cell-1-4 .letter').textContent === 'R'");
-    await browser.value('window.release()');
+    await the('#cell-1-4 .letter').says('R');
+    await release();
     await staleIs(WRITTEN);
     // and the cell of two letters is there before the one that comes over it
     await browser.press('Control+z');
-    await browser.until("document.querySelector('#cell-1-4.rebus .letter').textContent === 'SH'");
+    await the('#cell-1-4.rebus .letter').says('SH');
   },
 
   async 'all letters of a cell in the words of clues'() {
     await openRecord(`${rowOf('BAAS')}# originals [["cell 1 4","SH"]]\n`);
     await browser.press('F3');
-    await browser.until("document.querySelector('.clue .word').textContent === 'BAASH' && document.querySelector('.clue .length').textContent === '(5)'");
+    await untilInPage(() => document.querySelector('.clue .word').textContent === 'BAASH' && document.querySelector('.clue .length').textContent === '(5)');
   },
 
   async 'a block that hides a clue'() {
     await openRecord('size 5 1\nblock 1 3\ntext clue 1 1 across First\ntext clue 1 4 across Second\n');
     await browser.press('F3');
-    await browser.until("[...document.querySelectorAll('#clue-list textarea')].map(({ value }) => value).join() === 'First,Second'");
+    await the('#clue-list textarea').hold('First,Second');
     await browser.click('#cell-1-3');
     await browser.press('.');
     await page.statusIs(/^the clue of 2 Across is hidden, since its (light|entry) is gone: undo brings it back$/i, 'bad');
-    await browser.until("document.querySelectorAll('#clue-list textarea').length === 1");
+    await the('#clue-list textarea').are(1);
     await browser.press('Control+z');
-    await browser.until("[...document.querySelectorAll('#clue-list textarea')].map(({ value }) => value).join() === 'First,Second'");
+    await the('#clue-list textarea').hold('First,Second');
   },
 
   async 'Esc in a clue'() {
@@ -138,7 +138,7 @@ export const CASES = {
     await browser.press('Escape');
     await isDrafted(/text title Flock/);
     await browser.press('Escape');
-    await browser.until("document.getElementById('title').value === ''");
+    await the('#title').holds('');
   },
 
   async 'undo in a clue'() {
@@ -148,7 +148,7 @@ export const CASES = {
     // nothing is typed, so that the last step goes: the file
     await browser.press('Control+z');
     await page.factsAre(/^5 × 5/);
-    await browser.until("document.activeElement.dataset.light");
+    await the('[data-light]').hasFocus();
     await browser.press('Control+y');
     await page.factsAre(/^4 × 1/);
     await browser.press('F3');
@@ -160,9 +160,9 @@ export const CASES = {
     await browser.press('Control+y');
     await clueIs('Sheep sounds');
     // typing elsewhere in the field is a step of its own, however fast it comes
-    await browser.value('document.activeElement.setSelectionRange(0, 0)');
+    await page.select(0, 0);
     await browser.insert('Loud ');
-    await browser.value('document.activeElement.setSelectionRange(0, 4)');
+    await page.select(0, 4);
     await browser.press('Control+i');
     await clueIs('<i>Loud</i> Sheep sounds');
     await browser.press('Control+z');
@@ -179,7 +179,7 @@ export const CASES = {
     await browser.press('F3');
     await browser.insert('sounds');
     await isDrafted(/sounds/);
-    await browser.value('document.activeElement.setSelectionRange(0, 0)');
+    await page.select(0, 0);
     await browser.insert('Sheep ');
     await browser.press('Escape');
     await page.statusIs(/kept; Esc again takes it back/);
@@ -196,36 +196,36 @@ export const CASES = {
     await browser.insert('Sheep sounds');
     await browser.drop(join(room, 'other.xw'));
     await page.statusIs(/other.xw is open/);
-    await browser.until("document.querySelector('#cell-1-1 .letter').textContent === 'O'");
+    await the('#cell-1-1 .letter').says('O');
     await clueIs('');
     // it stays with its puzzle, also in a private note
     await browser.press('Control+z');
     await clueIs('Sheep sounds');
     await browser.press('F3');
-    await browser.value("document.querySelector('.clue-more .note').focus()");
+    await the('.clue-more .note').focus();
     await browser.insert('two meanings');
     await browser.drop(join(room, 'other.xw'));
     await page.statusIs(/other.xw is open/);
-    await browser.until("document.querySelector('#cell-1-1 .letter').textContent === 'O' && document.querySelector('.clue-more .note').value === ''");
+    await untilInPage(() => document.querySelector('#cell-1-1 .letter').textContent === 'O' && document.querySelector('.clue-more .note').value === '');
     await browser.press('Control+z');
-    await browser.until("document.querySelector('.clue-more .note').value === 'two meanings'");
+    await the('.clue-more .note').holds('two meanings');
   },
 
   async 'texts that are typed while a fill runs'() {
     await begin(6);
     await holdFill();
     await browser.press('Control+f');
-    await browser.until('window.heldFill');
+    await isFillHeld();
     await browser.press('F3');
     await browser.insert('Typed meanwhile');
     await browser.press('F4');
     await browser.insert('A title');
     await browser.press('Tab');
-    await browser.value('window.heldFill()');
+    await releaseFill();
     await page.statusIs(/^filled/);
     await isDrafted(/Typed meanwhile/);
     await isDrafted(/A title/);
-    await browser.until("document.querySelector('#clue-list textarea').value === 'Typed meanwhile' && document.getElementById('title').value === 'A title'");
+    await untilInPage(() => document.querySelector('#clue-list textarea').value === 'Typed meanwhile' && document.getElementById('title').value === 'A title');
   },
 
   async 'a panel that stands under its clue'() {
@@ -251,7 +251,7 @@ export const CASES = {
       // the note goes to that clue
       await browser.press('ArrowUp');
       await stands('1 across', '1 Across');
-      await browser.value("document.querySelector('.clue-more .note').focus()");
+      await the('.clue-more .note').focus();
       await browser.insert(`mine ${turn}`);
       await browser.press('Enter');
       await isDrafted(new RegExp(`"note 1 1 across","mine ${turn}"`));
@@ -265,27 +265,27 @@ export const CASES = {
     await browser.press('F3');
     await browser.insert('Shakers leave large farm buildings');
     await browser.press('Enter');
-    await browser.until("document.activeElement.dataset.light === '2 across'");
+    await the('[data-light="2 across"]').hasFocus();
     await browser.press('ArrowUp');
-    await browser.value("document.querySelector('.clue-more .links').focus()");
+    await the('.clue-more .links').focus();
     await browser.insert('9');
     await browser.press('Enter');
     await page.statusIs(/no other (light|entry) is called 9/, 'bad');
-    await browser.value("document.querySelector('.clue-more .links').value = ''");
+    await the('.clue-more .links').put('value', '');
     await browser.insert('2');
     await browser.press('Enter');
-    await browser.until("[...document.querySelectorAll('.clue b')].map(({ textContent }) => textContent).join() === '1/2,2'");
-    await browser.until("[...document.querySelectorAll('#clue-list textarea')].map(({ value }) => value).join('|') === 'Shakers leave large farm buildings|See 1' && document.querySelectorAll('#clue-list textarea')[1].readOnly");
-    await browser.until("document.getElementById('clue-summary').textContent.endsWith('has a clue')");
+    await the('.clue b').say('1/2,2');
+    await untilInPage(() => [...document.querySelectorAll('#clue-list textarea')].map(({ value }) => value).join('|') === 'Shakers leave large farm buildings|See 1' && document.querySelectorAll('#clue-list textarea')[1].readOnly);
+    await the('#clue-summary').ends('has a clue');
     await picture('linked-lights');
     // the lengths are those of both, and a clue that leads to another one gets none
     await browser.click('#clue-lengths');
     await page.statusIs(/^1 clue has a length now$/);
-    await browser.until("[...document.querySelectorAll('#clue-list textarea')].map(({ value }) => value).join('|') === 'Shakers leave large farm buildings (5,5)|See 1'");
+    await the('#clue-list textarea').hold('Shakers leave large farm buildings (5,5)|See 1', '|');
     await browser.press('F4');
-    await browser.until("!/says/.test(document.getElementById('checks').textContent)");
+    await the('#checks').saysNot(/says/);
     await browser.press('Control+p');
-    await browser.until("[...document.querySelectorAll('#preview .clues p')].map(({ textContent }) => textContent.trim()).join('|') === '1/2 Shakers leave large farm buildings (5,5)|2 See 1'");
+    await untilInPage(() => [...document.querySelectorAll('#preview .clues p')].map(({ textContent }) => textContent.trim()).join('|') === '1/2 Shakers leave large farm buildings (5,5)|2 See 1');
     await browser.press('Escape');
     const puz = await saved('crossword.puz', () => browser.press('Control+s'));
     await page.statusIs(/^saved: crossword.puz, without the link of a clue$/);
@@ -298,72 +298,72 @@ export const CASES = {
       await openFile(join(room, name));
       await page.statusIs(/is open; undo/);
       await browser.press('F3');
-      await browser.until("[...document.querySelectorAll('.clue b')].map(({ textContent }) => textContent).join() === '1/2,2'");
+      await the('.clue b').say('1/2,2');
     }
     // another number of the first light comes into the clue of the other one, in the step of the block
     await browser.click('#cell-1-1');
     await browser.press('=');
     await browser.press('.');
-    await browser.until("document.querySelector('#cell-1-1.block')");
+    await the('#cell-1-1.block').isThere();
     await browser.press('Control+z');
-    await browser.until("[...document.querySelectorAll('#clue-list textarea')].map(({ value }) => value).join('|') === 'Shakers leave large farm buildings (5,5)|See 1'");
+    await the('#clue-list textarea').hold('Shakers leave large farm buildings (5,5)|See 1', '|');
     // without the link the other light is without a clue
     await browser.click('#clue-list textarea');
-    await browser.value("document.querySelector('.clue-more .links').focus(), document.querySelector('.clue-more .links').value = ''");
+    await inPage(() => (document.querySelector('.clue-more .links').focus(), document.querySelector('.clue-more .links').value = ''));
     await browser.press('Enter');
-    await browser.until("[...document.querySelectorAll('#clue-list textarea')].map(({ value }) => value).join('|') === 'Shakers leave large farm buildings (5,5)|' && !document.querySelector('.clue.linked')");
+    await untilInPage(() => [...document.querySelectorAll('#clue-list textarea')].map(({ value }) => value).join('|') === 'Shakers leave large farm buildings (5,5)|' && !document.querySelector('.clue.linked'));
     await browser.click('#cell-1-1');
     await browser.press('Control+z');
-    await browser.until("[...document.querySelectorAll('#clue-list textarea')].map(({ value }) => value).join('|') === 'Shakers leave large farm buildings (5,5)|See 1'");
+    await the('#clue-list textarea').hold('Shakers leave large farm buildings (5,5)|See 1', '|');
   },
 
   async 'numbers of linked lights after a block'() {
     await openRecord('size 4 4\ntext clue 2 1 across One\ntext clue 3 1 across Two\n');
     await browser.press('F3');
-    await browser.until("document.querySelectorAll('#clue-list textarea').length === 8");
+    await the('#clue-list textarea').are(8);
     await browser.click('[data-light="5 across"]');
-    await browser.value("document.querySelector('.clue-more .links').focus()");
+    await the('.clue-more .links').focus();
     await browser.insert('6');
     await browser.press('Enter');
-    await browser.until("document.querySelector('[data-light=\"6 across\"]').value === 'See 5'");
+    await the('[data-light="6 across"]').holds('See 5');
     await browser.click('#cell-1-1');
     await browser.press('.');
-    await browser.until("document.querySelector('.clue.linked textarea').value === 'See 4'");
+    await the('.clue.linked textarea').holds('See 4');
     await browser.click('#cell-1-2');
     await browser.press('Control+z');
-    await browser.until("document.querySelector('.clue.linked textarea').value === 'See 5' && !document.querySelector('#cell-1-1.block')");
+    await untilInPage(() => document.querySelector('.clue.linked textarea').value === 'See 5' && !document.querySelector('#cell-1-1.block'));
   },
 
   async 'notes, italics and helpers of a setter'() {
     await openRecord(rowOf('TONE'));
     await browser.press('F3');
     await browser.insert('Sound of Hamlet');
-    await browser.value("document.activeElement.setSelectionRange(9, 15)");
+    await page.select(9, 15);
     await browser.press('Control+i');
     await clueIs('Sound of <i>Hamlet</i>');
-    await browser.until("document.querySelector('.clue .italics i').textContent === 'Hamlet'");
+    await the('.clue .italics i').says('Hamlet');
     await browser.press('Enter');
     await isDrafted(/Sound of <i>Hamlet/);
     // a note is for the setter alone
-    await browser.value("document.querySelector('.clue-more .note').focus()");
+    await the('.clue-more .note').focus();
     await browser.insert('two meanings');
     await browser.press('Enter');
     await isDrafted(/note 1 1 across/);
     // helpers look through the lists
     const anagrams = LIST.toUpperCase().split('\n').filter((word) => word !== 'TONE' && [...word].sort().join('') === 'ENOT');
-    await browser.value("[...document.querySelectorAll('.clue-more .helpers button')][1].click()");
+    await the('.clue-more .helpers button').press(1);
     await browser.until(`${JSON.stringify(anagrams)}.every((word) => [...document.querySelectorAll('.found button')].some(({ textContent }) => textContent === word))`);
     await picture('anagrams');
     await browser.click('.found button');
-    const [first] = await browser.value("[...document.querySelectorAll('.found button')].map(({ textContent }) => textContent)");
-    await browser.until(`document.querySelector('.clue-more .note').value === 'two meanings (${first})*'`);
-    await browser.value("[...document.querySelectorAll('.clue-more .helpers button')][2].click()");
-    await browser.until("document.querySelectorAll('.found button').length > 3 && [...document.querySelectorAll('.found button')].every(({ textContent }) => textContent.replace(/[a-z ]/g, '') === 'TONE')");
+    const [first] = await the('.found button').texts();
+    await the('.clue-more .note').holds(`two meanings (${first})*`);
+    await the('.clue-more .helpers button').press(2);
+    await untilInPage(() => document.querySelectorAll('.found button').length > 3 && [...document.querySelectorAll('.found button')].every(({ textContent }) => textContent.replace(/[a-z ]/g, '') === 'TONE'));
     await isDrafted(/two meanings \(/);
     await reload();
     await browser.press('F3');
     await clueIs('Sound of <i>Hamlet</i>');
-    await browser.until(`document.querySelector('.clue-more .note').value === 'two meanings (${first})*'`);
+    await the('.clue-more .note').holds(`two meanings (${first})*`);
     // the engine, and so a .puz, has the text alone
     const bytes = await saved('crossword.puz', () => browser.press('Control+s'));
     await page.statusIs(/^saved: crossword.puz, without the italics of a clue and a private note$/);
@@ -371,19 +371,19 @@ export const CASES = {
     const ipuz = JSON.parse((await saved('crossword.ipuz', () => menu('save-ipuz'))).toString());
     expect(ipuz.clues.Across[0][1] === 'Sound of <i>Hamlet</i>' && !JSON.stringify(ipuz).includes('meanings'), JSON.stringify(ipuz.clues));
     await browser.press('Control+p');
-    await browser.until("document.querySelector('#preview .clues i').textContent === 'Hamlet' && !/meanings/.test(document.getElementById('preview').textContent)");
+    await untilInPage(() => document.querySelector('#preview .clues i').textContent === 'Hamlet' && !/meanings/.test(document.getElementById('preview').textContent));
     await browser.press('Escape');
     // undo takes back the last change of the note, and says so
     await browser.click('#cell-1-1');
     await browser.press('F3');
-    await browser.value("document.querySelector('.clue-more .note').focus(), document.querySelector('.clue-more .note').select()");
+    await inPage(() => (document.querySelector('.clue-more .note').focus(), document.querySelector('.clue-more .note').select()));
     await browser.insert('other');
     await browser.press('Enter');
     await isDrafted(/"other"/);
     await browser.click('#cell-1-1');
     await browser.press('Control+z');
     await page.statusIs(/^undone: the note on 1 Across$/i);
-    await browser.until(`document.querySelector('.clue-more .note').value === 'two meanings (${first})*'`);
+    await the('.clue-more .note').holds(`two meanings (${first})*`);
   },
 
   async 'a field that grows with its clue'() {
@@ -391,12 +391,12 @@ export const CASES = {
     await browser.press('F3');
     await browser.insert('Short');
     const heightIs = (test) => browser.until(`(({ offsetHeight, scrollHeight, clientHeight, offsetWidth }) => ${test})(document.querySelector('#clue-list textarea'))`);
-    const low = await browser.value("document.querySelector('#clue-list textarea').offsetHeight");
+    const low = await the('#clue-list textarea').get('offsetHeight');
     await browser.insert(', and then ever so much longer, so that it does not fit into a line of the field, however wide that may be in this window or in another one');
     await heightIs(`offsetHeight > ${low} + 10 && scrollHeight <= clientHeight + 1`);
     await picture('long-clue');
     await browser.press('Enter');
-    expect(!(await browser.value("document.querySelector('#clue-list textarea').value.includes('\\n')")), 'the clue has several lines');
+    expect(!(await inPage(() => document.querySelector('#clue-list textarea').value.includes('\n'))), 'the clue has several lines');
     for (const [width, height] of [[1400, 900], [1000, 800], [390, 844]]) {
       await browser.view(width, height);
       await heightIs("offsetWidth > 0.55 * document.querySelector('.clue-part').clientWidth");
@@ -407,10 +407,10 @@ export const CASES = {
   async 'the clues across and down side by side, and on a phone below each other'() {
     await begin(1);
     await browser.press('F3');
-    const columns = () => browser.value(`[...document.querySelectorAll('.clue-part')].map((part) => {
+    const columns = () => inPage(() => [...document.querySelectorAll('.clue-part')].map((part) => {
       const { left, right, top, bottom } = part.getBoundingClientRect();
       return { left, right, top, bottom, title: part.firstChild.textContent, isCut: part.scrollWidth > part.clientWidth };
-    })`);
+    }));
     for (const [width, height] of [[1280, 720], [1280, 800], [1280, 1024], [1920, 1080], [768, 1024]]) {
       await browser.view(width, height);
       const [across, down] = await columns();
@@ -455,7 +455,7 @@ export const CASES = {
     })()`);
     await isOffered(true);
     await picture('old-clues');
-    await browser.until("!/Chances/.test(window.drafts())");
+    await untilInPage(() => !/Chances/.test(window.drafts()));
     await browser.click('.offers button');
     await clueIs('Chances');
     // folded, where a clue is there; what this puzzle has is none of them
@@ -465,16 +465,16 @@ export const CASES = {
     await staleIs('');
     await enterWord('oats');
     await staleIs('Written for ODDS: Keep Drop');
-    await browser.until("document.querySelector('.offers').hidden");
+    await the('.offers').isHidden();
   },
 
   async 'the bank of old clues saved, cleared and read again'() {
-    const bank = (count) => browser.until(`document.getElementById('bank-summary').textContent.startsWith('${count} with their words, in this browser alone')`);
+    const bank = (count) => the('#bank-summary').begins(`${count} with their words, in this browser alone`);
     const saving = () => saved('old-clues.csv', () => browser.click('#bank-export')).then((bytes) => bytes.toString().slice(1));
     await openRecord(`${rowOf('EELS')}text title Sea\ntext clue 1 1 across Slippery fish\n`);
     await isInBank('Slippery fish');
     await browser.press('F4');
-    await browser.until("/^[1-9][0-9]* clues? with/.test(document.getElementById('bank-summary').textContent)");
+    await the('#bank-summary').says(/^[1-9][0-9]* clues? with/);
     // what is cleared is gone for good, after a question
     await browser.click('#bank-clear');
     await browser.click('#bank-dialog [value=cancel]');
@@ -485,11 +485,11 @@ export const CASES = {
     await browser.click('#bank-take');
     await page.statusIs(/^the old clues are cleared$/, 'good');
     await bank('0 clues');
-    expect(await browser.value("document.getElementById('bank-export').disabled && document.getElementById('bank-clear').disabled"), 'nothing can be saved');
+    expect(await inPage(() => document.getElementById('bank-export').disabled && document.getElementById('bank-clear').disabled), 'nothing can be saved');
     // a table is read after a question too, and what is left out is named
     writeFileSync(join(room, 'bank.csv'), `${before}BANS,Forbids,Law,2025-03-04\r\nBANS,,Law,\r\n`);
     await browser.choose('#bank-file', join(room, 'bank.csv'));
-    await browser.until("document.getElementById('bank-dialog').open && / Left out: a row without an answer or a clue.$/.test(document.getElementById('bank-told').textContent)");
+    await untilInPage(() => document.getElementById('bank-dialog').open && / Left out: a row without an answer or a clue.$/.test(document.getElementById('bank-told').textContent));
     await browser.click('#bank-take');
     await page.statusIs(/^bank.csv: [0-9]+ clues added to the old clues; left out: a row without an answer or a clue$/);
     const after = await saving();
@@ -501,12 +501,12 @@ export const CASES = {
     // and what was read is shown below the clue of its word
     await openRecord(rowOf('BANS'));
     await browser.press('F3');
-    await browser.until("/^Clues for BANS before: 1, in 1 puzzleForbidsLaw, .*2025/.test(document.querySelector('.offers:not([hidden])')?.textContent)");
+    await the('.offers:not([hidden])').says(/^Clues for BANS before: 1, in 1 puzzleForbidsLaw, .*2025/);
   },
 
   async 'the bank of clues keeps the first date of a clue, and no more than it may'() {
     await browser.value(`(() => { ${await pageScript('store', 'store/keep')}; window.store = store; })()`);
-    const left = await browser.value(`(async () => {
+    const left = await inPage(async () => {
       const { clearClues, everyClue, keepClues } = window.store;
       const clue = (clue, at, title = '') => ({ word: 'ODDS', clue, puzzle: 'p', title, at });
       await clearClues();
@@ -516,7 +516,7 @@ export const CASES = {
       const all = await everyClue();
       await keepClues(Array.from({ length: 20 }, (_, at) => clue(String(at), 100 + at)), 20);
       return [all.map(({ clue, at, title }) => [clue, at, title].join(' ')).join(), (await everyClue()).map(({ clue }) => clue).sort().join()];
-    })()`);
+    });
     expect(left[0] === 'Chances 5 Farm,Ends 7 ,Ratio 3 ', left[0]);
     expect(left[1] === Array.from({ length: 19 }, (_, at) => String(at + 1)).sort().join(), left[1]);
   },
@@ -528,7 +528,7 @@ export const CASES = {
     await browser.press('F3');
     // a field may show what was there before, until the engine has answered
     const valuesAre = (...wanted) => browser.until(`${JSON.stringify(wanted)}.every((text, at) => document.querySelectorAll('#clue-list textarea')[at].value === text)`);
-    await browser.until("document.getElementById('clue-lengths').disabled");
+    await the('#clue-lengths').isDisabled();
     await browser.type('plain');
     await browser.press('Enter');
     await browser.type('phrase');
@@ -536,24 +536,24 @@ export const CASES = {
     await valuesAre('plain', 'phrase');
     await isDrafted(/phrase/);
     // the next clue is answered after this one is typed over
-    await browser.value(`(() => {
+    await inPage(() => {
       const post = Worker.prototype.postMessage;
       Worker.prototype.postMessage = function (message, transfer) {
         if (message.call !== 'edit') return post.call(this, message, transfer);
         Worker.prototype.postMessage = post;
         window.heldClue = () => post.call(this, message, transfer);
       };
-    })()`);
+    });
     await browser.type('sum (1,9)');
     await browser.press('Enter');
-    await browser.until("window.heldClue && !document.getElementById('clue-lengths').disabled");
+    await untilInPage(() => window.heldClue && !document.getElementById('clue-lengths').disabled);
     // a length is selected, so that another one can be typed over it
     await browser.click('.clue:nth-of-type(2) .length');
-    const isSelected = () => browser.until("(({ value, selectionStart, selectionEnd }) => value === 'phrase (5)' && value.slice(selectionStart, selectionEnd) === '5')(document.activeElement)");
+    const isSelected = () => untilInPage(() => (({ value, selectionStart, selectionEnd }) => value === 'phrase (5)' && value.slice(selectionStart, selectionEnd) === '5')(document.activeElement));
     await isSelected();
-    await browser.value('window.heldClue()');
+    await inPage(() => window.heldClue());
     await isDrafted(/phrase \(5\)/);
-    await browser.until("/^3 of/.test(document.getElementById('clue-summary').textContent)");
+    await the('#clue-summary').says(/^3 of/);
     await isSelected();
     await browser.type('2,3');
     await browser.press('Enter');
@@ -562,11 +562,11 @@ export const CASES = {
     await browser.click('#clue-lengths');
     await page.statusIs(/^1 clue has a length now$/);
     await valuesAre('plain (3)', 'phrase (2,3)', 'sum (1,9)');
-    await browser.until("document.getElementById('clue-lengths').disabled && document.querySelectorAll('.clue-part:first-child .clue:nth-of-type(1) .length:disabled').length === 1");
-    await browser.until("/the clue of 5 Across says \\(1,9\\) and it has 5 letters|the clue of \\d+ Across says \\(1,9\\)/.test(document.getElementById('rules').textContent)");
+    await untilInPage(() => document.getElementById('clue-lengths').disabled && document.querySelectorAll('.clue-part:first-child .clue:nth-of-type(1) .length:disabled').length === 1);
+    await the('#rules').says(/the clue of 5 Across says \(1,9\) and it has 5 letters|the clue of \d+ Across says \(1,9\)/);
     await browser.click('#cell-2-2');
     await browser.press('Control+z');
-    await browser.until("document.querySelectorAll('#clue-list textarea')[0].value === 'plain'");
+    await untilInPage(() => document.querySelectorAll('#clue-list textarea')[0].value === 'plain');
   },
 
   async 'lengths of phrases, as the lists show them'() {
@@ -582,7 +582,7 @@ export const CASES = {
     await browser.press('F3');
     await browser.click('#clue-lengths');
     await page.statusIs(/^3 clues have a length now; 1 is left to you: no list shows whether its answer is one word$/);
-    const valuesAre = (wanted) => browser.until(`[...document.querySelectorAll('#clue-list textarea')].map(({ value }) => value).join() === '${wanted}'`);
+    const valuesAre = (wanted) => the('#clue-list textarea').hold(wanted);
     await valuesAre('Clue (3,5),Clue (5-4),Clue (6),Clue');
     await picture('phrases');
     await browser.click('#clue-lengths');
@@ -602,18 +602,18 @@ export const CASES = {
     await isHeld();
     const bytes = await saved('crossword.puz', async () => {
       await browser.press('Control+s');
-      await browser.value('window.release()');
+      await release();
     });
     expect(Xw.open(module, { puzzle: bytes }).line('texts').lines.join() === 'clue 1 across Sound (4)', 'the file has no length');
     // and a clue that is under way is in a file that the page writes itself
     await browser.press('F3');
-    await browser.value("document.querySelector('#clue-list textarea').setSelectionRange(0, 5)");
+    await inPage(() => document.querySelector('#clue-list textarea').setSelectionRange(0, 5));
     await browser.insert('Noise');
     await hold('edit');
     const ipuz = await saved('crossword.ipuz', async () => {
       await menu('save-ipuz');
       await isHeld();
-      await browser.value('window.release()');
+      await release();
     });
     expect(JSON.parse(ipuz.toString()).clues.Across[0][1] === 'Noise (4)', 'the file has the clue as it was');
   },
@@ -627,7 +627,7 @@ export const CASES = {
     await browser.press('Control+p');
     await browser.click('#print-lengths');
     await print();
-    const printed = await browser.value("[...document.querySelectorAll('#sheet .clues p')].map((clue) => clue.textContent.replace(/^\\d+ /, '').trim())");
+    const printed = await inPage(() => [...document.querySelectorAll('#sheet .clues p')].map((clue) => clue.textContent.replace(/^\d+ /, '').trim()));
     const wanted = ['Ice cream (3,5)', 'Plain (3)', 'Hyphened (2-1)', 'Two of them (3 wds.)', 'Year of a revolution (1789) (3)', 'Aside (see 1 Down) (3)'];
     expect(printed.join('|') === wanted.join('|'), `printed: ${printed.join('|')}`);
   },
@@ -637,7 +637,7 @@ export const CASES = {
     await browser.press('Control+f');
     await page.statusIs(/^filled/);
     await browser.press('F3');
-    await browser.until("document.activeElement.dataset.light === '1 across'");
+    await the('[data-light="1 across"]').hasFocus();
     const fieldIs = (text) => browser.until(`(({ value, selectionStart }) => value === '${text}' && selectionStart === value.length)(document.activeElement)`);
     // it is saved as far as it is typed, and stays as it is in its field
     await browser.insert('So far ');
@@ -647,26 +647,26 @@ export const CASES = {
     await browser.insert('so good');
     // and it is in the preview of a print
     await browser.press('Control+p');
-    await browser.until("/1 +So far so good/.test(document.querySelector('#preview .clues p').textContent)");
+    await the('#preview .clues p').says(/1 +So far so good/);
     await browser.press('Escape');
     // and it is kept when the page goes
     await browser.press('F3');
     await browser.insert('Kept \u2192 here');
     await browser.go(PAGE.href);
     await ready();
-    await browser.until("document.querySelector('#clue-list textarea').value === 'Kept \u2192 here'");
+    await the('#clue-list textarea').holds('Kept \u2192 here');
     await browser.press('F4');
     await browser.insert('A title');
     await browser.go(PAGE.href);
     await ready();
-    await browser.until("document.getElementById('title').value === 'A title'");
+    await the('#title').holds('A title');
   },
 
   async 'characters that a .puz cannot hold'() {
     await openRecord('size 2 2\nset 1 1 A\nset 1 2 B\nset 2 1 C\nset 2 2 D\n');
-    const value = (id) => browser.value(`document.getElementById('${id}').value`);
+    const value = (id) => the(`#${id}`).value();
     await browser.click('#tab-puzzle');
-    await browser.value("document.getElementById('title').focus()");
+    await the('#title').focus();
     await browser.insert('Čapek → 2');
     await browser.press('Tab');
     await page.statusIs(/“Č” stays here/);
@@ -698,9 +698,9 @@ export const CASES = {
     await openRecord(rowOf('BAAS'));
     const isIn = (language) => browser.until(`document.getElementById('clue-list').lang === '${language}' && document.getElementById('title').lang === '${language}' && document.getElementById('language').value === '${language}'`);
     await isIn('');
-    expect(await browser.value("document.querySelector('#clue-list textarea').spellcheck && document.getElementById('notes').spellcheck"), 'the spelling is not checked');
+    expect(await inPage(() => document.querySelector('#clue-list textarea').spellcheck && document.getElementById('notes').spellcheck), 'the spelling is not checked');
     await browser.press('F4');
-    await browser.value("document.getElementById('language').value = 'en-GB', document.getElementById('language').dispatchEvent(new Event('change', { bubbles: true }))");
+    await the('#language').choose('en-GB');
     await isIn('en-GB');
     await isDrafted(/"language","en-GB"/);
     await browser.click('#cell-1-1');
@@ -734,26 +734,26 @@ export const CASES = {
     const table = join(room, 'table.csv');
     writeFileSync(table, '\ufeffNumber,Direction,Answer,Clue,Note\r\n1,Across,BAAS,"\'=Sheep, ""loud""\nsounds",to check\r\n7,Down,OATS,Feed,\r\n');
     await browser.drop(table);
-    await browser.until("document.getElementById('table-dialog').open && document.getElementById('table-told').textContent === 'table.csv: 1 clue and 1 note will change; 1 row is left out.'");
-    const shown = await browser.value("[...document.querySelectorAll('#table-changes tr')].map((row) => [...row.children].map(({ textContent }) => textContent).join('|')).join('; ')");
+    await untilInPage(() => document.getElementById('table-dialog').open && document.getElementById('table-told').textContent === 'table.csv: 1 clue and 1 note will change; 1 row is left out.');
+    const shown = await inPage(() => [...document.querySelectorAll('#table-changes tr')].map((row) => [...row.children].map(({ textContent }) => textContent).join('|')).join('; '));
     expect(shown === '|Now|In the file; 1 Across|Sheep|=Sheep, "loud" sounds; 1 Across, note||to check', shown);
-    expect((await browser.value("document.getElementById('table-others').textContent")) === 'Line 4: there is no 7 Down, and no light has OATS', 'another row is left out');
+    expect((await the('#table-others').text()) === 'Line 4: there is no 7 Down, and no light has OATS', 'another row is left out');
     await picture('clues-from-table');
     await browser.click('#table-dialog [value=cancel]');
     await page.statusIs(/^table.csv: the clues stay as they are$/, 'bad');
     await clueIs('Sheep');
     // and taken over in one step. The browser's own dialog would stand in the way
-    await browser.value("document.getElementById('picker').click = () => {}, 0");
+    await inPage(() => (document.getElementById('picker').click = () => {}, 0));
     await menu('clues-from');
     await openFile(table);
     await browser.click('#table-dialog [value=take]');
     await page.statusIs(/^table.csv: 1 clue and 1 note taken over; undo takes this back$/, 'good');
     await clueIs('=Sheep, "loud" sounds');
-    await browser.until("document.querySelector('.clue-more .note').value === 'to check'");
+    await the('.clue-more .note').holds('to check');
     await browser.click('#cell-1-1');
     await browser.press('Control+z');
     await clueIs('Sheep');
-    await browser.until("document.querySelector('.clue-more .note').value === ''");
+    await the('.clue-more .note').holds('');
     await browser.press('Control+y');
     await clueIs('=Sheep, "loud" sounds');
     const again = (await saved('farm.csv', () => menu('clues-csv'))).toString();
@@ -768,36 +768,36 @@ export const CASES = {
     await menu('clues-from');
     await openFile(table);
     await page.statusIs(/^table.csv: its first line names no columns Number \(or Answer\) and Clue$/, 'bad');
-    await browser.value("delete document.getElementById('picker').click");
+    await inPage(() => delete document.getElementById('picker').click);
     await clueIs('=Sheep, "loud" sounds');
   },
 
   async 'warnings while the grid changes'() {
     await begin(1);
     await browser.click('#tab-words');
-    await browser.until("document.getElementById('rules').hidden && / 76 words /.test(document.getElementById('facts').textContent)");
+    await untilInPage(() => document.getElementById('rules').hidden && / 76 words /.test(document.getElementById('facts').textContent));
     await browser.click('#cell-1-3');
     await browser.press('.');
-    await browser.until("/has two letters|lights? have two letters|entries have two letters/.test(document.getElementById('rules').textContent) && Number(document.getElementById('rules-count').textContent) > 0");
+    await untilInPage(() => /has two letters|lights? have two letters|entries have two letters/.test(document.getElementById('rules').textContent) && Number(document.getElementById('rules-count').textContent) > 0);
     await picture('warnings');
     await browser.click('#rules');
-    await browser.until("!document.getElementById('puzzle').hidden && document.querySelector('#checks .warning')");
+    await untilInPage(() => !document.getElementById('puzzle').hidden && document.querySelector('#checks .warning'));
     await browser.click('#cell-1-1');
     await browser.press('Control+z');
-    await browser.until("document.getElementById('rules').hidden && document.getElementById('rules-count').hidden");
+    await untilInPage(() => document.getElementById('rules').hidden && document.getElementById('rules-count').hidden);
     // a word twice
     await browser.click('#cell-1-1');
     await browser.type('tone');
     await browser.click('#cell-2-1');
     if (await page.has('2-1', 'down')) await browser.press('Enter');
     await browser.type('tone');
-    await browser.until("/TONE stands twice/.test(document.getElementById('rules').textContent)");
+    await the('#rules').says(/TONE stands twice/);
     await browser.press('Control+z');
-    await browser.until("document.getElementById('rules').hidden");
+    await the('#rules').isHidden();
     await browser.type('z');
-    await browser.until("/^TONZ is not in your lists/.test(document.getElementById('rules').textContent) || document.getElementById('rules').title.includes('TONZ is not in your lists')");
+    await untilInPage(() => /^TONZ is not in your lists/.test(document.getElementById('rules').textContent) || document.getElementById('rules').title.includes('TONZ is not in your lists'));
     await browser.press('Control+z');
-    await browser.until("document.getElementById('rules').hidden");
+    await the('#rules').isHidden();
     await browser.click('#tab-words');
   },
 
@@ -820,23 +820,23 @@ export const CASES = {
     await warned(/UNBAKED and BAKEDUP share BAKED/);
     await openRecord(`size 4 7\n${[2, 4, 6].flatMap((row) => [1, 2, 3, 4].map((column) => `block ${row} ${column}`)).join('\n')}\nblock 1 4\nblock 3 4\nblock 7 4\n${spell(1, 'ERE')}\n${spell(3, 'ERR')}\n${spell(5, 'ODDS')}\n${spell(7, 'ODD')}\n`);
     await warned(/ODDS and ODD have one root/);
-    expect(!(await browser.value("/ERE and ERR/.test(document.getElementById('checks').textContent)")), 'ERE and ERR have one root');
+    expect(!(await inPage(() => /ERE and ERR/.test(document.getElementById('checks').textContent))), 'ERE and ERR have one root');
     // a clue that has a word of an answer, which a click shows
     await openRecord(`size 5 3\n${[1, 2, 3, 4, 5].map((column) => `block 2 ${column}`).join('\n')}\n${spell(1, 'STONE')}\n${spell(3, 'SLATE')}\ntext clue 1 1 across Slate or marble\ntext clue 3 1 across Tiles (5)\n`);
     await warned(/^⚠ the clue of 1 Across has SLATE, which is in 2 Across$/);
     await browser.click('#checks .warning button[data-tab="clue"]');
-    await browser.until("document.activeElement.dataset.light === '1 across'");
+    await the('[data-light="1 across"]').hasFocus();
     await browser.insert('Pebble');
     await browser.press('F4');
-    await browser.until("!/which is in/.test(document.getElementById('checks').textContent)");
+    await the('#checks').saysNot(/which is in/);
     await openRecord(`size 15 15\n`);
-    await browser.until("!document.querySelector('#checks .warning')");
+    await the('#checks .warning').isGone();
     // the patterns keep the rules
     const patterns = await page.count('#patterns .pattern');
     for (let pattern = 1; pattern <= patterns; pattern++) {
       await begin(pattern);
-      await browser.until("document.querySelector('#checks [data-cell]')?.textContent === `${document.querySelectorAll('.cell:not(.block)').length} cells are empty`");
-      expect((await page.count('#checks .warning')) === 0, `pattern ${pattern}: ${await browser.value("document.querySelector('#checks .warning')?.textContent")}`);
+      await untilInPage(() => document.querySelector('#checks [data-cell]')?.textContent === `${document.querySelectorAll('.cell:not(.block)').length} cells are empty`);
+      expect((await page.count('#checks .warning')) === 0, `pattern ${pattern}: ${await inPage(() => document.querySelector('#checks .warning')?.textContent)}`);
     }
   },
 };

@@ -1,6 +1,6 @@
 // Cases of dead ends and their reasons.
 import { begin, beginBlank, intoDeadEnd, menu, openRecord } from '../doing.mjs';
-import { browser, expect, page, picture, runAlone } from '../page.mjs';
+import { browser, expect, inPage, page, picture, runAlone, the, untilInPage } from '../page.mjs';
 
 export const CASES = {
   async 'a dead end'() {
@@ -15,13 +15,13 @@ export const CASES = {
     expect((await page.count('.cell.reason')) > 0, 'no reason is lit up');
     await picture('dead-end');
     await browser.press('Control+z');
-    await browser.until("document.querySelectorAll('.cell.dead').length === 0");
+    await the('.cell.dead').are(0);
   },
 
   async 'a reason beside the last entry'() {
     await begin(2);
     await browser.click('#cell-1-7');
-    if (await browser.value("document.querySelector('.cursor').classList.contains('down')")) await browser.press('Enter');
+    if (await the('.cursor').matches('.down')) await browser.press('Enter');
     await browser.type('jazzquake');
     const told = await page.statusIs(/JAZZQUAKE leaves \d+ Down no word/);
     await picture('reason');
@@ -35,16 +35,16 @@ export const CASES = {
 
   async 'a dead end that is over before it is told'() {
     await beginBlank(5, 1);
-    await browser.value("window.said.length = 0");
+    await inPage(() => (window.said.length = 0));
     // the letters come faster than their answers; no word has the first ones, and the whole is an entry
     await browser.value("for (const key of 'qqqqq') document.getElementById('grid').dispatchEvent(new KeyboardEvent('keydown', { key, bubbles: true, cancelable: true }))");
-    await browser.until("/QQQQQ is not in your lists/.test(document.getElementById('standing').textContent)");
+    await the('#standing').says(/QQQQQ is not in your lists/);
     expect(!/dead end/.test(await page.status()), `it says: ${await page.status()}`);
     // what was told is taken back with its cause
     await browser.press('Control+z');
     await page.statusIs(/a dead end/);
     await browser.press('q');
-    await browser.until("/QQQQQ is not in your lists/.test(document.getElementById('standing').textContent) && !/dead end|no word/.test(document.getElementById('status').textContent)");
+    await untilInPage(() => /QQQQQ is not in your lists/.test(document.getElementById('standing').textContent) && !/dead end|no word/.test(document.getElementById('status').textContent));
   },
 
   async 'a dead part beside one that is alive'() {
@@ -55,27 +55,27 @@ export const CASES = {
     await browser.type('j');
     await page.statusIs(/dead end/);
     // the part of the cause is red, its own light more so, and the other part is not
-    await browser.until("document.querySelectorAll('.cell.unmatched').length >= 5");
-    const red = await browser.value("[...document.querySelectorAll('.cell.dead, .cell.spent')].map(({ id }) => Number(id.split('-')[1]))");
+    await the('.cell.unmatched').areAtLeast(5);
+    const red = await inPage(() => [...document.querySelectorAll('.cell.dead, .cell.spent')].map(({ id }) => Number(id.split('-')[1])));
     expect(red.length === 12 && red.every((row) => row < 4), `these rows are red: ${red}`);
     await browser.press('Control+j');
     await page.statusIs(/ left, the fewest/);
-    expect(await browser.value("Number(document.querySelector('.cursor').id.split('-')[1]) > 4"), 'the tightest light is dead');
+    expect(await inPage(() => Number(document.querySelector('.cursor').id.split('-')[1]) > 4), 'the tightest light is dead');
     await browser.press('Control+z');
-    await browser.until("!document.querySelector('.cell.dead, .cell.spent, .cell.unmatched')");
+    await the('.cell.dead, .cell.spent, .cell.unmatched').isGone();
   },
 
   async 'red near the reason, and grey farther off'() {
     // at first near the last entry, and then near the reason
     const told = await intoDeadEnd();
-    await browser.until("document.querySelector('.cell.reason')");
-    const shown = await browser.value(`(() => {
+    await the('.cell.reason').isThere();
+    const shown = await inPage(() => {
       const at = (cell) => [...cell.parentElement.children].indexOf(cell);
       const lit = [...document.querySelectorAll('.cell.reason')].map((cell) => [Number(cell.dataset.index), cell.id]);
       const cells = (name) => [...document.querySelectorAll('.cell.' + name)].map(({ ariaLabel }) => ariaLabel);
-      const lights = new Set([...document.querySelectorAll('.cell.reason')].flatMap(({ ariaLabel }) => ariaLabel.match(/\\d+ (?:Across|Down)/g)));
+      const lights = new Set([...document.querySelectorAll('.cell.reason')].flatMap(({ ariaLabel }) => ariaLabel.match(/\d+ (?:Across|Down)/g)));
       return { red: cells('dead'), grey: cells('spent'), lights: [...lights] };
-    })()`);
+    });
     const [, dead] = /(\d+ (?:Across|Down))[^A-Z]* no word/.exec(told);
     const near = [...shown.lights, dead];
     const isNear = (label) => near.some((light) => label.includes(`, ${light}, letter`));
@@ -86,46 +86,46 @@ export const CASES = {
     await browser.click('#cell-15-15');
     await page.statusIs(/no word, by/);
     await browser.press('Control+z');
-    await browser.until("!document.querySelector('.cell.dead, .cell.spent')");
+    await the('.cell.dead, .cell.spent').isGone();
   },
 
   async 'theme entries without blocks'() {
     await menu('new');
-    await browser.value("document.getElementById('new-width').value = 15, document.getElementById('new-height').value = 15");
+    await page.wantSize(15, 15);
     await browser.click('#new-blank');
     await page.factsAre(/· 0 of 225/);
     await browser.click('#cell-4-1');
     if (await page.has('4-1', 'down')) await browser.press('Enter');
     await browser.type('jazzquakezombix');
-    await browser.until("document.querySelectorAll('.cell.waiting').length > 100");
+    await the('.cell.waiting').areAtLeast(101);
     expect((await page.count('.cell.dead, .cell.unmatched')) === 0, 'a light that waits for blocks is red');
     await page.statusIs(/wait for blocks/);
     await picture('waiting');
     // they wait as long as the grid has few blocks
     await browser.click('#cell-1-5');
-    await browser.value(`(() => {
+    await inPage(() => {
       window.wasRed = false;
       window.reds = new MutationObserver(() => { window.wasRed ||= document.querySelector('.cell.dead, .cell.unmatched') !== null; });
       window.reds.observe(document.getElementById('grid'), { attributes: true, subtree: true });
-    })()`);
+    });
     await browser.press('.');
-    await browser.until("document.querySelector('#cell-1-5.block')");
+    await the('#cell-1-5.block').isThere();
     await page.statusIs(/wait for blocks/);
-    expect(!(await browser.value('window.reds.disconnect(), window.wasRed')), 'a light that waits for blocks is red for a moment');
+    expect(!(await inPage(() => (window.reds.disconnect(), window.wasRed))), 'a light that waits for blocks is red for a moment');
     expect((await page.count('.cell.waiting')) > 100 && (await page.count('.cell.dead, .cell.unmatched')) === 0, 'a light that waits for blocks is red');
     // a short light that no word matches waits for nothing
     await browser.click('#cell-1-1');
     if (await page.has('1-1', 'down')) await browser.press('Enter');
     await browser.type('qx');
-    await browser.until("document.querySelectorAll('.cell.unmatched').length === 4");
+    await the('.cell.unmatched').are(4);
     // a small grid is done without blocks
     await menu('new');
-    await browser.value("document.getElementById('new-width').value = 4, document.getElementById('new-height').value = 4");
+    await page.wantSize(4, 4);
     await browser.click('#new-blank');
     await page.factsAre(/· 0 of 16/);
     await browser.type('qxj');
     await page.statusIs(/dead end/);
-    await browser.until("document.querySelector('.cell.unmatched') && !document.querySelector('.cell.waiting')");
+    await untilInPage(() => document.querySelector('.cell.unmatched') && !document.querySelector('.cell.waiting'));
   },
 };
 

@@ -5,7 +5,7 @@ import { Xw, toBytes } from '../../dist/xw.js';
 import { takeList } from '../browser.mjs';
 import { begin, faultsShown, hush, menu, openAnyway, openFile, openList, openRecord, print, saved } from '../doing.mjs';
 import { isDrafted } from '../holding.mjs';
-import { browser, expect, module, page, picture, pictures, reload, room, runAlone } from '../page.mjs';
+import { browser, expect, inPage, module, page, picture, pictures, reload, room, runAlone, the, untilInPage } from '../page.mjs';
 import { pageModules, pageScript } from '../page-modules.mjs';
 import { lockedPuzOf, puzOf } from '../puz.mjs';
 import { textsFrom } from '../texts.mjs';
@@ -19,7 +19,7 @@ const HOSTILE = `"><img src="x" onerror="window.ran = 1"></text></svg></script><
 // Expects that nothing of a file has run, or become an element, in any view of the page or on paper.
 async function isHarmless(name) {
   const isClean = async (where) => {
-    const found = await browser.value("[window.ran, ...[...document.querySelectorAll('img, iframe, object, embed, [onerror], [onload], body > * script')].map(({ outerHTML }) => outerHTML.slice(0, 200))].filter(Boolean)");
+    const found = await inPage(() => [window.ran, ...[...document.querySelectorAll('img, iframe, object, embed, [onerror], [onload], body > * script')].map(({ outerHTML }) => outerHTML.slice(0, 200))].filter(Boolean));
     expect(found.length === 0, `${name}, ${where}: ${found.join('; ')}`);
   };
   for (const tab of ['words', 'clues', 'puzzle']) {
@@ -29,13 +29,13 @@ async function isHarmless(name) {
   await menu('print');
   for (const parts of ['submission', 'both']) {
     await browser.click(`[name=parts][value=${parts}]`);
-    await browser.until("document.querySelectorAll('#preview .page').length === 2");
+    await the('#preview .page').are(2);
     await isClean(`the preview of ${parts}`);
   }
   await print();
   await isClean('what is printed');
   await menu('library');
-  await browser.until("document.getElementById('library-dialog').open");
+  await the('#library-dialog').isOpen();
   await isClean('the puzzles');
   await browser.click('#library-dialog [value=close]');
 }
@@ -97,7 +97,7 @@ export const CASES = {
       }
       if (said) await page.statusIs(said);
       else {
-        await browser.until("document.getElementById('zip-dialog').open");
+        await the('#zip-dialog').isOpen();
         await browser.click('#zip-dialog [value=cancel]');
         await page.statusIs(/^names.zip is not opened$/);
       }
@@ -110,13 +110,13 @@ export const CASES = {
     await page.statusIs(/^session.xw is open/);
     expect((await page.rows()).join() === 'AB', `the grid is ${await page.rows()}`);
     await browser.press('F3');
-    await browser.until(`document.querySelector('#clue-list textarea').value === ${JSON.stringify(HOSTILE)}`);
+    await the('#clue-list textarea').holds(HOSTILE);
     await browser.press('F4');
     await browser.until(`['title', 'author', 'copyright', 'notes'].every((field) => document.getElementById(field).value === ${JSON.stringify(HOSTILE)})`);
   },
 
   async 'the policy of the page lets no handler and no script of a text run'() {
-    const told = await browser.value(`new Promise((resolve) => {
+    const told = await inPage(() => new Promise((resolve) => {
       const violated = [];
       const take = ({ effectiveDirective }) => {
         violated.push(effectiveDirective);
@@ -127,9 +127,9 @@ export const CASES = {
       box.innerHTML = '<img src="data:," onerror="window.ran = 1">';
       script.textContent = 'window.ran = 1';
       document.body.append(script.cloneNode(true));
-    })`);
+    }));
     expect(told.every((directive) => /^script-src/.test(directive)), `the policy has kept ${told}`);
-    expect(!(await browser.value('window.ran')), 'it ran');
+    expect(!(await inPage(() => window.ran)), 'it ran');
     // the console of the page that is left tells of it, and of nothing else
     await reload();
     expect(browser.faults.every((fault) => /Content.Security.Policy/.test(fault)), `the console has: ${browser.faults.join('; ')}`);
@@ -168,7 +168,7 @@ export const CASES = {
       await openFile(join(room, 'texts.xw'));
       await page.statusIs(/^texts.xw is open; undo/, 'good');
       await browser.press('F3');
-      await browser.until(`document.querySelector('#clue-list textarea').value === ${JSON.stringify(originals[3][1])}`);
+      await the('#clue-list textarea').holds(originals[3][1]);
       const session = Buffer.from(await saved('crossword.xw', () => menu('save-session'))).toString('latin1').split('\n');
       const kept = JSON.parse(session.find((line) => line.startsWith('# originals ')).slice('# originals '.length));
       expect(JSON.stringify(kept) === JSON.stringify(originals), `${JSON.stringify(kept)}, and not ${JSON.stringify(originals)}`);
@@ -181,7 +181,7 @@ export const CASES = {
     const [clue, bold, title] = ['If x<y then? (2)', '<b>bold</b> <i>claim</i> & \u65e5\u672c', 'AT&T &amp; <Sons>'];
     await openRecord(`size 2 2\nset 1 1 A\nset 1 2 B\ntext title ${title}\ntext clue 1 1 across ${clue}\ntext clue 1 1 down Two\ntext clue 1 2 down Three\n`);
     await browser.press('F3');
-    await browser.value("document.querySelectorAll('#clue-list textarea')[1].focus()");
+    await the('#clue-list textarea').focus(1);
     await browser.insert(bold);
     await browser.press('Enter');
     await isDrafted(/<b>bold/);
@@ -208,8 +208,8 @@ export const CASES = {
     await begin(6);
     const asked = async (answer) => {
       await openFile(join(room, 'both.zip'));
-      await browser.until("document.getElementById('zip-dialog').open && /^both.zip has 2 files/.test(document.getElementById('zip-told').textContent)");
-      expect((await browser.value("[...document.querySelectorAll('#zip-files button')].map(({ textContent }) => textContent).join()")) === 'one.puz,more/two.puz', 'other files are named');
+      await untilInPage(() => document.getElementById('zip-dialog').open && /^both.zip has 2 files/.test(document.getElementById('zip-told').textContent));
+      expect((await the('#zip-files button').joined()) === 'one.puz,more/two.puz', 'other files are named');
       await picture('zip');
       await browser.click(`#zip-dialog [value="${answer}"]`);
     };
@@ -244,8 +244,8 @@ export const CASES = {
       await begin(6);
       await openFile(join(room, file));
       if (names) {
-        await browser.until("document.getElementById('zip-dialog').open && /has 2 files. Open which/.test(document.getElementById('zip-told').textContent)");
-        expect((await browser.value("[...document.querySelectorAll('#zip-files button')].map(({ textContent }) => textContent).join()")) === names, 'other files are named');
+        await untilInPage(() => document.getElementById('zip-dialog').open && /has 2 files. Open which/.test(document.getElementById('zip-told').textContent));
+        expect((await the('#zip-files button').joined()) === names, 'other files are named');
         await browser.click(`#zip-dialog [value="${answer}"]`);
       }
       await page.statusIs(said);
@@ -313,10 +313,10 @@ export const CASES = {
       await page.statusIs(new RegExp(`^${name} is open, with ${wanted.length} repairs; undo`), 'good');
       expect((await page.rows()).join() === 'C.T', `the grid is ${await page.rows()}`);
       await browser.press('F3');
-      await browser.until(`document.querySelector('#clue-list textarea').value === '${clue}'`);
+      await the('#clue-list textarea').holds(clue);
       await browser.click('#tab-words');
       await browser.press('Control+z');
-      await browser.until(`document.querySelectorAll('#grid .row').length === ${before.length}`);
+      await the('#grid .row').are(before.length);
     }
   },
 
@@ -326,13 +326,13 @@ export const CASES = {
     writeFileSync(join(room, 'locked.puz'), bytes);
     const asked = async (pattern) => {
       await browser.until(`document.getElementById('key-dialog').open && ${pattern}.test(document.getElementById('key-told').textContent)`);
-      expect(await browser.value("document.activeElement.id === 'key'"), 'the field of the key has not the focus');
+      expect(await inPage(() => document.activeElement.id === 'key'), 'the field of the key has not the focus');
     };
     const opening = async (rows, pattern, tone = 'good') => {
       await page.statusIs(pattern, tone);
       expect((await page.rows()).join() === rows, `the grid is ${await page.rows()}`);
       await browser.press('F3');
-      await browser.until("[...document.querySelectorAll('#clue-list textarea')].map(({ value }) => value).join() === 'Firm,Ends,Also,Two'");
+      await the('#clue-list textarea').hold('Firm,Ends,Also,Two');
       await begin(6);
       await openFile(join(room, 'locked.puz'));
       await asked(/The solution of locked.puz is scrambled/);
@@ -364,7 +364,7 @@ export const CASES = {
     await asked(/is scrambled/);
     await browser.click('#key-search');
     await asked(/^None of the 9,999 keys fits spoilt.puz/);
-    expect(await browser.value("document.getElementById('key-search').disabled"), 'the search can be had again');
+    expect(await the('#key-search').get('disabled'), 'the search can be had again');
     await browser.click('#key-dialog [value=empty]');
     expect((await faultsShown()).join() === 'the checksum of the whole file is wrong', 'something else is wrong');
     await openAnyway();
@@ -380,8 +380,8 @@ export const CASES = {
       await page.statusIs(/^[a-z-]+.ipuz is open; undo/, 'good');
       await browser.press('F4');
       // no empty cell, no light without a clue or with a clue of another word, and no fault; of warnings only those of near words
-      await browser.until("document.querySelector('#checks li') && [...document.querySelectorAll('#checks li')].every((item) => item.matches('.good') || /have one root/.test(item.textContent))");
-      expect(await browser.value("document.getElementById('title').value && document.getElementById('author').value === 'xw'"), `${name} has no title or another author`);
+      await untilInPage(() => document.querySelector('#checks li') && [...document.querySelectorAll('#checks li')].every((item) => item.matches('.good') || /have one root/.test(item.textContent)));
+      expect(await inPage(() => document.getElementById('title').value && document.getElementById('author').value === 'xw'), `${name} has no title or another author`);
     }
   },
 
@@ -396,15 +396,15 @@ export const CASES = {
     expect((await page.rows()).join() === 'CHEARTT,A#O,TEE', `the grid is ${await page.rows()}`);
     expect((await page.has('2-1', 'circled')) && (await page.has('2-3', 'circled')) && !(await page.has('1-1', 'circled')), 'the marks are not circles');
     await browser.press('F3');
-    await browser.until("[...document.querySelectorAll('#clue-list textarea')].map(({ value }) => value).join() === 'First,Last,One,Three'");
+    await the('#clue-list textarea').hold('First,Last,One,Three');
     await browser.press('F4');
-    await browser.until("document.getElementById('title').value === 'Two' && document.getElementById('notes').value === 'A note'");
+    await untilInPage(() => document.getElementById('title').value === 'Two' && document.getElementById('notes').value === 'A note');
     await page.factsAre(/built-in list/);
     // rows of one length are a grid or a list
     writeFileSync(join(room, 'rows.txt'), 'CAT\nA.O\nTEE\n');
     const asked = async (answer) => {
       await openFile(join(room, 'rows.txt'));
-      await browser.until("document.getElementById('rows-dialog').open && /^rows.txt has 3 lines of 3 letters/.test(document.getElementById('rows-told').textContent)");
+      await untilInPage(() => document.getElementById('rows-dialog').open && /^rows.txt has 3 lines of 3 letters/.test(document.getElementById('rows-told').textContent));
       await picture('rows');
       await browser.click(`#rows-dialog [value=${answer}]`);
     };
@@ -511,12 +511,12 @@ export const CASES = {
     await page.statusIs(/^saved: crossword.xw: the session, since row 1, column 4 is empty$/);
     expect(/^# xw session 1$/m.test(session) && /set 1 3 O/.test(session), session);
     await menu('print');
-    await browser.until("document.getElementById('print-dialog').open");
+    await the('#print-dialog').isOpen();
     await saved('crossword.xw', () => browser.press('Control+s'));
     await browser.press('Escape');
-    await browser.until("!document.querySelector('dialog[open]')");
+    await the('dialog[open]').isGone();
     await browser.press('|');
-    await browser.until("document.querySelector('.bar-right')");
+    await the('.bar-right').isThere();
     await saved('crossword.xw', () => browser.press('Control+s'));
     await page.statusIs(/since a .puz cannot hold bars/);
   },
@@ -566,29 +566,29 @@ export const CASES = {
 
   async 'colours of cells, and what formats cannot keep of a puzzle'() {
     await openRecord('size 3 3\nset 1 1 C\nset 1 2 O\nset 1 3 T\nset 2 1 A\nblock 2 2\nset 2 3 O\nset 3 1 T\nset 3 2 I\nset 3 3 E\n');
-    await browser.value("document.querySelector('[data-tool=colour]').click()");
-    await browser.until("!document.getElementById('palette').hidden && document.querySelectorAll('#palette [aria-pressed=true]').length === 1");
+    await the('[data-tool=colour]').press();
+    await untilInPage(() => !document.getElementById('palette').hidden && document.querySelectorAll('#palette [aria-pressed=true]').length === 1);
     await browser.drag('#cell-1-1', '#cell-1-3');
-    await browser.until("document.querySelectorAll('.cell.tinted.tint-ffe680').length === 3");
+    await the('.cell.tinted.tint-ffe680').are(3);
     await browser.click('#palette [aria-label=blue]');
     await browser.click('#cell-3-1');
-    await browser.until("document.querySelector('#cell-3-1.tint-b9d8ff')");
+    await the('#cell-3-1.tint-b9d8ff').isThere();
     await picture('colours');
     await browser.press('Escape');
-    await browser.until("document.getElementById('mode').hidden");
+    await the('#mode').isHidden();
     // a key gives the last colour, and takes it away
     await browser.click('#cell-3-3');
     await browser.press('#');
-    await browser.until("document.querySelector('#cell-3-3.tint-b9d8ff')");
-    expect(await browser.value("document.getElementById('cell-3-3').ariaLabel.includes('E, blue')"), 'the colour is not spoken');
+    await the('#cell-3-3.tint-b9d8ff').isThere();
+    expect(await inPage(() => document.getElementById('cell-3-3').ariaLabel.includes('E, blue')), 'the colour is not spoken');
     await browser.press('#');
-    await browser.until("!document.querySelector('#cell-3-3.tinted')");
+    await the('#cell-3-3.tinted').isGone();
     await browser.press('Control+z');
-    await browser.until("document.querySelector('#cell-3-3.tinted')");
+    await the('#cell-3-3.tinted').isThere();
     await browser.click('#tab-puzzle');
-    await browser.until("/Yellow cellsCOT.*Blue cellsTE/.test(document.getElementById('counts').textContent)");
+    await the('#counts').says(/Yellow cellsCOT.*Blue cellsTE/);
     await browser.press('Control+p');
-    await browser.until("document.querySelectorAll('#preview .page:first-child rect[fill=\"#ffe680\"]').length === 3");
+    await the('#preview .page:first-child rect[fill="#ffe680"]').are(3);
     await browser.press('Escape');
     // it is kept by the browser, in a session and in .ipuz
     await isDrafted(/colour 3 3/);
@@ -602,14 +602,14 @@ export const CASES = {
       await begin(6);
       await openFile(join(room, name));
       await page.statusIs(/is open; undo/);
-      await browser.until("document.querySelectorAll('.cell.tint-ffe680').length === 3 && document.querySelectorAll('.cell.tint-b9d8ff').length === 2");
+      await untilInPage(() => document.querySelectorAll('.cell.tint-ffe680').length === 3 && document.querySelectorAll('.cell.tint-b9d8ff').length === 2);
     }
     // what else is kept beside the grid: a link, a note and italics
     await browser.press('F3');
     await browser.insert('<i>Firm</i> (3)');
     await browser.press('Enter');
     await isDrafted(/<i>Firm/);
-    await browser.value("document.querySelector('.clue-more .note').focus()");
+    await the('.clue-more .note').focus();
     await browser.insert('two meanings');
     await browser.press('Enter');
     await isDrafted(/two meanings/);
@@ -628,7 +628,7 @@ export const CASES = {
     await page.statusIs(/^saved: crossword.csv, with a private note$/);
     await openFile(join(room, 'crossword.jpz'));
     await page.statusIs(/^crossword.jpz is open; undo/);
-    await browser.until("document.querySelectorAll('.cell.tinted').length === 5 && document.querySelector('#clue-list textarea').value === '<i>Firm</i> (3)'");
+    await untilInPage(() => document.querySelectorAll('.cell.tinted').length === 5 && document.querySelector('#clue-list textarea').value === '<i>Firm</i> (3)');
   },
 
   async '.jpz and the XML of Crossword Compiler'() {
@@ -653,10 +653,10 @@ export const CASES = {
       expect((await page.rows()).join() === rows, `the grid is ${await page.rows()}`);
       expect((await page.has('1-2', 'bar-right')) && (await page.has('1-1', 'bar-below')) && (await page.has('1-3', 'circled')), 'a bar or the circle is lost');
       await browser.press('F3');
-      await browser.until("[...document.querySelectorAll('#clue-list textarea')].map(({ value }) => value).join('|') === 'A <i>firm</i> \u2665 (5)|Ends (1,1)|Also|Two (2)'");
+      await the('#clue-list textarea').hold('A <i>firm</i> \u2665 (5)|Ends (1,1)|Also|Two (2)', '|');
       expect(await page.has('1-3', 'tint-ff0000'), 'the colour is lost');
       await browser.press('F4');
-      await browser.until("document.getElementById('title').value === 'Bars & circles' && document.getElementById('notes').value === 'Two \u2192 one'");
+      await untilInPage(() => document.getElementById('title').value === 'Bars & circles' && document.getElementById('notes').value === 'Two → one');
       await begin(6);
     };
     writeFileSync(join(room, 'given.xml'), xml);
@@ -687,15 +687,15 @@ export const CASES = {
       await page.statusIs(pattern);
       expect((await page.rows()).join() === rows, `the grid is ${await page.rows()}`);
       await browser.press('F3');
-      await browser.until(`[...document.querySelectorAll('#clue-list textarea')].map(({ value }) => value).join('|') === '${first}|Ends|Also|Two'`);
+      await the('#clue-list textarea').hold(`${first}|Ends|Also|Two`, '|');
     };
     const text = `exolve-begin\n exolve-title: Three\n exolve-width: 3\n exolve-height: 3\n exolve-grid:\n  COT\n  A.O@\n  TIE
  exolve-across:\n  1 Firm <i>\u2665</i> &amp; (3) <b>c</b> +<br>ot\n  3 Ends\n exolve-down:\n  1 Also\n  2 Two\n exolve-colour: red a1\nexolve-end\n`;
     writeFileSync(join(room, 'given.exolve'), text);
     await isOpen('given.exolve', /^given.exolve is open, but without the section exolve-colour; undo/);
     expect(await page.has('2-3', 'circled'), 'the circle is lost');
-    await browser.value("document.querySelector('#clue-list textarea').focus()");
-    await browser.until("document.querySelector('.clue-more .note')?.value === 'c + ot'");
+    await the('#clue-list textarea').focus();
+    await the('.clue-more .note').holds('c + ot');
     await saved('three.exolve', () => menu('save-exolve'));
     await isOpen('three.exolve', /^three.exolve is open; undo/);
     const texts = ['Three \u2192 four', '', '', 'Firm \u2665 & (3)', 'Also', 'Two', 'Ends', ''].map((one) => Buffer.from(one));
@@ -703,7 +703,7 @@ export const CASES = {
     // which has no italics
     await isOpen('later.puz', /^later.puz is open; undo/, 'Firm \u2665 & (3)');
     await browser.press('F4');
-    await browser.until("document.getElementById('title').value === 'Three \u2192 four'");
+    await the('#title').holds('Three \u2192 four');
     // as version 1.3, with near characters
     await saved('three-four.puz', () => menu('save-puz'));
     await page.statusIs(/^saved: three-four.puz, with near characters for “→”, “♥”/);
@@ -719,24 +719,24 @@ export const CASES = {
     await page.factsAre(/· 5 of/);
     const enter = async (letters) => {
       await browser.press('Insert');
-      await browser.until("document.getElementById('rebus-dialog').open && document.activeElement.id === 'rebus'");
+      await untilInPage(() => document.getElementById('rebus-dialog').open && document.activeElement.id === 'rebus');
       await browser.insert(letters);
       await browser.press('Enter');
-      await browser.until("!document.getElementById('rebus-dialog').open");
+      await the('#rebus-dialog').isClosed();
     };
     await page.cursorAt('1-6');
     await enter('heart');
     await page.factsAre(/· 6 of/);
-    await browser.until("document.querySelector('#cell-1-6.rebus .letter').textContent === 'HEART'");
+    await the('#cell-1-6.rebus .letter').says('HEART');
     await picture('rebus');
-    expect((await browser.value("document.getElementById('cell-1-6').getAttribute('aria-label')")).includes('HEART'), 'the cell is named otherwise');
+    expect((await the('#cell-1-6').get('ariaLabel')).includes('HEART'), 'the cell is named otherwise');
     await browser.click('#cell-2-6');
     await browser.type('s');
     // SWEETHEART and HEARTS are in the list, and SWEETH is none of the words
     await page.factsAre(/filled/);
     await browser.press('F4');
-    await browser.until("/^Nothing is missing|⚠/.test(document.getElementById('checks').textContent) && !/not in your lists|says/.test(document.getElementById('checks').textContent)");
-    expect(!(await browser.value("/share HEART/.test(document.getElementById('checks').textContent)")), 'it warns of the letters of the cell');
+    await untilInPage(() => /^Nothing is missing|⚠/.test(document.getElementById('checks').textContent) && !/not in your lists|says/.test(document.getElementById('checks').textContent));
+    expect(!(await inPage(() => /share HEART/.test(document.getElementById('checks').textContent))), 'it warns of the letters of the cell');
     const bytes = (await saved('sweet.puz', () => browser.press('Control+s'))).toString('latin1');
     expect(bytes.includes(' 0:HEART;') && bytes.includes('GRBS'), 'the .puz has no rebus');
     const ipuz = JSON.parse((await saved('sweet.ipuz', () => menu('save-ipuz'))).toString());
@@ -744,23 +744,23 @@ export const CASES = {
     const csv = (await saved('sweet.csv', () => menu('clues-csv'))).toString();
     expect(csv.includes('"Across","SWEETHEART",') && csv.includes('"Down","HEARTS",'), csv);
     await menu('print');
-    await browser.until("[...document.querySelectorAll('#preview .solution text')].some(({ textContent }) => textContent === 'HEART')");
+    await the('#preview .solution text').oneSays('HEART');
     await browser.press('Escape');
-    await browser.until("!document.querySelector('dialog[open]')");
+    await the('dialog[open]').isGone();
     await saved('sweet.xw', () => menu('save-session'));
     // another word there is told; letters over it take its place, and undo brings it back
     await browser.click('#cell-1-6');
     await enter('heat');
-    await browser.until("/SWEETHEAT is not in your lists/.test(document.getElementById('checks').textContent)");
+    await the('#checks').says(/SWEETHEAT is not in your lists/);
     await browser.press('Control+z');
-    await browser.until("document.querySelector('#cell-1-6 .letter').textContent === 'HEART'");
+    await the('#cell-1-6 .letter').says('HEART');
     await browser.click('#cell-1-6');
     await browser.type('h');
-    await browser.until("document.querySelector('#cell-1-6:not(.rebus) .letter').textContent === 'H'");
+    await the('#cell-1-6:not(.rebus) .letter').says('H');
     await browser.press('Control+z');
-    await browser.until("document.querySelector('#cell-1-6.rebus .letter').textContent === 'HEART'");
+    await the('#cell-1-6.rebus .letter').says('HEART');
     await browser.press('Control+y');
-    await browser.until("document.querySelector('#cell-1-6:not(.rebus) .letter').textContent === 'H'");
+    await the('#cell-1-6:not(.rebus) .letter').says('H');
     // all of it is in files, and in what the browser keeps
     for (const name of ['sweet.puz', 'sweet.ipuz', 'sweet.xw']) {
       await begin(6);
@@ -773,12 +773,12 @@ export const CASES = {
     // Esc enters nothing, no letters empty the cell, and a block has none
     await browser.click('#cell-1-6');
     await browser.press('Insert');
-    await browser.until("document.activeElement.id === 'rebus' && document.activeElement.value === 'HEART'");
+    await untilInPage(() => document.activeElement.id === 'rebus' && document.activeElement.value === 'HEART');
     await browser.press('Escape');
-    await browser.until("!document.getElementById('rebus-dialog').open");
+    await the('#rebus-dialog').isClosed();
     expect((await page.row(1)) === 'SWEETHEART', `the row is ${await page.row(1)}`);
     await browser.press('Insert');
-    await browser.until("document.activeElement.id === 'rebus'");
+    await the('#rebus').hasFocus();
     await browser.press('Delete');
     await browser.press('Enter');
     await page.factsAre(/· 6 of/);
@@ -799,10 +799,10 @@ export const CASES = {
     await browser.press('Control+f');
     await page.statusIs(/^filled/);
     // the usual paper of the region is chosen
-    expect(await browser.value("document.querySelector('[name=paper]:checked').value === (/-US$/.test(navigator.language) ? 'letter' : 'A4')"), 'another paper is chosen');
+    expect(await inPage(() => (document.querySelector('[name=paper]:checked').value === (/-US$/.test(navigator.language) ? 'letter' : 'A4'))), 'another paper is chosen');
     for (const [paper, width] of [['A4', 595], ['letter', 612]]) {
       await browser.press('Control+p');
-      await browser.until("document.querySelectorAll('#preview .page').length === 2");
+      await the('#preview .page').are(2);
       await browser.click(`[name=paper][value=${paper}]`);
       await print();
       const pdf = await browser.pdf();
@@ -815,18 +815,18 @@ export const CASES = {
     }
     await browser.press('Control+p');
     await browser.click('[name=parts][value=submission]');
-    await browser.value("document.getElementById('print-address').focus()");
+    await the('#print-address').focus();
     await browser.insert('1 Grid Road');
     // on each page, also where the answers go on
-    await browser.until("[...document.querySelectorAll('#preview .page')].every((page) => page.querySelector('.address').textContent.includes('1 Grid Road')) && document.querySelectorAll('#preview .answers tr').length > 60");
-    expect(await browser.value("[...document.querySelectorAll('#preview .page')].every((page) => page.scrollHeight <= page.clientHeight)"), 'a page of the preview is cut off');
+    await untilInPage(() => [...document.querySelectorAll('#preview .page')].every((page) => page.querySelector('.address').textContent.includes('1 Grid Road')) && document.querySelectorAll('#preview .answers tr').length > 60);
+    expect(await inPage(() => [...document.querySelectorAll('#preview .page')].every((page) => page.scrollHeight <= page.clientHeight)), 'a page of the preview is cut off');
     await picture('print');
     await print();
     expect((await page.count('#sheet .answers')) > 0, 'the answers are not printed');
     const pdf = await browser.pdf();
     if (pictures) writeFileSync(join(pictures, 'submission.pdf'), pdf);
     await browser.press('Control+p');
-    await browser.until("document.getElementById('print-address').value === '1 Grid Road'");
+    await the('#print-address').holds('1 Grid Road');
     await browser.click('[name=parts][value=both]');
     await browser.click('#print-dialog [value=cancel]');
   },

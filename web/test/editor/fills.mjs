@@ -2,18 +2,18 @@
 import { writeFileSync } from 'node:fs';
 import { join } from 'node:path';
 import { another, begin, menu, openList, openRecord, openWords, slideLeast } from '../doing.mjs';
-import { holdFill, raceOthers } from '../holding.mjs';
-import { browser, expect, page, picture, reload, room, runAlone } from '../page.mjs';
+import { holdFill, raceOthers, releaseFill } from '../holding.mjs';
+import { browser, expect, inPage, page, picture, reload, room, runAlone, the, untilInPage } from '../page.mjs';
 
 export const CASES = {
   async 'a fill, stopped, and others'() {
     await begin(2);
     await holdFill();
     await browser.press('Control+f');
-    await browser.until("!document.getElementById('stop').hidden && window.heldFill");
+    await untilInPage(() => !document.getElementById('stop').hidden && window.heldFill);
     await browser.click('#stop');
-    await browser.value('window.heldFill()');
-    await browser.until("document.getElementById('stop').hidden");
+    await releaseFill();
+    await the('#stop').isHidden();
     await page.statusIs(/^stopped/);
     expect((await page.rows()).join('').replaceAll(/[.#]/g, '') === '', 'the grid is not as it was');
     await begin(1);
@@ -39,9 +39,9 @@ export const CASES = {
     await browser.press('Control+f');
     await page.statusIs(/^filled/);
     const rows = await page.rows();
-    const found = await browser.value('window.race.told.letters.map((line) => line.split(" "))');
+    const found = await inPage(() => window.race.told.letters.map((line) => line.split(" ")));
     expect(found.every(([, row, column, letter]) => rows[row - 1][column - 1] === letter) && found.length > 120, `the grid is another one: ${rows}`);
-    expect((await browser.value('window.race.workers.size')) === 2, 'three cores have other workers than the one of the session and two more');
+    expect((await inPage(() => window.race.workers.size)) === 2, 'three cores have other workers than the one of the session and two more');
     expect(!(await page.has('1-1', 'pencil')) && (await page.has('2-1', 'pencil')), 'what was typed is in pencil, or what was found is not');
     // the next fill of these seeds is another one
     await reload();
@@ -68,7 +68,7 @@ export const CASES = {
       await raceOthers('filled', 8);
       await browser.click('#fill');
       await page.statusIs(/^filled/);
-      expect((await browser.value('window.race.workers.size')) === 3, 'other than four workers in all');
+      expect((await inPage(() => window.race.workers.size)) === 3, 'other than four workers in all');
     } finally {
       await browser.view(1400, 900);
       await reload();
@@ -81,33 +81,33 @@ export const CASES = {
     await browser.press('Control+f');
     await page.statusIs(/^filled/);
     const first = await page.rows();
-    expect(await browser.value("document.getElementById('fills').hidden"), 'one fill is shown as a choice');
+    expect(await the('#fills').get('hidden'), 'one fill is shown as a choice');
     // another one, the first one, and one more
     await another();
-    await browser.until("document.querySelectorAll('#fills-list .fill').length === 3 && document.querySelector('#fills-list .fill:first-child[aria-pressed=true]')");
+    await untilInPage(() => (document.querySelectorAll('#fills-list .fill').length === 3 && document.querySelector('#fills-list .fill:first-child[aria-pressed=true]')));
     await picture('fills');
     const second = await page.rows();
     await browser.click('#fills-list .fill:nth-child(2)');
     await page.statusIs(/this fill is in the grid/);
     expect((await page.rows()).join() === first.join(), 'it is another fill');
     expect((await page.has('2-2', 'pencil')) && !(await page.has('1-2', 'pencil')), 'the pencil is lost');
-    await browser.until("document.querySelector('#fills-list .fill:nth-child(2)[aria-pressed=true]')");
+    await the('#fills-list .fill:nth-child(2)[aria-pressed=true]').isThere();
     await browser.press('Control+z');
-    await browser.until("document.querySelector('#fills-list .fill:first-child[aria-pressed=true]')");
+    await the('#fills-list .fill:first-child[aria-pressed=true]').isThere();
     await browser.click('#fills-list .fill:nth-child(3)');
     await page.statusIs(/this fill is in the grid/);
-    await browser.until("document.querySelector('#fills-list .fill:nth-child(3)[aria-pressed=true]')");
+    await the('#fills-list .fill:nth-child(3)[aria-pressed=true]').isThere();
     const third = await page.rows();
     expect(third[0].startsWith('#CO') && new Set([first, second, third].map(String)).size === 3, 'the third fill is none of its own');
     await browser.press('Control+z');
-    await browser.until("document.querySelector('#fills-list .fill:first-child[aria-pressed=true]')");
+    await the('#fills-list .fill:first-child[aria-pressed=true]').isThere();
     // a block over pencil takes its image's place too
     await browser.click('#cell-2-2');
     await browser.press('.');
-    await browser.until("document.querySelector('#cell-2-2.block') && document.querySelector('#cell-4-4.block')");
-    await browser.until("document.getElementById('fills').hidden");
+    await untilInPage(() => document.querySelector('#cell-2-2.block') && document.querySelector('#cell-4-4.block'));
+    await the('#fills').isHidden();
     await browser.press('Control+z');
-    await browser.until("!document.querySelector('#cell-2-2.block')");
+    await the('#cell-2-2.block').isGone();
   },
 
   async 'an entry without which there is a fill'() {
@@ -136,7 +136,7 @@ export const CASES = {
     const before = await page.rows();
     for (let step = 0; step < 4; step++) await browser.press('Shift+ArrowDown');
     for (let step = 0; step < 3; step++) await browser.press('Shift+ArrowRight');
-    await browser.until("/^Fill [0-9]+ entries/.test(document.getElementById('fill').textContent)");
+    await the('#fill').says(/^Fill [0-9]+ entries/);
     await picture('corner');
     await another();
     const after = await page.rows();
@@ -155,7 +155,7 @@ export const CASES = {
     const told = await page.statusIs(/^there is no fill: \d+ (Across|Down) is the first (light|entry) that runs out of words/);
     expect((await page.rows()).join() === '...,...,...,###,...', `the grid is ${await page.rows()}`);
     const [, name] = /: (\d+ \w+) is/.exec(told);
-    await browser.until(`document.getElementById('light-name').textContent === '${name}'`);
+    await the('#light-name').says(name);
     // where the least score may be the cause, that is said
     writeFileSync(join(room, 'six.txt'), 'abc;60\nadg;60\nbeh;60\ncfi;60\ndef;60\nghi;60\nzzz;5\n');
     await openList(join(room, 'six.txt'));

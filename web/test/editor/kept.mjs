@@ -3,7 +3,7 @@ import { writeFileSync } from 'node:fs';
 import { join } from 'node:path';
 import { begin, menu, openFile, saved } from '../doing.mjs';
 import { areStepsKept, isDrafted, isStored, stored } from '../holding.mjs';
-import { PAGE, browser, expect, forget, fresh, page, picture, pictures, ready, reload, room, runAlone } from '../page.mjs';
+import { PAGE, browser, expect, forget, fresh, inPage, page, picture, pictures, ready, reload, room, runAlone, the, untilInPage } from '../page.mjs';
 
 const DENIED = `
   const deny = () => { throw new DOMException('denied', 'SecurityError'); };
@@ -21,7 +21,7 @@ export const CASES = {
     await browser.go(PAGE.href);
     await ready();
     expect((await page.row(1)).startsWith('TONE'), 'the letters are lost');
-    expect((await browser.value("document.getElementById('title').value")) === 'Kept', 'the title is lost');
+    expect((await the('#title').value()) === 'Kept', 'the title is lost');
   },
 
   async 'undo and redo after a reload'() {
@@ -34,7 +34,7 @@ export const CASES = {
     await browser.press('Enter');
     await areStepsKept([4, 0]);
     await reload();
-    expect(!(await browser.value("document.getElementById('undo').disabled")) && (await browser.value("document.getElementById('redo').disabled")), 'undo is not there, or redo is');
+    expect(!(await the('#undo').get('disabled')) && (await the('#redo').get('disabled')), 'undo is not there, or redo is');
     // first the clue, then a letter, to where the cursor was
     await browser.press('Control+z');
     await page.statusIs(/^undone: the clue of 1 Across$/i);
@@ -51,7 +51,7 @@ export const CASES = {
     await page.statusIs(/^done again: the clue of 1 Across$/i);
     for (let left = 4; left > 0; left--) await browser.press('Control+z');
     await page.factsAre(/· 0 of/);
-    await browser.until("document.getElementById('undo').disabled");
+    await the('#undo').isDisabled();
     // the steps go with the puzzle that is left
     await begin(1);
     await browser.type('t');
@@ -64,13 +64,13 @@ export const CASES = {
     await browser.type('co');
     await areStepsKept([2, 0]);
     // the draft and the puzzle are kept, and the steps are not
-    await browser.value(`(() => {
+    await inPage(() => {
       const { put } = IDBObjectStore.prototype;
       IDBObjectStore.prototype.put = function (...words) {
         if (this.name === 'history') throw new DOMException('no room', 'QuotaExceededError');
         return put.apply(this, words);
       };
-    })()`);
+    });
     await browser.type('t');
     await isDrafted(/set 1 4 T/);
     await isStored('set 1 4 T');
@@ -92,11 +92,11 @@ export const CASES = {
     await isDrafted(/set 1 1 J/);
     const loaded = browser.reloaded();
     // the page goes before the engine has answered
-    await browser.value(`(() => {
+    await inPage(() => {
       const press = (key) => document.getElementById('grid').dispatchEvent(new KeyboardEvent('keydown', { key, bubbles: true, cancelable: true }));
       for (const key of 'oke') press(key);
       location.reload();
-    })()`);
+    });
     await loaded;
     await ready();
     expect((await page.row(1)).startsWith('JOKE'), `the row is ${await page.row(1)}`);
@@ -106,15 +106,15 @@ export const CASES = {
     await fresh();
     await begin(6);
     // the page hears nothing of its end, as in a crash
-    const deafen = () => browser.value(`(() => {
+    const deafen = () => inPage(() => {
       for (const name of ['pagehide', 'visibilitychange', 'beforeunload', 'change', 'blur', 'focusout']) addEventListener(name, (event) => event.stopImmediatePropagation(), true);
-    })()`);
+    });
     const texts = [
       ["F3", '#clue-list textarea', 'Half a clue'], ["F4", '#title', 'Half a title'], ["F3", '.clue-more .note', 'half a note'],
     ];
     for (const [key, selector, text] of texts) {
       await browser.press(key);
-      await browser.value(`document.querySelector('${selector}').focus()`);
+      await the(selector).focus();
       await browser.insert(text);
       await isDrafted(new RegExp(text));
       expect(await browser.value(`document.activeElement.matches('${selector}') && document.activeElement.value === '${text}'`), 'the field is left');
@@ -122,7 +122,7 @@ export const CASES = {
       await browser.go(PAGE.href);
       await ready();
       await browser.press('F3');
-      await browser.until(`document.querySelector('${selector}').value === '${text}'`);
+      await the(selector).holds(text);
     }
   },
 
@@ -143,29 +143,29 @@ export const CASES = {
     await page.statusIs(/your puzzle is as you left it; File ▸ Puzzles has 1 more/);
     expect((await page.row(1)) === '#CO.#', `the row is ${await page.row(1)}`);
     await menu('library');
-    await browser.until("document.querySelectorAll('#library-list .pattern').length === 2");
+    await the('#library-list .pattern').are(2);
     await picture('library');
-    expect(await browser.value("document.querySelector('.card .delete').disabled"), 'the puzzle that is here can be deleted');
+    expect(await the('.card .delete').get('disabled'), 'the puzzle that is here can be deleted');
     await browser.click('.card:nth-child(2) .pattern');
     await page.factsAre(/^15 × 15 · 4 of/);
     expect((await page.row(1)).startsWith('TONE'), 'the letters are lost');
     await isDrafted(/size 15 15[^]*set 1 4 E/);
     await menu('library');
-    await browser.until("document.querySelectorAll('.card .delete:disabled').length === 1 && /5 × 5/.test(document.querySelector('.card:nth-child(2)').textContent)");
+    await untilInPage(() => document.querySelectorAll('.card .delete:disabled').length === 1 && /5 × 5/.test(document.querySelector('.card:nth-child(2)').textContent));
     await browser.click('.card:nth-child(2) .delete');
-    await browser.until("document.querySelector('.bin summary')?.textContent === 'Deleted (1)'");
+    await the('.bin summary').says('Deleted (1)');
     await browser.press('Escape');
     await reload();
     await menu('library');
-    await browser.until("document.querySelector('.bin summary')");
+    await the('.bin summary').isThere();
     await browser.click('.bin summary');
     await browser.click('.bin .restore');
-    await browser.until("!document.querySelector('.bin') && document.querySelectorAll('#library-list .card').length === 2");
+    await untilInPage(() => !document.querySelector('.bin') && document.querySelectorAll('#library-list .card').length === 2);
     await browser.click('.card:nth-child(2) .delete');
-    await browser.until("document.querySelector('.bin summary')");
+    await the('.bin summary').isThere();
     await browser.click('.bin summary');
     await browser.click('.bin .destroy');
-    await browser.until("!document.querySelector('.bin') && document.querySelectorAll('#library-list .card').length === 1");
+    await untilInPage(() => !document.querySelector('.bin') && document.querySelectorAll('#library-list .card').length === 1);
     await browser.press('Escape');
     expect((await page.row(1)).startsWith('TONE'), 'the puzzle that is here is gone');
   },
@@ -182,15 +182,15 @@ export const CASES = {
     try {
       await reload();
       await begin(1);
-      await browser.until('window.goOn');
+      await untilInPage(() => window.goOn);
       await browser.type('tone');
       await isDrafted(/set 1 4 E/);
-      await browser.value('window.goOn()');
-      await browser.until('window.isRunning');
+      await inPage(() => window.goOn());
+      await page.runs();
       await browser.click('#cell-2-1');
       await browser.type('a');
       await isDrafted(/set 2 1 A/);
-      expect(await browser.value("!document.getElementById('warnings').textContent && document.getElementById('kept').dataset.state === 'kept'"), 'the page holds its own puzzle for that of another tab');
+      expect(await inPage(() => !document.getElementById('warnings').textContent && document.getElementById('kept').dataset.state === 'kept'), 'the page holds its own puzzle for that of another tab');
     } finally {
       await unload();
       await reload();
@@ -212,7 +212,7 @@ export const CASES = {
     await reload();
     await menu('library');
     await browser.click('.card .versions');
-    await browser.until("document.querySelector('.back') && document.querySelectorAll('.card').length === 1");
+    await untilInPage(() => document.querySelector('.back') && document.querySelectorAll('.card').length === 1);
     await picture('versions');
     await browser.click('.card .pattern');
     await page.factsAre(/· 3 of/);
@@ -233,7 +233,7 @@ export const CASES = {
     expect((await page.row(1)) === 'Q...', `the row is ${await page.row(1)}`);
     await menu('library');
     await browser.click('.card:nth-child(2) .pattern');
-    await browser.until("document.querySelector('#cell-1-1 .letter').textContent === 'Z'");
+    await the('#cell-1-1 .letter').says('Z');
   },
 
   async 'two tabs'() {
@@ -277,7 +277,7 @@ export const CASES = {
       await browser.until(`(${stored})().then(({ puzzles }) => puzzles.length === 2 &&
         puzzles.some(({ record }) => /set 3 1 B/.test(record)) && puzzles.some(({ record }) => /set 4 1 Z/.test(record) && !/set 3 1 B/.test(record)))`);
       await browser.click('#warnings button');
-      await browser.until("!document.getElementById('warnings').textContent");
+      await untilInPage(() => !document.getElementById('warnings').textContent);
       // each tab has its own after a reload
       await reload();
       await has(browser, '4-1', 'Z');
@@ -304,27 +304,27 @@ export const CASES = {
   async 'a browser that keeps nothing'() {
     await fresh();
     await begin(1);
-    await browser.value(`(() => {
+    await inPage(() => {
       window.setItem = Storage.prototype.setItem;
       window.openDatabase = IDBFactory.prototype.open;
       Storage.prototype.setItem = () => { throw new DOMException('no room', 'QuotaExceededError'); };
       IDBFactory.prototype.open = () => { throw new DOMException('no room', 'QuotaExceededError'); };
-    })()`);
+    });
     await browser.type('t');
-    await browser.until("/^Not kept: the browser has no room left/.test(document.getElementById('warnings').textContent)");
-    expect((await browser.value("document.getElementById('kept').textContent")) === 'Not kept: the browser has no room left', 'the foot says otherwise');
+    await the('#warnings').says(/^Not kept: the browser has no room left/);
+    expect((await the('#kept').text()) === 'Not kept: the browser has no room left', 'the foot says otherwise');
     await picture('not-kept');
     const session = (await saved('crossword.xw', () => browser.click('#warnings button'))).toString();
     expect(/set 1 1 T/.test(session), 'the session is not saved');
     await browser.press('Control+p');
     await browser.click('#print-dialog [value=cancel]');
-    expect(await browser.value("/^Not kept/.test(document.getElementById('warnings').textContent)"), 'the warning is gone');
+    expect(await inPage(() => /^Not kept/.test(document.getElementById('warnings').textContent)), 'the warning is gone');
     // the store alone is enough
-    await browser.value('IDBFactory.prototype.open = window.openDatabase');
+    await inPage(() => IDBFactory.prototype.open = window.openDatabase);
     await browser.type('o');
-    await browser.until("!document.getElementById('warnings').textContent && document.getElementById('kept').dataset.state === 'kept'");
+    await untilInPage(() => !document.getElementById('warnings').textContent && document.getElementById('kept').dataset.state === 'kept');
     await isStored('set 1 2 O');
-    await browser.value('Storage.prototype.setItem = window.setItem');
+    await inPage(() => Storage.prototype.setItem = window.setItem);
     await browser.type('e');
     await isDrafted(/set 1 3 E/);
   },
@@ -333,7 +333,7 @@ export const CASES = {
     const leave = async () => {
       browser.asked.length = 0;
       await browser.go(PAGE.href);
-      await browser.until('window.isRunning');
+      await page.runs();
       return browser.asked.join();
     };
     await browser.type('to');
@@ -342,16 +342,16 @@ export const CASES = {
     const unload = await browser.preload(DENIED);
     try {
       await browser.go(PAGE.href);
-      await browser.until('window.isRunning');
+      await page.runs();
       // nothing was done yet
       await browser.press('ArrowRight');
       expect((await leave()) === '', 'a new puzzle is asked for');
       await browser.type('to');
-      await browser.until("/^Not kept/.test(document.getElementById('warnings').textContent)");
+      await the('#warnings').says(/^Not kept/);
       expect((await leave()) === 'beforeunload', 'the page goes with the puzzle');
       // what a file has is not lost
       await browser.type('to');
-      await browser.until("/^Not kept/.test(document.getElementById('warnings').textContent)");
+      await the('#warnings').says(/^Not kept/);
       await saved('crossword.xw', () => browser.press('Control+s'));
       expect((await leave()) === '', 'a puzzle that is in a file is asked for');
     } finally {
@@ -364,14 +364,14 @@ export const CASES = {
     const unload = await browser.preload(DENIED);
     try {
       await browser.go(PAGE.href);
-      await browser.until("window.isRunning");
+      await page.runs();
       await browser.type('to');
-      await browser.until("/^Not kept: this browser keeps nothing for this page/.test(document.getElementById('warnings').textContent)");
-      expect((await browser.value("document.getElementById('kept').textContent")) === 'Not kept: this browser keeps nothing for this page', 'the foot says otherwise');
+      await the('#warnings').says(/^Not kept: this browser keeps nothing for this page/);
+      expect((await the('#kept').text()) === 'Not kept: this browser keeps nothing for this page', 'the foot says otherwise');
       const session = (await saved('crossword.xw', () => browser.click('#warnings button'))).toString();
       expect(/set 1 2 O/.test(session), 'the session is not saved');
       await menu('library');
-      await browser.until("/There are no puzzles to show/.test(document.getElementById('library-list').textContent)");
+      await the('#library-list').says(/There are no puzzles to show/);
       await browser.press('Escape');
       await saved('crossword.xw', () => browser.press('Control+s'));
     } finally {
@@ -388,15 +388,15 @@ export const CASES = {
       if (window.StorageManager) Object.assign(StorageManager.prototype, { persisted: async () => false, persist: async () => { window.asked++; return false; } });`);
     try {
       await reload();
-      await browser.until("document.getElementById('kept').dataset.state === 'kept'");
-      expect((await browser.value('window.asked')) === 0, 'the browser is asked before there is a puzzle');
+      await untilInPage(() => document.getElementById('kept').dataset.state === 'kept');
+      expect((await inPage(() => window.asked)) === 0, 'the browser is asked before there is a puzzle');
       await browser.type('tone');
-      await browser.until("window.asked === 1 && /may take it away/.test(document.getElementById('kept').title)");
+      await untilInPage(() => window.asked === 1 && /may take it away/.test(document.getElementById('kept').title));
       await isStored('set 1 4 E');
       await browser.click('#cell-2-1');
       await browser.type('a');
       await isStored('set 2 1 A');
-      expect((await browser.value('window.asked')) === 1, 'the browser is asked again');
+      expect((await inPage(() => window.asked)) === 1, 'the browser is asked again');
     } finally {
       await unload();
       await reload();
@@ -411,7 +411,7 @@ export const CASES = {
     await browser.type('co');
     await isStored('set 1 3 O');
     await menu('library');
-    await browser.until("document.querySelectorAll('#library-list .card').length === 2");
+    await the('#library-list .card').are(2);
     const bytes = await saved('puzzles.json', () => browser.click('#library-save'));
     await browser.press('Escape');
     const { puzzles } = JSON.parse(bytes.toString());
@@ -423,8 +423,8 @@ export const CASES = {
     await openFile(join(room, 'puzzles.json'));
     await page.statusIs(/^puzzles.json: 0 puzzles are added to File ▸ Puzzles; of 2 that are here already, versions$/);
     await menu('library');
-    await browser.until("document.querySelectorAll('#library-list .card').length === 2");
-    await browser.value("[...document.querySelectorAll('.card .pattern')].find(({ textContent }) => /15 × 15/.test(textContent)).click()");
+    await the('#library-list .card').are(2);
+    await inPage(() => [...document.querySelectorAll('.card .pattern')].find(({ textContent }) => /15 × 15/.test(textContent)).click());
     await page.factsAre(/^15 × 15 · 4 of/);
     expect((await page.row(1)).startsWith('TONE'), 'the letters are lost');
     writeFileSync(join(room, 'puzzles.json'), '{"format":"xw puzzles 1","puzzles":[{"puzzle":1}],"versions":[]}');

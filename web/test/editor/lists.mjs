@@ -4,7 +4,7 @@ import { join } from 'node:path';
 import { largeList } from '../time.mjs';
 import { begin, beginBlank, menu, openFile, openList, openRecord, openWords, saved, slideLeast } from '../doing.mjs';
 import { raiseInTime, raiseToTheEnd, workOfLetter } from '../holding.mjs';
-import { browser, expect, forget, page, picture, reload, room, runAlone } from '../page.mjs';
+import { browser, expect, forget, inPage, page, picture, reload, room, runAlone, the, untilInPage } from '../page.mjs';
 
 export const CASES = {
   async 'a list of 277,620 words'() {
@@ -35,7 +35,7 @@ export const CASES = {
     await page.statusIs(/of 300,000 words have 40 or more$/);
     // three words across
     await openRecord(`size 6 5\n${[1, 2, 3, 4, 5, 6].flatMap((column) => [2, 4].map((row) => `block ${row} ${column}`)).join('\n')}\n`);
-    await browser.until("document.querySelector('#candidates[aria-busy=false] li')");
+    await the('#candidates[aria-busy=false] li').isThere();
     const work = await workOfLetter('t');
     await raiseToTheEnd();
     await browser.press('Control+f');
@@ -52,7 +52,7 @@ export const CASES = {
       await (name === 'marked.txt' ? openWords : openList)(join(room, name));
       const said = await page.statusIs(new RegExp(`^${name}: .*words`));
       expect(said === `${name}: ${told}`, `${name}: the page says: ${said}`);
-      expect((await browser.value("document.getElementById('list-name').textContent")) === `${name}: ${told.replace(', the best scores first', '')}`, 'the tab says otherwise');
+      expect((await the('#list-name').text()) === `${name}: ${told.replace(', the best scores first', '')}`, 'the tab says otherwise');
     };
     await begin(6);
     await open('marked.txt', '\ufeffcat\r\ncot\r\n\r\ncut', '3 words');
@@ -70,10 +70,10 @@ export const CASES = {
     await slideLeast(50);
     await page.statusIs(/^3 of 5 words have 50 or more$/);
     await menu('new');
-    await browser.value("document.getElementById('new-width').value = 3, document.getElementById('new-height').value = 1");
+    await page.wantSize(3, 1);
     await browser.click('#new-blank');
     await browser.click('#tab-words');
-    await browser.until("[...document.querySelectorAll('#candidates li')].map((row) => row.dataset.word).join() === 'ETE,TEA,CUT'");
+    await untilInPage(() => [...document.querySelectorAll('#candidates li')].map((row) => row.dataset.word).join() === 'ETE,TEA,CUT');
     await menu('built-in');
     await page.factsAre(/built-in list/);
   },
@@ -98,11 +98,11 @@ export const CASES = {
 
   async 'how a list is read is shown, and can be changed'() {
     await begin(6);
-    const shown = () => browser.value(`(() => {
+    const shown = () => inPage(() => {
       const text = (selector) => [...document.querySelectorAll(selector)].map(({ textContent }) => textContent);
       const chosen = ['separator', 'word', 'score', 'scale'].map((id) => document.getElementById('list-' + id).value);
       return { told: document.getElementById('list-told').textContent, chosen, first: text('#list-lines tr:nth-child(2) td'), left: text('#list-left li') };
-    })()`);
+    });
     const toldIs = (text) => browser.until(`document.getElementById('list-told').textContent === ${JSON.stringify(text)} && document.querySelector('#list-told[aria-busy=false]')`);
     const choose = (id, value) => browser.value(`(() => {
       const field = document.getElementById('list-${id}');
@@ -125,7 +125,7 @@ export const CASES = {
     await page.statusIs(/^columns.csv is not opened$/, 'bad');
     await page.factsAre(/built-in list/);
     await openFile(join(room, 'columns.csv'));
-    await browser.until("document.getElementById('list-dialog').open");
+    await the('#list-dialog').isOpen();
     await choose('score', 'none');
     await toldIs('columns.csv: 3 words; no scores; 2 lines left out: 1 with fewer than 2 letters, 1 that repeats a word.');
     await choose('score', '0');
@@ -137,7 +137,7 @@ export const CASES = {
     // it is read so after a reload too
     await reload();
     await page.factsAre(/columns.csv, 2 of 3 words/);
-    expect((await browser.value("document.getElementById('least-shown').textContent")) === '9', 'the scores are others');
+    expect((await the('#least-shown').text()) === '9', 'the scores are others');
     await menu('built-in');
     await page.factsAre(/built-in list/);
   },
@@ -151,25 +151,25 @@ export const CASES = {
       await page.factsAre(new RegExp(name));
     }
     await browser.click('#tab-puzzle');
-    const isOn = (name) => browser.value(`document.querySelector('#lists [data-name="${name}"]').checked`);
+    const isOn = (name) => the(`#lists [data-name="${name}"]`).get('checked');
     expect((await isOn('two.txt')) && !(await isOn('one.txt')) && !(await isOn('built-in list')), 'other lists are in use');
     // changes that come at once are all made
-    await browser.value(`['one.txt', 'built-in list'].forEach((name) => document.querySelector('#lists [data-name="' + name + '"]').click())`);
+    await inPage(() => ['one.txt', 'built-in list'].forEach((name) => document.querySelector('#lists [data-name="' + name + '"]').click()));
     await page.factsAre(/3 lists, 63,\d+ words/);
     await browser.click('#lists [data-name="built-in list"]');
     await page.factsAre(/2 lists, 4 words/);
     // words of one's own: added, graded again, hidden
     await browser.click('#personal-edit');
     await browser.insert('dot;95\ncut;99 # a note\n-ear\n?');
-    await browser.until("/2 added, 1 hidden; no word: \\?/.test(document.getElementById('personal-count').textContent)");
+    await the('#personal-count').says(/2 added, 1 hidden; no word: \?/);
     await picture('my-words');
     await browser.click('#personal-dialog [value=save]');
     await page.statusIs(/^2 lists: 4 words, the best scores first$/);
     await menu('new');
-    await browser.value("document.getElementById('new-width').value = 3, document.getElementById('new-height').value = 1");
+    await page.wantSize(3, 1);
     await browser.click('#new-blank');
     await browser.click('#tab-words');
-    await browser.until("[...document.querySelectorAll('#candidates li')].map((row) => `${row.dataset.word} ${row.querySelector('.score').textContent}`).join() === 'CUT 99,DOT 95,CAT 70,COT '");
+    await untilInPage(() => [...document.querySelectorAll('#candidates li')].map((row) => `${row.dataset.word} ${row.querySelector('.score').textContent}`).join() === 'CUT 99,DOT 95,CAT 70,COT ');
     // they stay
     await reload();
     await page.factsAre(/2 lists, 4 words/);
@@ -177,7 +177,7 @@ export const CASES = {
     await picture('lists');
     expect((await saved('my-words.txt', () => browser.click('#personal-export'))).toString() === 'dot;95\ncut;99 # a note\n-ear\n?', 'the export differs');
     // a word of the puzzle becomes one's own
-    await browser.value("document.getElementById('word').focus()");
+    await the('#word').focus();
     await browser.type('toe');
     await browser.press('Enter');
     await browser.click('#changed [data-keep=TOE]');
@@ -185,31 +185,31 @@ export const CASES = {
     await menu('built-in');
     await page.factsAre(/built-in list, 63,\d+ words/);
     await browser.click('#lists [data-remove="one.txt"]');
-    await browser.until("!document.querySelector('#lists [data-name=\"one.txt\"]')");
+    await the('#lists [data-name="one.txt"]').isGone();
     // each change of the lists is taken back
     await browser.click('#lists-undo');
-    await browser.until("document.querySelector('#lists [data-name=\"one.txt\"]:not(:checked)')");
+    await the('#lists [data-name="one.txt"]:not(:checked)').isThere();
     await browser.click('#lists-undo');
     await page.factsAre(/2 lists, 5 words/);
     await menu('built-in');
     await page.factsAre(/built-in list, 63,\d+ words/);
     await browser.click('#lists [data-remove="one.txt"]');
-    await browser.until("!document.querySelector('#lists [data-name=\"one.txt\"]')");
-    await browser.value("document.getElementById('lists-undo').click(), document.getElementById('lists-undo').click()");
+    await the('#lists [data-name="one.txt"]').isGone();
+    await inPage(() => (document.getElementById('lists-undo').click(), document.getElementById('lists-undo').click()));
     await page.factsAre(/2 lists, 5 words/);
     await menu('built-in');
     await page.factsAre(/built-in list, 63,\d+ words/);
     await browser.click('#lists [data-remove="one.txt"]');
-    await browser.until("!document.querySelector('#lists [data-name=\"one.txt\"]')");
+    await the('#lists [data-name="one.txt"]').isGone();
     // words of a file are taken over, and the others are counted
     writeFileSync(join(room, 'more-words.txt'), 'toe\nowl;70 # of a friend\n-ear\n-emu\n\u00e9t\u00e9\n?\n');
     await browser.click('#personal-edit');
     await browser.choose('#personal-file', join(room, 'more-words.txt'));
-    await browser.until("document.getElementById('personal-count').textContent === 'more-words.txt: 3 taken; 3 dropped: 2 there already, 1 with no word'");
-    expect((await browser.value("document.getElementById('personal-text').value")).endsWith('TOE\nowl;70 # of a friend\n-emu\n\u00e9t\u00e9'), 'other words are taken over');
-    await browser.value("document.getElementById('personal-text').value = ''");
+    await the('#personal-count').says('more-words.txt: 3 taken; 3 dropped: 2 there already, 1 with no word');
+    expect((await the('#personal-text').value()).endsWith('TOE\nowl;70 # of a friend\n-emu\n\u00e9t\u00e9'), 'other words are taken over');
+    await the('#personal-text').put('value', '');
     await browser.click('#personal-dialog [value=save]');
-    await browser.until("document.getElementById('personal-summary').textContent === 'none yet'");
+    await the('#personal-summary').says('none yet');
     await menu('built-in');
     await page.factsAre(/built-in list, 63,\d+ words/);
   },
@@ -246,11 +246,11 @@ export const CASES = {
     await candidatesAre('CAT 80 1 from one.txt', 'COT 70 1 from one.txt', 'CUT 60 2 from two.txt');
     // what is no offset changes nothing
     await shift(1000);
-    await browser.until("document.querySelector('#lists [data-offset=\"one.txt\"]').value === '30'");
+    await the('#lists [data-offset="one.txt"]').holds('30');
     await reload();
     await browser.click('#cell-1-1');
     await candidatesAre('CAT 80 1 from one.txt', 'COT 70 1 from one.txt', 'CUT 60 2 from two.txt');
-    await browser.until("[...document.querySelectorAll('#lists label')].map(({ textContent }) => textContent.trim()).join() === '1 one.txt,2 two.txt,built-in list'");
+    await untilInPage(() => [...document.querySelectorAll('#lists label')].map(({ textContent }) => textContent.trim()).join() === '1 one.txt,2 two.txt,built-in list');
     await browser.click('#lists [data-raise="two.txt"]');
     await candidatesAre('CAT 90 1 from two.txt', 'COT 70 2 from one.txt', 'CUT 60 1 from two.txt');
     await browser.click('#lists-undo');
@@ -275,16 +275,16 @@ export const CASES = {
       field.value = ${JSON.stringify(value)};
       field.dispatchEvent(new Event('input', { bubbles: true }));
     })()`);
-    const toldIs = (text) => browser.until(`document.getElementById('rescore-told').textContent === ${JSON.stringify(text)}`);
+    const toldIs = (text) => the('#rescore-told').says(text);
     const asking = async (kind, text, how, value) => {
       for (const [id, one] of Object.entries({ kind, text, how, value })) await set(id, one);
-      await browser.value("document.getElementById('rescore-text').focus()");
+      await the('#rescore-text').focus();
       await browser.press('Enter');
     };
     await press('rescore');
     await asking('pattern', '?at', 'to', '10');
     await toldIs('2 words found; all change.');
-    const shown = await browser.value("[...document.querySelectorAll('#rescore-changes tr')].map((row) => [...row.children].map(({ textContent }) => textContent).join(' ')).join()");
+    const shown = await inPage(() => [...document.querySelectorAll('#rescore-changes tr')].map((row) => [...row.children].map(({ textContent }) => textContent).join(' ')).join());
     expect(shown === 'Word Now Then,CAT 80 10,BAT 60 10', `shown: ${shown}`);
     await picture('rescore');
     // Esc changes nothing, and what is typed after the preview asks anew
@@ -294,9 +294,9 @@ export const CASES = {
     await asking('regular', 'at', 'to', '10');
     await toldIs('3 words found; all change.');
     await set('text', '^.at');
-    expect(await browser.value("document.getElementById('rescore-take').disabled"), 'what is not shown can be taken over');
+    expect(await the('#rescore-take').get('disabled'), 'what is not shown can be taken over');
     await asking('regular', '(', 'to', '10');
-    await browser.until("document.getElementById('rescore-told').textContent.startsWith('that is no regular expression')");
+    await the('#rescore-told').begins('that is no regular expression');
     // one that has no end is stopped
     await asking('regular', '^(A+)+$', 'to', '10');
     await browser.click('#rescore-stop');
@@ -309,31 +309,31 @@ export const CASES = {
     expect((await lines()) === 'BAT;40 CAT;60 CATS;50 TAB;5', 'the scores are others');
     await beginBlank(3, 1);
     await browser.click('#tab-words');
-    await browser.until("[...document.querySelectorAll('#candidates li')].map((row) => `${row.dataset.word} ${row.querySelector('.score').textContent}`).join() === 'CAT 60,BAT 40,TAB 5'");
+    await untilInPage(() => [...document.querySelectorAll('#candidates li')].map((row) => `${row.dataset.word} ${row.querySelector('.score').textContent}`).join() === 'CAT 60,BAT 40,TAB 5');
     await browser.click('#tab-puzzle');
     await press('rescore');
     await asking('pattern', 'T*', 'to', '95');
     await toldIs('1 word found; all changes.');
     await browser.press('Enter');
-    await browser.until("!document.getElementById('rescore-dialog').open");
-    await browser.until("!document.getElementById('lists-undo').disabled && document.getElementById('least').max === '95'");
+    await the('#rescore-dialog').isClosed();
+    await untilInPage(() => !document.getElementById('lists-undo').disabled && document.getElementById('least').max === '95');
     await browser.click('#lists-undo');
-    await browser.until("document.getElementById('least').max === '60'");
+    await the('#least').is('[max="60"]');
     expect((await lines()) === 'BAT;40 CAT;60 CATS;50 TAB;5', 'undo leaves other scores');
     await reload();
     await browser.click('#tab-puzzle');
     expect((await lines()) === 'BAT;40 CAT;60 CATS;50 TAB;5', 'the scores are not kept');
     await press('rescore');
     await browser.click('#rescore-back');
-    await browser.until("document.getElementById('least').max === '80'");
+    await the('#least').is('[max="80"]');
     expect((await lines()) === 'BAT;60 CAT;80 CATS;70 TAB;5', 'the scores of the file are not back');
     await menu('built-in');
     await page.factsAre(/built-in list/);
   },
 
   async 'Esc while words are typed'() {
-    const summaryIs = (text) => browser.until(`document.getElementById('personal-summary').textContent === '${text}'`);
-    const isClosed = () => browser.until("!document.getElementById('personal-dialog').open");
+    const summaryIs = (text) => the('#personal-summary').says(text);
+    const isClosed = () => the('#personal-dialog').isClosed();
     await browser.click('#tab-puzzle');
     await browser.click('#personal-edit');
     await browser.insert('emu');

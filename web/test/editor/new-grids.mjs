@@ -2,12 +2,12 @@
 import { writeFileSync } from 'node:fs';
 import { join } from 'node:path';
 import { gridsAreJudged, hasWord, menu, openGraded, openList, setOfGrids, showGrids, stopGrids, wantGrids } from '../doing.mjs';
-import { browser, expect, page, pause, picture, reload, room, runAlone } from '../page.mjs';
+import { browser, expect, inPage, page, pause, picture, reload, room, runAlone, the, untilInPage } from '../page.mjs';
 
-const told = () => browser.value("document.getElementById('themes-told').textContent");
+const told = () => the('#themes-told').text();
 // what each grid that is shown says of itself
-const cards = () => browser.value("[...document.querySelectorAll('#themes-grids .pattern')].map(({ innerText }) => innerText.replaceAll('\\n', ' '))");
-const fieldOf = (name) => browser.value(`document.getElementById('themes-${name}').value`);
+const cards = () => inPage(() => [...document.querySelectorAll('#themes-grids .pattern')].map(({ innerText }) => innerText.replaceAll('\n', ' ')));
+const fieldOf = (name) => the(`#themes-${name}`).value();
 const sourceOf = (name) => browser.value(`document.getElementById('themes-${name}').closest('tr').lastElementChild.textContent`);
 
 // The words, the blocks and the words of three letters of a grid that is shown.
@@ -38,7 +38,7 @@ export const CASES = {
     await menu('themes');
     await browser.insert('chocolate cake\nmint\nstrawberry pie\ntea');
     await browser.click('#themes-show');
-    await browser.until("/MINT and TEA have no partner of the same length/.test(document.getElementById('themes-told').textContent)");
+    await the('#themes-told').says(/MINT and TEA have no partner of the same length/);
     for (const style of ['barred', 'british', 'american']) {
       await showGrids('piano\ndrum machine\nbass guitars', style);
       await picture(`themes-${style}`);
@@ -50,11 +50,11 @@ export const CASES = {
     const fault = faultOf(rows, { words: 78, blocks: 38, threes: 20 });
     expect(!fault, `${fault}: ${rows}`);
     await browser.click('#tab-puzzle');
-    await browser.until("document.querySelector('#checks [data-cell]')");
-    expect((await page.count('#checks .warning')) === 0, `${await browser.value("document.querySelector('#checks .warning')?.textContent")}`);
+    await the('#checks [data-cell]').isThere();
+    expect((await page.count('#checks .warning')) === 0, `${await inPage(() => document.querySelector('#checks .warning')?.textContent)}`);
     // entries of one's own are words of the puzzle
-    await browser.until("['DRUMMACHINE', 'BASSGUITARS'].every((word) => document.querySelector(`#changed [data-keep=${word}]`)) && !document.querySelector('#changed [data-keep=PIANO]')");
-    expect(!(await browser.value("/not in your lists/.test(document.getElementById('checks').textContent)")) && (await page.count('.cell.faulty')) === 0, 'an entry is called unlisted');
+    await untilInPage(() => ['DRUMMACHINE', 'BASSGUITARS'].every((word) => document.querySelector(`#changed [data-keep=${word}]`)) && !document.querySelector('#changed [data-keep=PIANO]'));
+    expect(!(await inPage(() => /not in your lists/.test(document.getElementById('checks').textContent))) && (await page.count('.cell.faulty')) === 0, 'an entry is called unlisted');
   },
 
   async 'a dozen judged grids for a theme set'() {
@@ -62,15 +62,15 @@ export const CASES = {
     await wantGrids('raindrops\nsnowstorm\nsunsets\nseaside', 'american');
     await browser.click('#themes-show');
     // it goes on when there are a dozen
-    await browser.until("/^The best 12 of \\d+ grids/.test(document.getElementById('themes-told').textContent)");
-    expect(await browser.value("document.querySelector('#themes-grids[aria-busy=true]') !== null"), 'the search ends by itself');
-    await gridsAreJudged(12);
+    await the('#themes-told').says(/^The best 12 of \d+ grids/);
+    expect(await inPage(() => (document.querySelector('#themes-grids[aria-busy=true]') !== null)), 'the search ends by itself');
+    await gridsAreJudged(12, 1);
     const shown = await cards();
     expect(shown.length === 12 && /it fills$/.test(shown[0]), `the grids are ${shown.join('; ')}; ${await told()}`);
     expect(shown.every((text) => /it fills$|words? for the tightest entry$/.test(text)), `a grid is not judged: ${shown.join('; ')}`);
     expect(/^Stopped\. The best 12 of \d+ grids, of [\d,]+ boards that were tried\./.test(await told()), await told());
     await areWithin({ words: 78, blocks: 38, threes: 20 });
-    expect(await browser.value("[...document.querySelectorAll('#themes-grids .pattern')].every((card) => card.scrollWidth <= card.clientWidth)"), 'what is said of a grid does not fit its card');
+    expect(await inPage(() => [...document.querySelectorAll('#themes-grids .pattern')].every((card) => card.scrollWidth <= card.clientWidth)), 'what is said of a grid does not fit its card');
     await picture('grids-dozen');
     await browser.click('#themes-grids .pattern:last-child');
     await page.factsAre(/^15 × 15 · 32 of/);
@@ -83,7 +83,7 @@ export const CASES = {
   async 'themeless grids of 72 words with a seed'() {
     await menu('themes');
     await wantGrids('', 'New York Times, themeless', { seeds: 'juxtapose' });
-    expect(/^Limits: 72 words, 36 blocks, 14 words of 3/.test(await browser.value("document.getElementById('themes-summary').textContent")), 'the limits of the outlet are not told');
+    expect(/^Limits: 72 words, 36 blocks, 14 words of 3/.test(await the('#themes-summary').text()), 'the limits of the outlet are not told');
     await browser.click('#themes-show');
     await gridsAreJudged(12);
     expect((await cards()).length === 12, `there are ${(await cards()).length} grids`);
@@ -99,8 +99,8 @@ export const CASES = {
     await menu('themes');
     await wantGrids('', 'american');
     expect((await sourceOf('words')) === 'published' && (await sourceOf('threes')) === 'usual', `the sources are ${await sourceOf('words')} and ${await sourceOf('threes')}`);
-    await browser.value("document.getElementById('themes-limits').open = true");
-    const rules = () => browser.value("document.getElementById('themes-rules').textContent");
+    await the('#themes-limits').put('open', true);
+    const rules = () => the('#themes-rules').text();
     expect(/Each letter is in two words/.test(await rules()), await rules());
     await setOfGrids('outlet', 'Guardian');
     expect(/no three unchecked/.test(await rules()) && (await fieldOf('words')) === '36' && (await sourceOf('words')) === 'usual', `of a lattice it says: ${await rules()}; ${await fieldOf('words')} words, ${await sourceOf('words')}`);
@@ -123,10 +123,10 @@ export const CASES = {
     expect((await fieldOf('words')) === '140' && (await sourceOf('words')) === 'by the size', `in a 21 by 21 there are ${await fieldOf('words')} words, ${await sourceOf('words')}`);
     await setOfGrids('width', '15');
     await setOfGrids('height', '15');
-    await browser.value("document.getElementById('themes-limits').open = true");
+    await the('#themes-limits').put('open', true);
     await browser.click('#themes-reset');
     expect((await fieldOf('words')) === '78' && (await fieldOf('blocks')) === '38' && (await sourceOf('words')) === 'published', 'what was listed does not come back');
-    await browser.value("document.getElementById('themes-limits').open = false");
+    await the('#themes-limits').put('open', false);
     await browser.press('Escape');
   },
 
@@ -136,13 +136,13 @@ export const CASES = {
     // no grid has so few words
     await setOfGrids('words', '20');
     await browser.click('#themes-show');
-    await browser.until("document.querySelector('#themes-grids .pattern .bad')");
+    await the('#themes-grids .pattern .bad').isThere();
     const near = await cards();
     expect(near.every((text) => text.includes('too many words')), `of the nearest boards it is said: ${near}`);
     expect(/^No grids, of [\d,]+ boards that were tried\. What keeps others out: too many words \([\d,]+\)/.test(await told()), await told());
-    expect(await browser.value("document.querySelector('#themes-grids[aria-busy=true]') && document.getElementById('themes-show').hidden"), 'the search does not go on');
+    expect(await inPage(() => (document.querySelector('#themes-grids[aria-busy=true]') && document.getElementById('themes-show').hidden)), 'the search does not go on');
     await browser.click('#themes-stop');
-    expect(await browser.value("document.querySelector('#themes-grids[aria-busy=false]') && document.getElementById('themes-stop').hidden && document.activeElement.id === 'themes-show'"), 'the search goes on');
+    expect(await inPage(() => (document.querySelector('#themes-grids[aria-busy=false]') && document.getElementById('themes-stop').hidden && document.activeElement.id === 'themes-show')), 'the search goes on');
     const text = await told();
     expect(text.startsWith('Stopped. No grids'), text);
     await pause(2500);
@@ -150,9 +150,9 @@ export const CASES = {
     // the next one is another
     await setOfGrids('words', '78');
     await browser.press('Enter');
-    await browser.until("document.querySelector('#themes-grids .pattern .here')");
+    await the('#themes-grids .pattern .here').isThere();
     await browser.press('Escape');
-    await browser.until("!document.getElementById('themes-dialog').open");
+    await the('#themes-dialog').isClosed();
   },
 
   async 'grids under other symmetries, judged'() {
@@ -169,9 +169,9 @@ export const CASES = {
     await menu('themes');
     await wantGrids('gardening\nflowerpot', 'american');
     await browser.click('#themes-show');
-    await browser.until("document.querySelector('#themes-grids .pattern .bad')");
+    await the('#themes-grids .pattern .bad').isThere();
     await stopGrids();
-    const verdicts = await browser.value("[...document.querySelectorAll('#themes-grids small')].map(({ textContent }) => textContent)");
+    const verdicts = await the('#themes-grids small').texts();
     expect(verdicts.length && verdicts.every((text) => /^\d+ entries have no word: [A-Z.]+$/.test(text)), `the verdicts are ${verdicts}`);
     expect((await page.count('#themes-grids .pattern .dead')) === verdicts.length, 'the lights without a word are not shown');
     await browser.press('Escape');
@@ -186,16 +186,16 @@ export const CASES = {
     await setOfGrids('words', '32');
     await setOfGrids('threes', '14');
     await browser.click('#themes-show');
-    await gridsAreJudged(3);
+    await gridsAreJudged(3, 2);
     await areWithin({ words: 32, blocks: 14, threes: 14 });
     const shown = await cards();
     const figures = shown.map((text) => /it fills: worst (\d+), mean (\d+)/.exec(text)?.slice(1).map(Number)).filter(Boolean);
     const sorted = [...figures].sort((a, b) => b[0] - a[0] || b[1] - a[1]);
     expect(figures.length > 1 && JSON.stringify(figures) === JSON.stringify(sorted), `the grids come as ${shown}`);
     await picture('grids-within-limits');
-    await browser.value("document.getElementById('themes-limits').open = true");
+    await the('#themes-limits').put('open', true);
     await browser.click('#themes-reset');
-    await browser.value("document.getElementById('themes-limits').open = false");
+    await the('#themes-limits').put('open', false);
     await browser.press('Escape');
     await menu('built-in');
     await page.factsAre(/built-in list/);
@@ -208,17 +208,17 @@ export const CASES = {
       field.value = ${JSON.stringify(value)};
       field.dispatchEvent(new Event('input', { bubbles: true }));
     })()`);
-    const stock = () => browser.value("document.getElementById('stock-told').textContent");
+    const stock = () => the('#stock-told').text();
     await menu('new');
     expect((await shown()) === 0, 'patterns of the stock are there before it is opened');
     await browser.click('#stock summary');
-    await browser.until("document.querySelector('#stock-patterns .pattern')");
+    await the('#stock-patterns .pattern').isThere();
     expect((await stock()) === '100 of 100 patterns' && (await shown()) === 24, `${await stock()}, ${await shown()} of them`);
     await browser.click('#stock-more');
-    expect((await shown()) === 48 && (await browser.value("[...document.querySelectorAll('#stock-patterns .pattern')].indexOf(document.activeElement)")) === 24, 'the next patterns are not there, or have no focus');
+    expect((await shown()) === 48 && (await inPage(() => [...document.querySelectorAll('#stock-patterns .pattern')].indexOf(document.activeElement))) === 24, 'the next patterns are not there, or have no focus');
     await set('themes', '14, 12, 12, 14');
     expect(/^\d+ of 100 patterns, with room for 14, 12, 12, 14$/.test(await stock()), await stock());
-    const held = await browser.value("[...document.querySelectorAll('#stock-patterns .pattern')].map((card) => card.querySelector('.held').getAttribute('d').split('M').length - 1)");
+    const held = await inPage(() => [...document.querySelectorAll('#stock-patterns .pattern')].map((card) => card.querySelector('.held').getAttribute('d').split('M').length - 1));
     expect(held.length === Number.parseInt(await stock(), 10) && held.length > 0 && held.every((cells) => cells === 52), `the places of the entries have ${held} cells`);
     // the same as words
     const asNumbers = await stock();
@@ -226,14 +226,14 @@ export const CASES = {
     expect((await stock()) === asNumbers, `as words there are ${await stock()}`);
     await picture('stock-themes');
     await set('themes', '16');
-    expect((await stock()) === 'none of 100 patterns, with room for 16' && (await shown()) === 0 && (await browser.value("document.getElementById('stock-more').hidden")), await stock());
+    expect((await stock()) === 'none of 100 patterns, with room for 16' && (await shown()) === 0 && (await the('#stock-more').get('hidden')), await stock());
     await set('themes', '');
     await set('form', 'themeless');
     await set('words', '70');
     await set('threes', '8');
-    const texts = await browser.value("[...document.querySelectorAll('#stock-patterns .pattern')].map(({ textContent }) => textContent)");
+    const texts = await the('#stock-patterns .pattern').texts();
     expect(texts.length > 0 && texts.every((text) => figuresOf(text).words <= 70 && figuresOf(text).threes <= 8), `within 70 words and 8 of three letters: ${texts}`);
-    expect(await browser.value("[...document.querySelectorAll('#stock-patterns .pattern')].every((card) => card.scrollWidth <= card.clientWidth)"), 'what is said of a pattern does not fit its card');
+    expect(await inPage(() => [...document.querySelectorAll('#stock-patterns .pattern')].every((card) => card.scrollWidth <= card.clientWidth)), 'what is said of a pattern does not fit its card');
     for (const form of ['sunday', 'british15', 'british13', 'daily']) {
       await set('form', form);
       await set('words', '');
@@ -241,7 +241,7 @@ export const CASES = {
       expect((await stock()) === '100 of 100 patterns', `${form}: ${await stock()}`);
       await picture(`stock-${form}`);
     }
-    const [, words, blocks] = /^(\d+) words, (\d+) blocks/.exec(await browser.value("document.querySelector('#stock-patterns .pattern').textContent"));
+    const [, words, blocks] = /^(\d+) words, (\d+) blocks/.exec(await the('#stock-patterns .pattern').text());
     await browser.click('#stock-patterns .pattern');
     await page.factsAre(/^15 × 15 · 0 of/);
     const rows = await page.rows();
@@ -257,16 +257,16 @@ export const CASES = {
     await browser.click('#new-blank');
     await page.factsAre(/^7 × 7 · 0 of/);
     await menu('moves');
-    await browser.until("/^As it is: /.test(document.getElementById('moves-told').textContent)");
-    const text = await browser.value("document.getElementById('moves-told').textContent");
+    await the('#moves-told').says(/^As it is: /);
+    const text = await the('#moves-told').text();
     expect(/ \d+ blocks were tried, and the \d+ most promising were filled: (none|\d+) makes? that better\.$/.test(text), text);
-    const shown = await browser.value("[...document.querySelectorAll('#moves-list .pattern')].map((card) => card.innerText.replaceAll('\\n', ' '))");
+    const shown = await inPage(() => [...document.querySelectorAll('#moves-list .pattern')].map((card) => card.innerText.replaceAll('\n', ' ')));
     expect(shown.length > 0 && shown.every((one) => /^row \d, column \d /.test(one)), `the moves are ${shown}`);
     expect((await page.count('#moves-map svg')) === 1, 'there is no map');
     await picture('moves');
     const [, row, column] = /^row (\d), column (\d)/.exec(shown[0]).map(Number);
     await browser.click('#moves-list .pattern');
-    await browser.until("document.querySelector('#grid .cell.block')");
+    await the('#grid .cell.block').isThere();
     const rows = await page.rows();
     const [index, all] = [7 * (row - 1) + column - 1, rows.join('')];
     expect(all[index] === '#' && all[48 - index] === '#' && all.replace(/[^#]/g, '').length === (index === 24 ? 1 : 2), `the block of row ${row}, column ${column} is in ${rows}`);

@@ -2,7 +2,7 @@
 import { writeFileSync } from 'node:fs';
 import { join } from 'node:path';
 import { begin, menu, openFile, openRecord, print, saved } from '../doing.mjs';
-import { browser, expect, page, picture, reload, room, runAlone } from '../page.mjs';
+import { browser, expect, inPage, page, picture, reload, room, runAlone, the, untilInPage } from '../page.mjs';
 
 // What is said of an outlet: its line, and the text of each row of its table.
 const outlet = (name) => browser.value(`(() => {
@@ -10,14 +10,14 @@ const outlet = (name) => browser.value(`(() => {
   return box && { told: box.querySelector('summary').textContent, rows: [...box.querySelectorAll('tr')].map((row) => [...row.children].map(({ textContent }) => textContent).join('|')) };
 })()`);
 const DAILY = 'New York Times, daily';
-const dailySays = (pattern) => browser.until(`${pattern}.test(document.querySelector('#outlets [data-outlet="${DAILY}"] summary')?.textContent)`);
-const statisticsSay = (pattern) => browser.until(`${pattern}.test(document.getElementById('statistics').textContent)`);
+const dailySays = (pattern) => the(`#outlets [data-outlet="${DAILY}"] summary`).says(pattern);
+const statisticsSay = (pattern) => the('#statistics').says(pattern);
 
 const GRID = 'size 3 2\nset 1 1 C\nset 1 2 O\nset 1 3 D\nset 2 1 A\nset 2 2 N\nset 2 3 O\ntext clue 1 1 across Fish\n';
 // what stands in the cells of the puzzle that is solved, with a dot for none
-const solved = () => browser.value("[...document.querySelectorAll('.solver-letter')].map(({ textContent }) => textContent || '.').join('')");
+const solved = () => inPage(() => [...document.querySelectorAll('.solver-letter')].map(({ textContent }) => textContent || '.').join(''));
 const solvedIs = (letters) => browser.until(`[...document.querySelectorAll('.solver-letter')].map(({ textContent }) => textContent || '.').join('') === '${letters}'`);
-const solverSays = (text) => browser.until(`document.querySelector('.solver-told').textContent === '${text}'`);
+const solverSays = (text) => the('.solver-told').says(text);
 const marked = (name) => browser.value(`[...document.querySelectorAll('.solver-cell.${name}')].map(({ dataset }) => dataset.index).join()`);
 
 export const CASES = {
@@ -31,7 +31,7 @@ export const CASES = {
     // a limit of the setter
     await menu('themes');
     await browser.click('#themes-summary');
-    await browser.value("(() => { const field = document.getElementById('themes-lumps'); field.value = '4'; field.dispatchEvent(new Event('change')); })()");
+    await inPage(() => { const field = document.getElementById('themes-lumps'); field.value = '4'; field.dispatchEvent(new Event('change')); });
     await browser.click('#themes-dialog [value=cancel]');
     await browser.click('#tab-puzzle');
     await dailySays(/✓ met, 1 to judge/);
@@ -43,7 +43,7 @@ export const CASES = {
     await browser.click('#cell-8-8');
     await browser.press('.');
     await dailySays(/✗/);
-    expect(await browser.value("document.querySelector('#outlets details[open]').dataset.outlet") === DAILY, 'the outlet is folded again');
+    expect(await inPage(() => document.querySelector('#outlets details[open]').dataset.outlet) === DAILY, 'the outlet is folded again');
     await picture('outlets');
     await menu('themes');
     await browser.click('#themes-reset');
@@ -51,13 +51,13 @@ export const CASES = {
     // the outlets of a lattice
     await begin(3);
     await browser.click('#tab-puzzle');
-    await browser.until("/^Guardian.*Times.*Independent/.test(document.getElementById('outlets').textContent)");
+    await the('#outlets').says(/^Guardian.*Times.*Independent/);
     expect((await page.count('#outlets details')) === 3, 'a lattice has other outlets');
   },
 
   async 'comments on clues'() {
     const comment = async (text) => {
-      await browser.value("document.querySelector('.clue-more .comment').focus()");
+      await the('.clue-more .comment').focus();
       await browser.insert(text);
       await browser.press('Enter');
     };
@@ -69,7 +69,7 @@ export const CASES = {
     await comment('ED: leave it');
     await listed('TB: <b>too</b> hard|ED: leave it');
     await picture('comments');
-    expect(await browser.value("[...document.querySelectorAll('.clue-more :is(input, li button)')].every((one) => one.getBoundingClientRect().right <= document.querySelector('.clue-more').getBoundingClientRect().right)"), 'a comment is cut off');
+    expect(await inPage(() => [...document.querySelectorAll('.clue-more :is(input, li button)')].every((one) => one.getBoundingClientRect().right <= document.querySelector('.clue-more').getBoundingClientRect().right)), 'a comment is cut off');
     // one undo takes the last one back
     await browser.press('Control+z');
     await listed('TB: <b>too</b> hard');
@@ -78,7 +78,7 @@ export const CASES = {
     await browser.click('.clue-more li:nth-child(2) button');
     await listed('TB: <b>too</b> hard');
     // what is half typed goes to the clue that it is for
-    await browser.value("document.querySelector('.clue-more .comment').focus()");
+    await the('.clue-more .comment').focus();
     await browser.insert('half a comment');
     await browser.click('#cell-2-1');
     await listed('');
@@ -86,7 +86,7 @@ export const CASES = {
     await browser.until(`${below} === 'TB: <b>too</b> hard\\nhalf a comment'`);
     // it is among what is to do
     await browser.press('F4');
-    await browser.until("[...document.querySelectorAll('#checks button')].some(({ textContent }) => textContent === 'the clue of 1 Across has comments')");
+    await the('#checks button').oneSays('the clue of 1 Across has comments');
     // the session has them, and no file of solvers
     const session = (await saved('crossword.xw', () => menu('save-session'))).toString();
     const ipuz = (await saved('crossword.ipuz', () => menu('save-ipuz'))).toString();
@@ -102,7 +102,7 @@ export const CASES = {
     await browser.until(`${below} === 'mine'`);
     const take = async (name) => {
       // a click by the mouse would show the dialog of the browser, which stands in the way
-      await browser.value("document.querySelector('[data-do=comments-from]').click()");
+      await the('[data-do=comments-from]').press();
       await openFile(join(room, name));
     };
     writeFileSync(join(room, 'other.xw'), `# xw session\n# originals ${JSON.stringify([['comment 1 1 across', 'TB: too hard\nmine'], ['comment 1 2 down', 'ED: good'], ['comment 9 9 down', 'gone'], ['note 1 1 down', 'no']])}\n${GRID}`);
@@ -126,10 +126,10 @@ export const CASES = {
       await browser.click('[name=parts][value=submission]');
       await browser.value(`document.getElementById('print-comments').checked !== ${isWished} && document.getElementById('print-comments').click()`);
       await print();
-      expect((await browser.value("document.getElementById('sheet').textContent.includes('half a comment')")) === isWished, `comments are printed if they are wished: ${isWished}`);
+      expect((await inPage(() => document.getElementById('sheet').textContent.includes('half a comment'))) === isWished, `comments are printed if they are wished: ${isWished}`);
     }
     await browser.press('Control+p');
-    expect(!(await browser.value("document.getElementById('print-comments').checked")), 'comments are chosen still');
+    expect(!(await the('#print-comments').get('checked')), 'comments are chosen still');
     await browser.click('[name=parts][value=both]');
     await browser.click('#print-dialog [value=cancel]');
   },
@@ -161,26 +161,26 @@ export const CASES = {
     await browser.type('z');
     await browser.press('Escape');
     await browser.press('Escape');
-    await browser.until("!document.getElementById('solve-dialog').open");
+    await the('#solve-dialog').isClosed();
     expect((await page.rows()).join() === 'COD,ANO', 'the grid is changed');
     expect((await record()) === before, 'the session is changed');
     // it goes on as it was, while the puzzle is the same
     await menu('solve');
-    await browser.until("/^CO.\\.{3}$/.test([...document.querySelectorAll('.solver-letter')].map(({ textContent }) => textContent || '.').join(''))");
+    await untilInPage(() => /^CO.\.{3}$/.test([...document.querySelectorAll('.solver-letter')].map(({ textContent }) => textContent || '.').join('')));
     await browser.click('[data-solver=reveal-puzzle]');
     expect(!(await solved()).endsWith('ANO'), 'all is shown at the first press');
     await browser.click('[data-solver=reveal-puzzle]');
     await solvedIs('CODANO');
-    await browser.value("[...document.querySelectorAll('.solver-tools button')].at(-1).click()");
-    await browser.until("!document.getElementById('solve-dialog').open");
+    await inPage(() => [...document.querySelectorAll('.solver-tools button')].at(-1).click());
+    await the('#solve-dialog').isClosed();
     await browser.click('#cell-1-1');
     await browser.type('g');
     await page.factsAre(/filled/);
     await menu('solve');
     await solvedIs('......');
-    await browser.value("document.getElementById('solve-dialog').close()");
+    await inPage(() => document.getElementById('solve-dialog').close());
     await browser.press('Control+z');
-    await browser.until("document.querySelector('#cell-1-1 .letter').textContent === 'C'");
+    await the('#cell-1-1 .letter').says('C');
   },
 
   async 'a page to solve in one file'() {
@@ -194,7 +194,7 @@ export const CASES = {
     expect(/default-src 'none'; script-src 'sha256-[^']+' ?; style-src 'sha256-[^']+' ?; base-uri 'none'; form-action 'none'/.test(file), 'the page has another policy');
     await browser.go(`file://${join(room, name)}`);
     await solvedIs('......');
-    expect((await browser.value("document.title + document.querySelector('h1').textContent + document.querySelectorAll('img, .solver b b').length")) === `${hostile}${hostile}0`, 'a text is read as markup');
+    expect((await inPage(() => document.title + document.querySelector('h1').textContent + document.querySelectorAll('img, .solver b b').length)) === `${hostile}${hostile}0`, 'a text is read as markup');
     await browser.type('cod');
     await browser.press('Tab');
     await browser.type('ann');
@@ -215,9 +215,9 @@ export const CASES = {
     await browser.view(390, 844, { isTouched: true });
     try {
       await browser.go(`file://${join(room, 'crossword.solve.html')}`);
-      await browser.until("document.querySelector('.solver-cell')");
+      await the('.solver-cell').isThere();
       await browser.tap('.solver-cell[data-index="3"]');
-      await browser.until("document.activeElement.id === 'solver-typing'");
+      await the('#solver-typing').hasFocus();
       await browser.insert('a');
       await solvedIs('...A..');
       await browser.insert('x');
@@ -228,7 +228,7 @@ export const CASES = {
       await browser.tap('.solver-cell[data-index="1"]');
       await browser.insert('on');
       await solvedIs('.O.AN.');
-      expect(await browser.value('document.documentElement.scrollWidth <= innerWidth'), 'the page is too wide');
+      expect(await inPage(() => document.documentElement.scrollWidth <= innerWidth), 'the page is too wide');
       await picture('solver-touch');
     } finally {
       await browser.view(1400, 900);

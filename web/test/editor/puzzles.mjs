@@ -3,22 +3,22 @@ import { writeFileSync } from 'node:fs';
 import { join } from 'node:path';
 import { Xw } from '../../dist/xw.js';
 import { begin, choosing, filledLights, hasWord, judged, menu, openRecord, print, saved, showGrids, wholePuzzle, writeClues } from '../doing.mjs';
-import { browser, expect, module, page, picture, pictures, reload, runAlone } from '../page.mjs';
+import { browser, expect, inPage, module, page, picture, pictures, reload, runAlone, the } from '../page.mjs';
 
 // The pages that are printed, each with its head, its height in millimetres and how many clues or answers it has. None of these is cut, and each section
 // is one page.
 async function printedPages(name, paper, parts) {
   await browser.press('Control+p');
-  await browser.until("document.getElementById('print-dialog').open");
+  await the('#print-dialog').isOpen();
   await browser.click(`[name=paper][value=${paper}]`);
   await browser.click(`[name=parts][value=${parts}]`);
   await print();
   const pdf = await browser.pdf();
   if (pictures) writeFileSync(join(pictures, `${name}-${paper}-${parts}.pdf`), pdf);
-  const pages = await browser.value(`[...document.querySelectorAll('#sheet .page')].map((page) => ({
+  const pages = await inPage(() => [...document.querySelectorAll('#sheet .page')].map((page) => ({
     head: page.querySelector('h1').textContent, address: page.querySelector('header p')?.textContent, clues: page.querySelectorAll('.clues p, .answers td:first-child').length,
     grids: page.querySelectorAll('svg').length,
-  }))`);
+  })));
   const count = (pdf.toString('latin1').match(/\/Type\s*\/Page\b/g) ?? []).length;
   expect(count === pages.length, `${name}, ${paper}, ${parts}: ${pages.length} pages with a head, and ${count} are printed`);
   return pages;
@@ -50,7 +50,7 @@ export const CASES = {
       }
     }
     await browser.press('Control+p');
-    await browser.value("document.getElementById('print-address').value = ''");
+    await the('#print-address').put('value', '');
     await browser.click('[name=parts][value=both]');
     await browser.click('#print-dialog [value=cancel]');
   },
@@ -63,7 +63,7 @@ export const CASES = {
     await browser.press('Control+f');
     await page.statusIs(/^filled/);
     await browser.press('F4');
-    await browser.until("document.activeElement.id === 'title'");
+    await the('#title').hasFocus();
     await browser.type('Tiny one');
     await browser.press('Tab');
     await browser.type('A. Setter');
@@ -95,12 +95,12 @@ export const CASES = {
     // a word across, the rest by a fill, and a clue for each light
     await browser.click('#cell-6-9');
     await browser.type('culture');
-    await browser.until("document.querySelector('#cell-6-15 .letter')?.textContent === 'E'");
+    await the('#cell-6-15 .letter').says('E');
     await browser.press('Control+f');
     await page.statusIs(/^filled/);
     expect((await page.row(6)).endsWith('CULTURE'), 'the word did not stay');
     await browser.press('F4');
-    await browser.until("document.activeElement.id === 'title'");
+    await the('#title').hasFocus();
     await browser.type('Across and down');
     await browser.press('Tab');
     const count = await writeClues();
@@ -111,7 +111,7 @@ export const CASES = {
 
   async 'a themed 15 by 15 from four entries'() {
     await menu('themes');
-    await showGrids('raindrops\nsnowstorm\nsunsets\nseaside', 'american');
+    await showGrids('raindrops\nsnowstorm\nsunsets\nseaside', 'american', { filling: 1 });
     await choosing('it fills');
     await page.factsAre(/^15 × 15 · 32 of/);
     const told = await wholePuzzle('weather-forecast', 'Weather forecast', 'puz');

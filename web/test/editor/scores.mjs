@@ -2,8 +2,8 @@
 import { writeFileSync } from 'node:fs';
 import { join } from 'node:path';
 import { another, begin, beginBlank, menu, openFile, openGraded, openList, openRecord, pointedAt, scoredList, slideLeast, wordsOf } from '../doing.mjs';
-import { hold, holdFill, holdRaising, isDrafted, isHeld, raiseInTime, raiseToTheEnd } from '../holding.mjs';
-import { browser, expect, page, picture, reload, room, runAlone } from '../page.mjs';
+import { hold, holdFill, holdRaising, isDrafted, isHeld, raiseInTime, raiseToTheEnd, release, releaseFill } from '../holding.mjs';
+import { browser, expect, inPage, page, picture, reload, room, runAlone, the, untilInPage } from '../page.mjs';
 
 export const CASES = {
   async 'a list with scores'() {
@@ -13,10 +13,10 @@ export const CASES = {
     await openList(path);
     await page.factsAre(/scored.txt, 10 words/);
     await menu('new');
-    await browser.value("document.getElementById('new-width').value = 3, document.getElementById('new-height').value = 1");
+    await page.wantSize(3, 1);
     await browser.click('#new-blank');
-    await browser.until("document.querySelectorAll('#candidates li').length === 10");
-    const first = await browser.value("[...document.querySelectorAll('#candidates li')].slice(0, 3).map((row) => row.dataset.word).join()");
+    await the('#candidates li').are(10);
+    const first = await inPage(() => [...document.querySelectorAll('#candidates li')].slice(0, 3).map((row) => row.dataset.word).join());
     expect(first === 'COT,TAR,TOE', `the order is ${first}`);
     await slideLeast(50);
     await page.factsAre(/scored.txt, 6 of 10 words/);
@@ -35,38 +35,38 @@ export const CASES = {
     const others = 'no fill is better; all but [13] (Across|Down) have 75 or more';
     await page.statusIs(new RegExp(`^filled: worst 65, mean 80; ${others}$`));
     await raiseInTime();
-    await browser.until(`/^worst 65, mean 80; ${others}$/.test(document.getElementById('figures-text').textContent)`);
+    await the('#figures-text').says(new RegExp(`^worst 65, mean 80; ${others}$`));
     expect(['EF,GH', 'EG,FH'].includes((await page.rows()).join()), `the grid is ${await page.rows()}`);
     // the words below a score are marked
-    await browser.value("document.getElementById('weak').value = 70, document.getElementById('weak').dispatchEvent(new Event('change'))");
-    await browser.until("document.querySelectorAll('.weak-across, .weak-down').length === 2");
-    await browser.until("/^worst 65, mean 80, 1 under 70/.test(document.getElementById('figures-text').textContent)");
+    await the('#weak').choose(70);
+    await the('.weak-across, .weak-down').are(2);
+    await the('#figures-text').says(/^worst 65, mean 80, 1 under 70/);
     await browser.click('#figures-worst');
-    await browser.until("document.getElementById('light-letters').textContent === 'EG'");
+    await the('#light-letters').says('EG');
     // both fills are one step
     await browser.press('Control+z');
     await page.factsAre(/· 0 of/);
-    await browser.until("document.getElementById('figures').hidden && !document.querySelector('.weak-across, .weak-down')");
+    await untilInPage(() => document.getElementById('figures').hidden && !document.querySelector('.weak-across, .weak-down'));
     await browser.press('Control+y');
     await page.factsAre(/filled/);
     // what is proved holds when letters are locked
-    await browser.until("/no fill is better/.test(document.getElementById('figures-text').textContent)");
+    await the('#figures-text').says(/no fill is better/);
     await browser.press('=');
     await page.statusIs(/locked/);
-    const isBest = () => browser.until("/^worst 65, mean 80, 1 under 70; no fill is better/.test(document.getElementById('figures-text').textContent)");
+    const isBest = () => the('#figures-text').says(/^worst 65, mean 80, 1 under 70; no fill is better/);
     await isBest();
     await browser.press('Control+f');
     await page.statusIs(/^filled: worst 65, mean 80, 1 under 70; no fill is better/);
     // but not with other words
     await browser.click('#tab-puzzle');
-    await browser.value("document.getElementById('word').focus()");
+    await the('#word').focus();
     await browser.type('zz');
     await browser.press('Enter');
-    await browser.until("document.getElementById('figures-text').textContent === 'worst 65, mean 80, 1 under 70'");
+    await the('#figures-text').says('worst 65, mean 80, 1 under 70');
     await browser.click('#tab-words');
     await menu('built-in');
     await page.factsAre(/built-in list/);
-    await browser.until("document.getElementById('figures').hidden && document.getElementById('least-row').hidden");
+    await untilInPage(() => document.getElementById('figures').hidden && document.getElementById('least-row').hidden);
   },
 
   async 'a fill while another puzzle is opened'() {
@@ -80,7 +80,7 @@ export const CASES = {
     await openFile(join(room, 'locked.xw'));
     await isHeld();
     await browser.press('Control+f');
-    await browser.value('window.release()');
+    await release();
     // the letters of that puzzle are locked, though a fill without them is better
     await page.statusIs(/^filled: worst 60/);
     await raiseInTime();
@@ -126,9 +126,9 @@ export const CASES = {
     expect((await page.row(3)) === 'SINGLE', `the row is ${await page.row(3)}`);
     await browser.press('Control+z');
     await page.factsAre(/· 5 of/);
-    await browser.until("!/set 3 1/.test(window.drafts())");
+    await untilInPage(() => !/set 3 1/.test(window.drafts()));
     await reload();
-    await browser.until("document.getElementById('apart').checked");
+    await untilInPage(() => document.getElementById('apart').checked);
     await browser.click('#cell-3-1');
     await listed('SINGLE,WINTER');
     await browser.click('#apart');
@@ -152,11 +152,11 @@ export const CASES = {
     await openList(join(room, 'threes.txt'));
     await page.factsAre(/threes.txt, 4 words/);
     await openRecord('size 3 1\n');
-    await browser.value("document.getElementById('threes').value = 50, document.getElementById('threes').dispatchEvent(new Event('change'))");
+    await the('#threes').choose(50);
     await page.statusIs(/^words of three letters have 50 or more$/);
     await page.factsAre(/threes.txt, 2 words/);
     await browser.type('tea');
-    await browser.until("/TEA \\(40\\) is below your least score for three letters, 50/.test(document.getElementById('standing').textContent)");
+    await the('#standing').says(/TEA \(40\) is below your least score for three letters, 50/);
     await reload();
     await page.factsAre(/threes.txt, 2 words/);
     await menu('built-in');
@@ -172,41 +172,40 @@ export const CASES = {
     await browser.press('Control+f');
     await page.statusIs(/^filled: worst 90, mean 90; no fill is better: 1 Across allows no more$/);
     // another fill finds TAR, and raisings find nothing and end when they are told to
-    await browser.value(`(() => {
+    await inPage(() => {
       window.setTimeout = (action, time, ...more) => (time === 2000 ? ((window.endRaising = action), 0) : window.inTime(action, time, ...more));
       const post = Worker.prototype.postMessage;
       window.seeds = [];
       Worker.prototype.postMessage = function (message, transfer) {
-        if (message.call === 'best') return window.seeds.push(message.sent.limits.split(' ')[1]);
-        if (!message.sent.lines?.[0]?.startsWith('autofill')) return post.call(this, message, transfer);
+        if (message.call === 'best') return window.seeds.push(message.sent.given[1]);
+        if (message.call !== 'autofill') return post.call(this, message, transfer);
         const id = message.id + ' placed';
-        const answers = [{ lines: ['filled'], refusal: null }];
-        this.addEventListener('message', ({ data }) => data.id === id && this.dispatchEvent(new MessageEvent('message', { data: { id: message.id, value: { ...data.value, answers } } })));
-        post.call(this, { ...message, id, sent: { ...message.sent, lines: ['place 1 across TAR'] } }, transfer);
+        this.addEventListener('message', ({ data }) => data.id === id && this.dispatchEvent(new MessageEvent('message', { data: { id: message.id, value: { answer: 'filled' } } })));
+        post.call(this, { id, call: 'edit', sent: { lines: ['place 1 across TAR'], isWhole: false } }, transfer);
       };
-    })()`);
+    });
     const raising = async (key) => {
-      await browser.value('window.endRaising = null, window.seeds.length = 0');
+      await inPage(() => (window.endRaising = null, window.seeds.length = 0));
       await browser.press(key);
-      await browser.until('window.endRaising && window.seeds.length > 0');
+      await untilInPage(() => window.endRaising && window.seeds.length > 0);
       const row = await page.row(1);
-      await browser.value('window.endRaising()');
+      await inPage(() => window.endRaising());
       const told = await page.statusIs(/^filled: worst/);
-      return { row, told, seeds: await browser.value('window.seeds.join()') };
+      return { row, told, seeds: await inPage(() => window.seeds.join()) };
     };
     const made = await raising('Control+g');
     expect(made.row === 'TAR', `the other fill is ${made.row}`);
     expect(/^filled: worst 90, .*it is the fill from before, since no better one was found$/i.test(made.told), made.told);
     await page.factsAre(/filled/);
     expect((await page.row(1)) === 'COT', `the row is ${await page.row(1)}`);
-    await browser.until("document.querySelectorAll('#fills-list .fill').length > 1 && /worst 90/.test(document.querySelector('#fills-list .fill[aria-pressed=true]')?.textContent)");
+    await untilInPage(() => (document.querySelectorAll('#fills-list .fill').length > 1 && /worst 90/.test(document.querySelector('#fills-list .fill[aria-pressed=true]')?.textContent)));
     // the other one can be chosen, and is raised with other seeds each time
     await browser.click('#fills-list .fill[aria-pressed=false]');
-    await browser.until("[...document.querySelectorAll('.cell .letter')].map(({ textContent }) => textContent).join('') !== 'COT'");
+    await untilInPage(() => [...document.querySelectorAll('.cell .letter')].map(({ textContent }) => textContent).join('') !== 'COT');
     const [one, two] = [await raising('Control+f'), await raising('Control+f')];
     expect(one.row !== 'COT' && two.row === one.row, `the fills are ${one.row}, ${two.row}`);
     expect(one.seeds !== two.seeds, `both have the seeds ${one.seeds}`);
-    await browser.value('window.setTimeout = window.inTime, 0');
+    await inPage(() => (window.setTimeout = window.inTime, 0));
     await reload();
     await menu('built-in');
     await page.factsAre(/built-in list/);
@@ -219,7 +218,7 @@ export const CASES = {
     await beginBlank(3, 1);
     await raiseToTheEnd();
     // the one worker is answered for
-    await browser.value(`(() => {
+    await inPage(() => {
       Object.defineProperty(navigator, 'hardwareConcurrency', { value: 2, configurable: true });
       window.asked = [];
       const post = Worker.prototype.postMessage;
@@ -229,9 +228,9 @@ export const CASES = {
         if (message.call !== 'best') return post.call(this, message, transfer);
         window.raiser = this;
         window.answer = (value) => this.dispatchEvent(new MessageEvent('message', { data: { id: message.id, value } }));
-        window.asked.push([message.sent.least, message.sent.limits]);
+        window.asked.push([message.sent.least, message.sent.given.join(' ')]);
       };
-    })()`);
+    });
     await browser.press('Control+f');
     const answered = async (count, value) => {
       await browser.until(`window.asked.length === ${count}`);
@@ -242,12 +241,12 @@ export const CASES = {
     await answered(1, { answer: 'limit', bound: 97 });
     await answered(2, { answer: 'filled', grade: 80, sum: 80, bound: 101, letters: ['set 1 1 T', 'set 1 2 A', 'set 1 3 R'] });
     await answered(3, { answer: 'filled', grade: 80, sum: 90, bound: 90, letters: ['set 1 1 A', 'set 1 2 T', 'set 1 3 E'] });
-    await browser.until(`window.asked.length === 4`);
+    await untilInPage(() => window.asked.length === 4);
     expect((await page.row(1)) === 'ATE', `the grid is ${await page.rows()}`);
     await answered(4, { answer: 'filled', grade: 80, sum: 80, bound: 81, letters: ['set 1 1 T', 'set 1 2 A', 'set 1 3 R'] });
     // no other word can be better, so it ends
     await page.statusIs(/^filled: worst \d+, mean \d+; no fill is better/);
-    const asked = await browser.value('window.asked.slice(0, 4)');
+    const asked = await inPage(() => window.asked.slice(0, 4));
     const [[grade, limits]] = asked;
     const wanted = [[grade, limits], [grade, limits], [80, limits], [80, limits]];
     expect(JSON.stringify(asked) === JSON.stringify(wanted), `asked for ${JSON.stringify(asked)}, and not ${JSON.stringify(wanted)}`);
@@ -277,9 +276,9 @@ export const CASES = {
     expect(Number(/worst (\d+)/.exec(again)[1]) >= Number(worst), `it is worse: ${again}`);
     await another();
     await page.statusIs(/^filled: worst \d+/);
-    await browser.until("document.querySelectorAll('#fills-list .fill').length >= 2 && [...document.querySelectorAll('#fills-list small')].every(({ textContent }) => /worst \\d+, mean \\d+/.test(textContent))");
+    await untilInPage(() => document.querySelectorAll('#fills-list .fill').length >= 2 && [...document.querySelectorAll('#fills-list small')].every(({ textContent }) => /worst \d+, mean \d+/.test(textContent)));
     // those with the best worst words come first
-    const figures = (await browser.value("[...document.querySelectorAll('#fills-list small')].map(({ textContent }) => textContent)")).map((text) => /worst (\d+), mean (\d+)/.exec(text).slice(1).map(Number));
+    const figures = (await the('#fills-list small').texts()).map((text) => /worst (\d+), mean (\d+)/.exec(text).slice(1).map(Number));
     expect(JSON.stringify(figures) === JSON.stringify([...figures].sort((a, b) => b[0] - a[0] || b[1] - a[1])), `the fills come as ${figures.join(' ')}`);
     await picture('raised-fills');
     return told;
@@ -295,9 +294,9 @@ export const CASES = {
     const rows = await page.rows();
     expect(rows.every((row) => !row.includes('.')), `the grid is ${rows}`);
     await page.statusIs(/^filled; its worst word is raised … Esc ends this$/);
-    await browser.until('document.getElementById("figures-text").textContent.startsWith("worst ")');
-    const worst = Number(/worst (\d+)/.exec(await browser.value('document.getElementById("figures-text").textContent'))[1]);
-    await browser.value('window.release()');
+    await untilInPage(() => document.getElementById("figures-text").textContent.startsWith("worst "));
+    const worst = Number(/worst (\d+)/.exec(await inPage(() => document.getElementById("figures-text").textContent))[1]);
+    await release();
     // the raising goes on from it
     const told = await page.statusIs(/^filled: worst \d+/);
     expect(Number(/worst (\d+)/.exec(told)[1]) >= worst, `it was ${worst} at first: ${told}`);
@@ -312,23 +311,23 @@ export const CASES = {
       await holdRaising();
       await browser.press('Control+f');
       await isHeld();
-      await browser.until("!document.getElementById('stop').hidden && !document.getElementById('fill').disabled");
+      await untilInPage(() => !document.getElementById('stop').hidden && !document.getElementById('fill').disabled);
       return page.rows();
     };
-    const isEnded = () => browser.until("document.getElementById('stop').hidden");
+    const isEnded = () => the('#stop').isHidden();
     // by Esc, after which the first fill stays
     let rows = await startRaising();
     await browser.press('Escape');
     await page.statusIs(/^stopped: worst \d+/);
     await isEnded();
-    await browser.value('window.release()');
+    await release();
     expect((await page.rows()).join() === rows.join(), 'the fill is lost');
     // by a letter
     rows = await startRaising();
     await browser.click('#cell-1-1');
     await browser.type(rows[0][0] === 'Q' ? 'z' : 'q');
     await isEnded();
-    await browser.value('window.release()');
+    await release();
     await page.factsAre(/filled/);
     expect((await page.rows()).slice(1).join() === rows.slice(1).join() && !(await page.has('1-1', 'pencil')), 'another letter has changed');
     // by undo, in one step
@@ -336,22 +335,22 @@ export const CASES = {
     await browser.press('Control+z');
     await page.factsAre(/· 0 of/);
     await isEnded();
-    await browser.value('window.release()');
+    await release();
     // by the button, by another least score, and by another list
     await startRaising();
     await browser.click('#stop');
     await page.statusIs(/^stopped: worst \d+/);
-    await browser.value('window.release()');
+    await release();
     await startRaising();
     await slideLeast(20);
     await page.factsAre(/of 63,\d+ words/);
     await isEnded();
-    await browser.value('window.release()');
+    await release();
     await slideLeast(0);
     await page.factsAre(/graded.txt, 63,\d+ words/);
     // by a reload, after which the first fill is there
     rows = await startRaising();
-    await browser.until(`window.drafts().split('set ').length > 150`);
+    await untilInPage(() => window.drafts().split('set ').length > 150);
     await reload();
     expect((await page.rows()).join() === rows.join(), 'the fill is lost');
     await page.factsAre(/graded.txt/);
@@ -380,12 +379,12 @@ export const CASES = {
     await page.statusIs(/^filled; its worst word is raised until no fill is better, or Esc stops it$/);
     await isOn(true);
     // a line in the tab says how far it is, and messages stay free
-    await browser.value('window.release()');
-    await browser.until("/^worst \\d+, mean \\d+; .*looking for \\d+ or more.*; \\d+ s$/.test(document.getElementById('improve-told').textContent)");
+    await release();
+    await the('#improve-told').says(/^worst \d+, mean \d+; .*looking for \d+ or more.*; \d+ s$/);
     await picture('improving');
     // a clue is kept meanwhile
     await browser.press('F3');
-    await browser.until("document.activeElement.matches('#clue-list textarea')");
+    await untilInPage(() => document.activeElement.matches('#clue-list textarea'));
     await browser.insert('Kept');
     await isDrafted(/text clue 1 1 across Kept/);
     await isOn(true);
@@ -407,11 +406,11 @@ export const CASES = {
     await browser.click('#improve');
     await page.statusIs(/^stopped: worst \d+/);
     await isOn(false);
-    await browser.value('window.release()');
+    await release();
     await reload();
     await menu('built-in');
     await page.factsAre(/built-in list/);
-    await browser.until("document.getElementById('improve-row').hidden");
+    await the('#improve-row').isHidden();
   },
 
   async 'a fill that is improved until none is under a score'() {
@@ -419,7 +418,7 @@ export const CASES = {
     await openList(join(room, 'squares.txt'));
     await page.factsAre(/squares.txt, 8 words/);
     await beginBlank(2, 2);
-    const aim = (score) => browser.value(`document.getElementById('target').value = '${score}', document.getElementById('target').dispatchEvent(new Event('change'))`);
+    const aim = (score) => the('#target').choose(`${score}`);
     await aim(61);
     await browser.click('#improve');
     // the other fill has the worst word BD, of 60
@@ -427,13 +426,13 @@ export const CASES = {
     expect(['EF,GH', 'EG,FH'].includes((await page.rows()).join()), `the grid is ${await page.rows()}`);
     // it is kept, and one that cannot be met ends where no fill is better
     await reload();
-    await browser.until("document.getElementById('target').value === '61'");
+    await the('#target').holds('61');
     await aim(70);
     await browser.click('#improve');
     await page.statusIs(/^filled: worst 65, mean 80; no fill is better/);
     // one that is lowered ends what is under way
     await openGraded();
-    await browser.until("document.getElementById('target').value === ''");
+    await the('#target').holds('');
     await begin(1);
     await aim(100);
     await hold('best');
@@ -442,7 +441,7 @@ export const CASES = {
     await page.statusIs(/^filled; its worst word is raised until none is under 100, or Esc stops it$/);
     await aim(0);
     await page.statusIs(/^none is under 0: worst \d+/);
-    await browser.value('window.release()');
+    await release();
     await reload();
     await menu('built-in');
     await page.factsAre(/built-in list/);
@@ -455,27 +454,27 @@ export const CASES = {
     // CAT crosses TOE, whose other letters are locked
     await openRecord('size 3 3\nblock 2 1\nblock 2 2\nblock 3 1\nblock 3 2\nset 1 1 C\nset 1 2 A\nset 1 3 T\nset 2 3 O\nset 3 3 E\n');
     await browser.click('#weakest summary');
-    const rows = () => browser.value("[...document.querySelectorAll('#weakest-list li')].map((row) => [...row.children].map((part) => [...(part.children.length ? part.children : [part])].map(({ textContent }) => textContent).join(' ')).join('|'))");
+    const rows = () => inPage(() => [...document.querySelectorAll('#weakest-list li')].map((row) => [...row.children].map((part) => [...(part.children.length ? part.children : [part])].map(({ textContent }) => textContent).join(' ')).join('|')));
     const areRows = (...wanted) => browser.until(`[...document.querySelectorAll('#weakest-list .word')].map((word) => word.textContent).join() === '${wanted.join()}'`);
     await areRows('CAT401 Across', 'TOE752 Down');
     expect((await rows()).join() === 'CAT 40 1 Across|locked|Mend,TOE 75 2 Down|locked|Mend', `the rows are ${await rows()}`);
     expect((await page.count('#weakest-list [data-mend]:disabled')) === 2, 'a locked word can be mended');
     await browser.click('#cell-1-1');
     await browser.press('+');
-    await browser.until("document.querySelectorAll('#weakest-list [data-mend]:not(:disabled)').length === 2");
+    await the('#weakest-list [data-mend]:not(:disabled)').are(2);
     expect((await rows()).join() === 'CAT 40 1 Across||Mend,TOE 75 2 Down|2 locked letters|Mend', `the rows are ${await rows()}`);
     await browser.click('#weakest-list li:nth-child(2) .word');
-    await browser.until("document.getElementById('light-letters').textContent === 'TOE'");
+    await the('#light-letters').says('TOE');
     // the offer is shown, and changes nothing
     await browser.click('#weakest-list li:first-child [data-mend]');
     await page.statusIs(/^better words are found around 1 Across/);
-    await browser.until("document.getElementById('mend-told').textContent === 'around 1 Across: worst 40, mean 58, 1 under 50 now; worst 60, mean 68 with 1 other word'");
+    await the('#mend-told').says('around 1 Across: worst 40, mean 58, 1 under 50 now; worst 60, mean 68 with 1 other word');
     await picture('mended');
     expect((await page.rows()).join() === 'CAT,##O,##E', `the grid is ${await page.rows()}`);
     await browser.click('#mend-leave');
-    await browser.until("document.getElementById('mend-offer').hidden");
+    await the('#mend-offer').isHidden();
     await browser.click('#weakest-list li:first-child [data-mend]');
-    await browser.until("!document.getElementById('mend-offer').hidden");
+    await the('#mend-offer').isShown();
     await browser.click('#mend-use');
     await page.statusIs(/^mended around 1 Across/);
     expect((await page.rows()).join() === 'COT,##O,##E', `the grid is ${await page.rows()}`);
@@ -483,25 +482,25 @@ export const CASES = {
     // it is proved where nothing is better
     await browser.click('#weakest-list li:first-child [data-mend]');
     await page.statusIs(/^no fill around 1 Across is better, with the rest as it is$/);
-    await browser.until("document.querySelector('#weakest-list small').textContent === 'nothing better is around it: proved'");
+    await the('#weakest-list small').says('nothing better is around it: proved');
     // one step takes it back
     await browser.press('Control+z');
     await areRows('CAT401 Across', 'TOE752 Down');
     // both are for the grid as it was
-    await browser.until("document.querySelector('#weakest-list small').textContent === ''");
+    await the('#weakest-list small').says('');
     await browser.click('#weakest-list li:first-child [data-mend]');
-    await browser.until("!document.getElementById('mend-offer').hidden");
+    await the('#mend-offer').isShown();
     await browser.press('Control+z');
-    await browser.until("document.getElementById('mend-offer').hidden");
+    await the('#mend-offer').isHidden();
     await browser.click('#weakest summary');
     await menu('built-in');
     await page.factsAre(/built-in list/);
-    await browser.until("document.getElementById('weakest').hidden");
+    await the('#weakest').isHidden();
   },
 
   async 'workers that load a list ahead'() {
     writeFileSync(join(room, 'ahead.txt'), 'cat;10\ncot;90\ncut;50\near;60\n');
-    await browser.value(`(() => {
+    await inPage(() => {
       Object.defineProperty(navigator, 'hardwareConcurrency', { value: 4, configurable: true });
       window.opened = [];
       const post = Worker.prototype.postMessage;
@@ -509,17 +508,17 @@ export const CASES = {
         if (message.call === 'open') window.opened.push(this);
         post.call(this, message, transfer);
       };
-    })()`);
+    });
     await openList(join(room, 'ahead.txt'));
     await page.factsAre(/ahead.txt, 4 words/);
     // those of the session and of three helpers, each once
-    await browser.until('window.opened.length === 4 && new Set(window.opened).size === 4');
+    await untilInPage(() => window.opened.length === 4 && new Set(window.opened).size === 4);
     await beginBlank(3, 1);
     await raiseToTheEnd();
     await browser.press('Control+f');
     await page.statusIs(/^filled: worst 90/);
     await raiseInTime();
-    expect((await browser.value('window.opened.length')) === 4, 'a list is loaded again');
+    expect((await inPage(() => window.opened.length)) === 4, 'a list is loaded again');
     await reload();
     await menu('built-in');
     await page.factsAre(/built-in list/);
@@ -529,17 +528,17 @@ export const CASES = {
     await openGraded();
     await begin(1);
     await holdRaising();
-    await browser.value(`(() => {
+    await inPage(() => {
       Object.defineProperty(navigator, 'hardwareConcurrency', { value: 4, configurable: true });
       window.raisers = new Map();
       const post = Worker.prototype.postMessage;
       Worker.prototype.postMessage = function (message, transfer) {
-        if (message.call === 'best') window.raisers.set(this, message.sent.limits.split(' ')[1]);
+        if (message.call === 'best') window.raisers.set(this, message.sent.given[1]);
         post.call(this, message, transfer);
       };
-    })()`);
+    });
     await browser.press('Control+f');
-    await browser.until('window.raisers.size === 3 && new Set(window.raisers.values()).size === 3');
+    await untilInPage(() => window.raisers.size === 3 && new Set(window.raisers.values()).size === 3);
     await browser.press('Escape');
     await page.statusIs(/^stopped: worst \d+/);
     await reload();
@@ -554,7 +553,7 @@ export const CASES = {
     await beginBlank(3, 1);
     await raiseToTheEnd();
     // two workers are answered for, and the edit that the first answer leads to is held back
-    await browser.value(`(() => {
+    await inPage(() => {
       Object.defineProperty(navigator, 'hardwareConcurrency', { value: 3, configurable: true });
       window.asked = [];
       window.isTold = false;
@@ -564,18 +563,18 @@ export const CASES = {
         else if (message.call === 'edit' && window.isTold && !window.heldEdit) window.heldEdit = () => post.call(this, message, transfer);
         else post.call(this, message, transfer);
       };
-    })()`);
+    });
     await browser.press('Control+f');
-    await browser.until('window.asked.length === 2');
-    await browser.value(`(() => {
+    await untilInPage(() => window.asked.length === 2);
+    await inPage(() => {
       window.isTold = true;
       const [one, other] = window.asked.splice(0);
       const letters = (word) => [...word].map((letter, at) => 'set 1 ' + (at + 1) + ' ' + letter);
       one({ answer: 'filled', grade: 91, bound: 101, letters: letters('TAR') });
       other({ answer: 'filled', grade: 92, bound: 93, letters: letters('TOE') });
-    })()`);
-    await browser.until('window.heldEdit');
-    await browser.value('window.heldEdit()');
+    });
+    await untilInPage(() => window.heldEdit);
+    await inPage(() => window.heldEdit());
     // the better one is in the grid, and its words are told
     await page.statusIs(/^filled: worst 70, mean 70; no fill is better than 92$/);
     expect((await page.row(1)) === 'TOE', `the row is ${await page.row(1)}`);
@@ -594,44 +593,44 @@ export const CASES = {
     const listed = (words) => browser.until(`[...document.querySelectorAll('#candidates li')].map((row) => row.dataset.word).join() === '${words}'`);
     await listed('COT,TAR,TOE,EAR,ATE,CUT,TEA,ARE,OAR,CAT');
     // no list is opened anew, and each place of the slider is shown
-    await browser.value(`(() => {
+    await inPage(() => {
       window.opened = 0;
       const post = Worker.prototype.postMessage;
       Worker.prototype.postMessage = function (message, transfer) {
         if (message.call === 'open') window.opened++;
         post.call(this, message, transfer);
       };
-    })()`);
+    });
     await slideLeast(60, ['input']);
-    await browser.until("document.getElementById('least-left').textContent === '4 of 10 words' && document.getElementById('least-shown').textContent === '60'");
+    await untilInPage(() => document.getElementById('least-left').textContent === '4 of 10 words' && document.getElementById('least-shown').textContent === '60');
     await listed('COT,TAR,TOE,EAR');
     await slideLeast(85, ['input']);
     await listed('COT');
     await slideLeast(50, ['input', 'change']);
     await page.statusIs(/^6 of 10 words have 50 or more$/);
     await listed('COT,TAR,TOE,EAR,ATE,CUT');
-    expect((await browser.value('window.opened')) === 0, 'the list is opened anew');
+    expect((await inPage(() => window.opened)) === 0, 'the list is opened anew');
     await picture('least');
     // a word below it is called that, in the grid and in the tab of the puzzle
     await browser.click('#cell-1-1');
     await browser.type('cat');
-    await browser.until("/^CAT \\(10\\) is below your least score, 50/.test(document.getElementById('standing').textContent)");
+    await the('#standing').says(/^CAT \(10\) is below your least score, 50/);
     await browser.press('Control+j');
     await page.statusIs(/CAT \(10\) is below your least score, 50: 1 Across/);
     await browser.click('#tab-puzzle');
-    await browser.until("/CAT \\(10\\) is below your least score, 50: 1 Across/.test(document.getElementById('checks').textContent)");
+    await the('#checks').says(/CAT \(10\) is below your least score, 50: 1 Across/);
     await browser.click('#tab-words');
     await browser.click('#standing button:nth-of-type(1)');
     await page.statusIs(/CAT is added/);
-    await browser.until("document.getElementById('standing').hidden");
+    await the('#standing').isHidden();
     // undo leads to where it was, with the grade of the list
     await browser.click('#cell-1-1');
     await browser.press('Control+z');
-    await browser.until("/^CAT \\(10\\) is below/.test(document.getElementById('standing').textContent)");
+    await the('#standing').says(/^CAT \(10\) is below/);
     await slideLeast(10);
-    await browser.until("document.getElementById('standing').hidden");
+    await the('#standing').isHidden();
     await slideLeast(11);
-    await browser.until("/^CAT \\(10\\) is below your least score, 11/.test(document.getElementById('standing').textContent)");
+    await the('#standing').says(/^CAT \(10\) is below your least score, 11/);
     // hidden words are called that
     await browser.press('Control+z');
     await browser.press('Control+z');
@@ -652,23 +651,23 @@ export const CASES = {
     await page.statusIs(/COT is hidden/);
     await browser.click('#cell-1-1');
     await browser.type('cot');
-    await browser.until("/^COT is hidden in this puzzle/.test(document.getElementById('standing').textContent)");
+    await the('#standing').says(/^COT is hidden in this puzzle/);
     // it stays over a reload, and the puzzle has none of it
     await isDrafted(/strike COT[^]*set 1 3 T/);
-    expect(!(await browser.value('/least/.test(window.drafts())')), 'the puzzle has the least score');
+    expect(!(await inPage(() => /least/.test(window.drafts()))), 'the puzzle has the least score');
     await reload();
     await page.factsAre(/scored.txt, 9 of 10 words/);
-    expect((await browser.value("document.getElementById('least').value")) === '11', 'the least score is lost');
+    expect((await the('#least').value()) === '11', 'the least score is lost');
     // a search is not disturbed
     await beginBlank(3, 3);
     await holdFill();
     await browser.press('Control+f');
-    await browser.until("!document.getElementById('stop').hidden && window.heldFill");
+    await untilInPage(() => !document.getElementById('stop').hidden && window.heldFill);
     await slideLeast(70);
     await page.statusIs(/a fill is running/);
-    expect((await browser.value("document.getElementById('least').value")) === '11', 'the slider does not go back');
+    expect((await the('#least').value()) === '11', 'the slider does not go back');
     await browser.press('Escape');
-    await browser.value('window.heldFill()');
+    await releaseFill();
     await page.statusIs(/^stopped/);
     await menu('built-in');
     await page.factsAre(/built-in list/);
@@ -681,9 +680,9 @@ export const CASES = {
     await beginBlank(3, 1);
     await slideLeast(50);
     await page.statusIs(/^2 of 4 words have 125 or more$/);
-    await browser.until("[...document.querySelectorAll('#candidates li')].map((row) => `${row.dataset.word} ${row.querySelector('.score').textContent}`).join() === 'CAT 250,COT 125'");
+    await untilInPage(() => [...document.querySelectorAll('#candidates li')].map((row) => `${row.dataset.word} ${row.querySelector('.score').textContent}`).join() === 'CAT 250,COT 125');
     await browser.type('cut');
-    await browser.until("/^CUT \\(124\\) is below your least score, 125/.test(document.getElementById('standing').textContent)");
+    await the('#standing').says(/^CUT \(124\) is below your least score, 125/);
     await menu('built-in');
     await page.factsAre(/built-in list/);
   },
@@ -694,12 +693,12 @@ export const CASES = {
     await browser.press('Control+f');
     await page.statusIs(/^filled/);
     await browser.press('Escape');
-    await browser.value("document.getElementById('weak').value = 101, document.getElementById('weak').dispatchEvent(new Event('change'))");
-    await browser.until("document.querySelectorAll('.cell.weak-across').length > 150 && document.querySelector('.cell.worst')");
+    await the('#weak').choose(101);
+    await untilInPage(() => document.querySelectorAll('.cell.weak-across').length > 150 && document.querySelector('.cell.worst'));
     const graded = new Map(scoredList().map((line) => line.toUpperCase().split(';')).map(([word, score]) => [word, Number(score)]));
     const scores = wordsOf(await page.rows()).map((word) => graded.get(word)).sort((a, b) => a - b);
     // cells of words that are worse than the eleventh are tinted, and no cell is of which both words are better than the tenth
-    const cells = await browser.value("[...document.querySelectorAll('.cell:not(.block)')].map((cell) => [cell.ariaLabel.match(/\\d+ (?:Across|Down)/g), cell.classList.contains('worst'), Number(cell.dataset.index)])");
+    const cells = await inPage(() => [...document.querySelectorAll('.cell:not(.block)')].map((cell) => [cell.ariaLabel.match(/\d+ (?:Across|Down)/g), cell.classList.contains('worst'), Number(cell.dataset.index)]));
     const lettersOfCell = new Map();
     for (const [names, , index] of cells) for (const name of names) lettersOfCell.set(name, [...(lettersOfCell.get(name) ?? []), index]);
     const rows = (await page.rows()).join('');
@@ -713,7 +712,7 @@ export const CASES = {
     const thick = (selector) => browser.value(`getComputedStyle(document.querySelector('${selector}')).backgroundSize`);
     expect((await thick('.cell.worst.weak-across')) !== (await thick('.cell.weak-across:not(.worst)')), 'all dashes are alike');
     await browser.press('Control+z');
-    await browser.until("!document.querySelector('.cell.worst')");
+    await the('.cell.worst').isGone();
     await menu('built-in');
     await page.factsAre(/built-in list/);
   },

@@ -3,7 +3,7 @@ import { writeFileSync } from 'node:fs';
 import { join } from 'node:path';
 import { begin, intoDeadEnd, menu, openGraded, openList } from '../doing.mjs';
 import { changeEdit } from '../holding.mjs';
-import { PAGE, browser, expect, page, picture, pictures, reload, room, runAlone } from '../page.mjs';
+import { PAGE, browser, expect, inPage, page, picture, pictures, reload, room, runAlone, the, untilInPage } from '../page.mjs';
 
 export const CASES = {
   async 'a browser that cannot run the page'() {
@@ -16,7 +16,7 @@ export const CASES = {
       await unload();
     }
     await reload();
-    expect(await browser.value("document.getElementById('cannot').hidden"), 'a browser that can run the page is refused');
+    expect(await the('#cannot').get('hidden'), 'a browser that can run the page is refused');
   },
 
   async 'messages, and those before them'() {
@@ -24,19 +24,19 @@ export const CASES = {
     await browser.press('5');
     await page.statusIs(/“5” does nothing here/);
     await browser.press('Control+z');
-    await browser.until("!document.getElementById('redo').disabled");
+    await the('#redo').isEnabled();
     await browser.press('Control+y');
-    await browser.until("document.getElementById('redo').disabled");
+    await the('#redo').isDisabled();
     await browser.click('#messages');
-    await browser.until("!document.getElementById('history').hidden && /“5” does nothing here/.test(document.getElementById('history').textContent) && /a new puzzle/.test(document.getElementById('history').textContent)");
+    await untilInPage(() => !document.getElementById('history').hidden && /“5” does nothing here/.test(document.getElementById('history').textContent) && /a new puzzle/.test(document.getElementById('history').textContent));
     await picture('messages');
     await browser.click('#messages');
-    await browser.until("document.getElementById('history').hidden");
+    await the('#history').isHidden();
     await browser.click('#cell-2-2');
     await browser.press('5');
     await page.statusIs(/“5” does nothing here/);
     await browser.click('#toast-close');
-    await browser.until("!document.getElementById('status').textContent && document.activeElement.id === 'grid'");
+    await untilInPage(() => !document.getElementById('status').textContent && document.activeElement.id === 'grid');
   },
 
   async 'a failure of the engine'() {
@@ -50,7 +50,7 @@ export const CASES = {
     expect((await page.row(1)).startsWith('ROT.'), `the grid is lost: ${await page.row(1)}`);
     await browser.click('#cell-2-1');
     await browser.type('a');
-    await browser.until("document.querySelector('#cell-2-1 .letter').textContent === 'A'");
+    await the('#cell-2-1 .letter').says('A');
     await page.factsAre(/· 4 of/);
   },
 
@@ -59,36 +59,36 @@ export const CASES = {
     await browser.view(390, 844, { isTouched: true });
     try {
       await browser.tap('#cell-1-1');
-      await browser.until("document.activeElement.id === 'typing'");
+      await the('#typing').hasFocus();
       await browser.insert('ro');
       await page.cursorAt('1-3');
-      await browser.until("document.querySelector('#cell-1-2 .letter').textContent === 'O'");
+      await the('#cell-1-2 .letter').says('O');
       await browser.erase();
       await page.cursorAt('1-2');
-      await browser.until("document.querySelector('#cell-1-2 .letter').textContent === ''");
+      await the('#cell-1-2 .letter').says('');
       await browser.insert('A');
       await browser.tap('#cell-1-1');
-      await browser.until("document.querySelector('#cell-1-1.cursor.across')");
+      await the('#cell-1-1.cursor.across').isThere();
       await browser.tap('#cell-1-1');
-      await browser.until("document.querySelector('#cell-1-1.cursor.down')");
+      await the('#cell-1-1.cursor.down').isThere();
       await browser.insert('re');
       await page.cursorAt('3-1');
-      await browser.until("['1-1', '1-2', '2-1'].map((cell) => document.querySelector(`#cell-${cell} .letter`).textContent).join('') === 'RAE'");
+      await untilInPage(() => ['1-1', '1-2', '2-1'].map((cell) => document.querySelector(`#cell-${cell} .letter`).textContent).join('') === 'RAE');
       await picture('touch');
       // a word that leaves some stays where it is
-      const word = await browser.until("[...document.querySelectorAll('#candidates[aria-busy=false] li')].find((row) => Number(row.querySelector('.left').textContent) > 0)?.dataset.word");
+      const word = await untilInPage(() => [...document.querySelectorAll('#candidates[aria-busy=false] li')].find((row) => Number(row.querySelector('.left').textContent) > 0)?.dataset.word);
       await browser.tap(`#candidates [data-word=${word}]`);
-      await browser.until(`document.querySelector('#cell-4-1 .letter').textContent === '${word[3]}'`);
-      await browser.until("document.activeElement.id === 'grid'");
+      await the('#cell-4-1 .letter').says(word[3]);
+      await the('#grid').hasFocus();
       // what is too large for the screen pans, to the cursor too
-      await browser.value("document.querySelector('[data-do=new]').click(), document.querySelector('#patterns .pattern:nth-child(7)').click()");
+      await inPage(() => (document.querySelector('[data-do=new]').click(), document.querySelector('#patterns .pattern:nth-child(7)').click()));
       await page.factsAre(/^21 × 21/);
-      expect((await browser.value("document.getElementById('cell-1-1').offsetWidth")) >= 22, 'a cell is too small');
+      expect((await the('#cell-1-1').get('offsetWidth')) >= 22, 'a cell is too small');
       await browser.tap('#cell-1-2');
       await browser.press('End');
       await browser.press('Tab');
       await browser.press('Tab');
-      await browser.until("(({ right }) => right <= innerWidth)(document.querySelector('.cursor').getBoundingClientRect())");
+      await untilInPage(() => (({ right }) => right <= innerWidth)(document.querySelector('.cursor').getBoundingClientRect()));
       await picture('touch-21');
     } finally {
       await browser.view(1400, 900);
@@ -104,8 +104,8 @@ export const CASES = {
         await browser.press('?');
         await page.statusIs(/no word, by/);
         // the longest one, of a raising
-        if (isRaising) await browser.value("document.getElementById('status').textContent = 'worst 62, mean 81; no fill is better than 84; all but 14 Down, 23 Across and 31 Across have 61 or more; looking for 63 or more of these; 12 s'");
-        const covered = await browser.until(`(() => {
+        if (isRaising) await inPage(() => (document.getElementById('status').textContent = 'worst 62, mean 81; no fill is better than 84; all but 14 Down, 23 Across and 31 Across have 61 or more; looking for 63 or more of these; 12 s'));
+        const covered = await untilInPage(() => {
           const boxOf = (element) => element.getBoundingClientRect();
           const toast = boxOf(document.getElementById('toast'));
           if (!toast.width) return null;
@@ -117,7 +117,7 @@ export const CASES = {
           };
           const others = ['facts', 'candidates', 'letters', 'crossing-candidates', 'grid'].filter((id) => isOver(document.getElementById(id)));
           return { others, isIn: toast.left >= 0 && toast.right <= innerWidth && toast.bottom <= innerHeight && toast.width > 200 };
-        })()`);
+        });
         expect(covered.isIn && !covered.others.length, `${width}: the message covers ${covered.others}, or is out of sight`);
         await picture(`toast-${width}${isRaising ? '-raising' : ''}`);
       }
@@ -132,7 +132,7 @@ export const CASES = {
     await browser.type('qmw');
     await page.cursorAt('1-4');
     // what is inked of a text: from the font's box, whose baseline is known, and the box of the letters
-    const gaps = await browser.until(`(() => {
+    const gaps = await untilInPage(() => {
       const canvas = new OffscreenCanvas(1, 1).getContext('2d');
       const inkOf = (span) => {
         const range = document.createRange();
@@ -158,7 +158,7 @@ export const CASES = {
       grid.style.setProperty('--cell', before[0]);
       grid.className = before[1];
       return found;
-    })()`);
+    });
     const faults = gaps.filter(([, letter, above, below]) => !letter || above < 1 || below < (letter === 'Q' ? -0.5 : 1));
     expect(gaps.length === 27 && !faults.length, `too close: ${faults.map(([size, letter, ...room]) => `${letter} at ${size}: ${room.map((one) => one.toFixed(1))}`).join('; ')}`);
   },
@@ -169,21 +169,21 @@ export const CASES = {
       await begin(6);
       await browser.click('#more');
       await browser.click('[data-tool=colour]');
-      const outside = await browser.value(`[...document.querySelectorAll('#mode button')].map((button) => button.getBoundingClientRect())
-        .filter(({ width, left, right, bottom }) => !width || left < 0 || right > innerWidth || bottom > innerHeight / 3).length`);
+      const outside = await inPage(() => [...document.querySelectorAll('#mode button')].map((button) => button.getBoundingClientRect())
+        .filter(({ width, left, right, bottom }) => !width || left < 0 || right > innerWidth || bottom > innerHeight / 3).length);
       expect(outside === 0, `${outside} buttons of the mode are out of sight`);
       await picture('mode-phone');
       await browser.click('#mode [data-do=end-mode]');
       await browser.click('#more');
       await browser.click('#tools [data-do=help]');
-      await browser.until("document.getElementById('help-dialog').open");
-      const top = await browser.value("document.getElementById('help-title').getBoundingClientRect().top");
+      await the('#help-dialog').isOpen();
+      const top = await inPage(() => document.getElementById('help-title').getBoundingClientRect().top);
       expect(top > 0, `the help begins ${-top} above its first line`);
-      const columns = await browser.value("[...new Set([...document.querySelectorAll('#help-dialog td')].map((cell) => Math.round(cell.getBoundingClientRect().left)))]");
+      const columns = await inPage(() => [...new Set([...document.querySelectorAll('#help-dialog td')].map((cell) => Math.round(cell.getBoundingClientRect().left)))]);
       expect(columns.length === 1, `what keys do begins at ${columns}`);
       await browser.press('Escape');
       await menu('new');
-      const width = await browser.value("(([one, two], dialog) => (two.right - one.left) / dialog)([...document.querySelectorAll('#patterns .pattern')].map((pattern) => pattern.getBoundingClientRect()), document.getElementById('patterns').closest('dialog').clientWidth)");
+      const width = await inPage(() => (([one, two], dialog) => (two.right - one.left) / dialog)([...document.querySelectorAll('#patterns .pattern')].map((pattern) => pattern.getBoundingClientRect()), document.getElementById('patterns').closest('dialog').clientWidth));
       expect(width > 0.85, `two new puzzles take ${width} of the dialog`);
       await browser.press('Escape');
     } finally {
@@ -201,8 +201,8 @@ export const CASES = {
         await browser.click('#tab-words');
         expect((await top('weak')) === (await top('threes')), `${width}: the fields of scores are in two lines`);
         await browser.click('#tab-puzzle');
-        await browser.until("document.querySelectorAll('#frequency span').length === 26");
-        const lines = await browser.value("new Set([...document.querySelectorAll('#frequency span')].map(({ offsetTop }) => offsetTop)).size");
+        await the('#frequency span').are(26);
+        const lines = await inPage(() => new Set([...document.querySelectorAll('#frequency span')].map(({ offsetTop }) => offsetTop)).size);
         expect(lines === 1, `${width}: the letters are in ${lines} lines`);
         await picture(`letters-${width}`);
       }
@@ -221,11 +221,11 @@ export const CASES = {
     const isOpen = (open) => browser.until(`document.getElementById('least-row').open === ${open} && (document.getElementById('least').checkVisibility() === ${open})`);
     await browser.click('#tab-words');
     await isOpen(true);
-    expect(!(await browser.value("document.getElementById('least-told').checkVisibility()")), 'it can be folded in a wide window');
+    expect(!(await inPage(() => document.getElementById('least-told').checkVisibility())), 'it can be folded in a wide window');
     try {
       await browser.view(390, 844);
       await isOpen(false);
-      await browser.until("document.getElementById('least-told').textContent === 'All scores, marks below 50'");
+      await the('#least-told').says('All scores, marks below 50');
       await browser.click('#least-told');
       await isOpen(true);
       await picture('scores-on-a-phone');
@@ -245,12 +245,12 @@ export const CASES = {
         const places = (isRunning) => browser.value(`(document.getElementById('stop').hidden = ${!isRunning},
           ['file', 'undo', 'fill'].map((id) => document.getElementById(id).getBoundingClientRect()).map(({ x, y, width }) => [x, y, width].map(Math.round)).join(' '))`);
         const [one, other] = [await places(false), await places(true)];
-        const isShown = await browser.value("(({ x, right, width }) => width > 0 && x >= 0 && right <= innerWidth)(document.getElementById('stop').getBoundingClientRect())");
+        const isShown = await inPage(() => (({ x, right, width }) => width > 0 && x >= 0 && right <= innerWidth)(document.getElementById('stop').getBoundingClientRect()));
         await places(false);
         expect(one === other, `${width}: the tools move from ${one} to ${other}`);
         expect(isShown, `${width}: the button is out of sight`);
-        expect(await browser.value("document.querySelector('.tools').offsetHeight < 80"), `${width}: the tools have a second row`);
-        expect(await browser.value('document.documentElement.scrollWidth <= innerWidth'), `${width}: the page is ${await browser.value('document.documentElement.scrollWidth')} wide`);
+        expect(await inPage(() => document.querySelector('.tools').offsetHeight < 80), `${width}: the tools have a second row`);
+        expect(await inPage(() => document.documentElement.scrollWidth <= innerWidth), `${width}: the page is ${await inPage(() => document.documentElement.scrollWidth)} wide`);
         await picture(`tools-${width}`);
       }
     } finally {
@@ -261,8 +261,8 @@ export const CASES = {
   async 'colours that the system forces'() {
     await begin(1);
     await browser.type('to');
-    await browser.until("document.querySelector('.block') && document.querySelector('#cell-1-1 .letter').textContent === 'T'");
-    await browser.value("document.querySelector('[data-tool=block]').click()");
+    await untilInPage(() => document.querySelector('.block') && document.querySelector('#cell-1-1 .letter').textContent === 'T');
+    await the('[data-tool=block]').press();
     await browser.forceColors('active');
     try {
       const lookOf = (selector) => browser.value(`(({ backgroundColor, boxShadow, color }) => ({ backgroundColor, boxShadow, color }))(getComputedStyle(document.querySelector(${JSON.stringify(selector)})))`);
@@ -274,13 +274,13 @@ export const CASES = {
         expect(one.backgroundColor !== two.backgroundColor && one.color !== one.backgroundColor, `${chosen} looks like ${other}: ${one.backgroundColor}`);
       }
       // the number of the warnings
-      const count = await browser.value("(({ backgroundColor, color, forcedColorAdjust }) => ({ backgroundColor, color, forcedColorAdjust }))(getComputedStyle(document.querySelector('.tabs .count')))");
+      const count = await inPage(() => (({ backgroundColor, color, forcedColorAdjust }) => ({ backgroundColor, color, forcedColorAdjust }))(getComputedStyle(document.querySelector('.tabs .count'))));
       expect(count.forcedColorAdjust === 'none' && count.color !== count.backgroundColor, `the number of the warnings is not seen: ${count.color} on ${count.backgroundColor}`);
       // a word of the list that is pointed at, and a dead cell
       await browser.press('Escape');
       await browser.click('#tab-words');
       await browser.press('/');
-      await browser.until("document.querySelector('#candidates[aria-busy=false] li')");
+      await the('#candidates[aria-busy=false] li').isThere();
       await browser.press('ArrowDown');
       const [one, two] = [await lookOf('#candidates li[aria-selected=true]'), await lookOf('#candidates li:not([aria-selected=true])')];
       expect(one.backgroundColor !== two.backgroundColor, 'the word that is pointed at is not seen');
@@ -345,17 +345,17 @@ export const CASES = {
       expect(marks.length >= 20 && texts.length >= 80 && !weak.length, `${scheme}: ${marks.length} marks; ${weak.map(([name, contrast]) => `${name} ${contrast.toFixed(2)}`).join(', ')}`);
       for (const tab of ['words', 'clues', 'puzzle']) {
         await browser.click(`#tab-${tab}`);
-        await browser.until("!document.querySelector('.late')");
+        await the('.late').isGone();
         const faults = await measure();
         expect(!faults.length, `${scheme}, ${tab}: ${faults.slice(0, 5).join('; ')}`);
       }
     }
     // the dialogs, light and dark
     const opened = async (name, action) => {
-      await browser.value(`document.querySelector('[data-do=${name}]').click()`);
-      await browser.until("document.querySelector('dialog[open]')");
+      await the(`[data-do=${name}]`).press();
+      await the('dialog[open]').isThere();
       await action(name);
-      await browser.value("document.querySelector('dialog[open]').close()");
+      await inPage(() => document.querySelector('dialog[open]').close());
     };
     const dialogs = ['new', 'themes', 'library', 'print', 'help'];
     for (const scheme of ['dark', 'light']) {
@@ -367,23 +367,23 @@ export const CASES = {
     }
     // what a finger has to hit, and what does not fit on the screen
     const small = async (where) => {
-      const found = await browser.value(`(() => {
+      const found = await inPage(() => {
         const targets = [...document.querySelectorAll('button, select, summary, textarea, #candidates li, label:has([type=checkbox], [type=radio]), input:not([type=range], [type=radio], [type=checkbox], #typing)')];
         const shown = targets.filter((one) => one.offsetWidth && getComputedStyle(one).visibility === 'visible' && (!document.querySelector('dialog[open]') || one.closest('dialog[open]')));
         const least = shown.map((one) => [one.id || one.className || one.textContent, one.offsetWidth, one.offsetHeight]).filter(([, width, height]) => width < 44 || height < 44);
         return [...least.map((one) => one.join(' ')), ...(document.documentElement.scrollWidth > innerWidth ? ['the page is ' + document.documentElement.scrollWidth + ' wide'] : [])];
-      })()`);
+      });
       expect(!found.length, `${where}: too small for a finger: ${found.slice(0, 6).join('; ')}`);
     };
     // a clue can be read where it is written, in one of two columns
     await browser.view(1280, 800);
     await browser.click('#tab-clues');
-    await browser.until("document.querySelector('#clue-list textarea').offsetWidth >= 240 && document.getElementById('grid').offsetHeight > 660");
+    await untilInPage(() => document.querySelector('#clue-list textarea').offsetWidth >= 240 && document.getElementById('grid').offsetHeight > 660);
     await browser.click('#tab-words');
     for (const [width, height] of [[390, 844], [820, 1180]]) {
       await browser.view(width, height, { isTouched: true });
       try {
-        await browser.until("parseFloat(getComputedStyle(document.querySelector('.cell .number')).fontSize) >= 12 && document.querySelector('.cell').offsetWidth >= 22");
+        await untilInPage(() => parseFloat(getComputedStyle(document.querySelector('.cell .number')).fontSize) >= 12 && document.querySelector('.cell').offsetWidth >= 22);
         // what is below a letter, or else at the foot of the cell, is in sight
         const isFaultShown = `(() => {
           const cell = document.querySelector('#grid .row:nth-child(2)').appendChild(Object.assign(document.createElement('div'), { className: 'cell faulty', innerHTML: '<span class="letter">A</span>' }));
@@ -395,12 +395,12 @@ export const CASES = {
         })()`;
         expect(await browser.value(isFaultShown), `${width}: the mark of a word that is not in the list is not shown`);
         for (const tab of ['puzzle', 'clues', 'words']) {
-          await browser.value(`document.getElementById('tab-${tab}').click()`);
+          await the(`#tab-${tab}`).press();
           await small(`${width}, ${tab}`);
         }
-        await browser.value("document.querySelector('[data-tool=block]').click()");
+        await the('[data-tool=block]').press();
         await small(`${width}, mode`);
-        await browser.value("document.querySelector('#mode [data-do=end-mode]').click()");
+        await the('#mode [data-do=end-mode]').press();
         for (const name of dialogs) await opened(name, () => small(`${width}, ${name}`));
       } finally {
         await browser.view(1400, 900);

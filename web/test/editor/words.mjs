@@ -5,35 +5,35 @@ import { Xw } from '../../dist/xw.js';
 import { PATTERNS, recordOf, rowsOf } from '../../editor/grids/patterns.js';
 import { begin, beginBlank, menu, openGraded, openList, openRecord, openWords, saved } from '../doing.mjs';
 import { isDrafted } from '../holding.mjs';
-import { LIST, PAGE, browser, expect, module, page, picture, ready, room, runAlone } from '../page.mjs';
+import { LIST, PAGE, browser, expect, inPage, module, page, picture, ready, room, runAlone, the, untilInPage } from '../page.mjs';
 
 export const CASES = {
   async 'candidates filtered and placed'() {
     await begin(1);
     await browser.press('/');
-    await browser.until("document.activeElement.id === 'filter' && document.querySelectorAll('#candidates[aria-busy=false] li').length > 100");
+    await untilInPage(() => (document.activeElement.id === 'filter' && document.querySelectorAll('#candidates[aria-busy=false] li').length > 100));
     await browser.type('?a*e');
-    await browser.until("[...document.querySelectorAll('#candidates li')].every((row) => /^.A/.test(row.dataset.word))");
-    await browser.until("document.querySelector('#candidates .left')");
+    await untilInPage(() => [...document.querySelectorAll('#candidates li')].every((row) => /^.A/.test(row.dataset.word)));
+    await the('#candidates .left').isThere();
     await picture('candidates');
     await browser.press('ArrowDown');
     await browser.press('ArrowDown');
-    const word = await browser.value("document.querySelector('#candidates [aria-selected=true]').dataset.word");
+    const word = await inPage(() => (document.querySelector('#candidates [aria-selected=true]').dataset.word));
     await browser.press('Enter');
-    await browser.until(`document.querySelector('#cell-1-4:not(.ghost)').textContent.includes('${word[3]}')`);
+    await the('#cell-1-4:not(.ghost)').has(word[3]);
     expect((await page.row(1)).startsWith(word), `${word} is not placed`);
-    await browser.until("document.activeElement.id === 'grid'");
+    await the('#grid').hasFocus();
     await browser.press('Tab');
-    await browser.until("document.querySelector('#light-name').textContent === '5 Across' && document.querySelector('#candidates[aria-busy=false] li:nth-child(3)')");
+    await untilInPage(() => (document.querySelector('#light-name').textContent === '5 Across' && document.querySelector('#candidates[aria-busy=false] li:nth-child(3)')));
     // a word that leaves some stays where it is
-    const other = await browser.until("[...document.querySelectorAll('#candidates li')].find((row) => Number(row.querySelector('.left').textContent) > 0)?.dataset.word");
+    const other = await untilInPage(() => [...document.querySelectorAll('#candidates li')].find((row) => Number(row.querySelector('.left').textContent) > 0)?.dataset.word);
     await browser.click(`#candidates [data-word=${other}]`);
-    await browser.until(`document.querySelector('#cell-1-6:not(.ghost)').textContent.includes('${other[0]}')`);
+    await the('#cell-1-6:not(.ghost)').has(other[0]);
     await browser.click('#cell-2-2');
-    await browser.until("document.getElementById('cell-coordinates').textContent === 'Row 2, column 2' && document.querySelector('#letters[aria-busy=false] button')");
-    const letter = await browser.value("document.querySelector('#letters button').dataset.letter");
+    await untilInPage(() => (document.getElementById('cell-coordinates').textContent === 'Row 2, column 2' && document.querySelector('#letters[aria-busy=false] button')));
+    const letter = await inPage(() => document.querySelector('#letters button').dataset.letter);
     await browser.click('#letters button');
-    await browser.until(`document.querySelector('#cell-2-2 .letter').textContent === '${letter}'`);
+    await the('#cell-2-2 .letter').says(letter);
   },
 
   async 'dead ends sink to the bottom of the list'() {
@@ -51,17 +51,17 @@ export const CASES = {
     const dead = list.filter((word) => !left(word)).map((word) => word.toUpperCase());
     await browser.click('#cell-1-1');
     if (await page.has('1-1', 'down')) await browser.press('Enter');
-    await browser.until("document.getElementById('light-name').textContent === '1 Across' && document.querySelectorAll('#candidates[aria-busy=false] li').length === 7 && [...document.querySelectorAll('#candidates .left')].every(({ textContent }) => /\\d|dead end/.test(textContent))");
-    const shown = () => browser.value("[...document.querySelectorAll('#candidates li')].map((row) => [row.dataset.word, row.classList.contains('dead')])");
+    await untilInPage(() => (document.getElementById('light-name').textContent === '1 Across' && document.querySelectorAll('#candidates[aria-busy=false] li').length === 7 && [...document.querySelectorAll('#candidates .left')].every(({ textContent }) => /\d|dead end/.test(textContent))));
+    const shown = () => inPage(() => [...document.querySelectorAll('#candidates li')].map((row) => [row.dataset.word, row.classList.contains('dead')]));
     const rows = await shown();
     expect(rows.slice(-dead.length).map(([word]) => word).sort().join() === dead.sort().join() && dead.length > 0 && dead.length < rows.length, `the list is ${rows.join(' ')}; dead are ${dead}`);
     expect(rows.every(([, isDead], at) => isDead === at >= rows.length - dead.length), `the list is ${rows.join(' ')}`);
     // so they do from A to Z
-    await browser.value("document.getElementById('order').value = 'abc', document.getElementById('order').dispatchEvent(new Event('change'))");
+    await the('#order').choose('abc');
     const sorted = (await shown()).map(([word]) => word);
     const alive = sorted.slice(0, -dead.length);
     expect(alive.join() === [...alive].sort().join() && sorted.slice(-dead.length).join() === dead.sort().join(), `from A to Z: ${sorted}`);
-    await browser.value("document.getElementById('order').value = 'list', document.getElementById('order').dispatchEvent(new Event('change'))");
+    await the('#order').choose('list');
     await menu('built-in');
     await page.factsAre(/built-in list/);
   },
@@ -71,11 +71,11 @@ export const CASES = {
     await browser.type('t');
     await page.cursorAt('1-2');
     await browser.press('/');
-    await browser.until("document.querySelectorAll('#candidates[aria-busy=false] li').length > 20 && document.activeElement.id === 'filter'");
+    await untilInPage(() => (document.querySelectorAll('#candidates[aria-busy=false] li').length > 20 && document.activeElement.id === 'filter'));
     const ghosts = "[...document.querySelectorAll('.cell.ghost .letter')].map(({ textContent }) => textContent).join('')";
     expect((await browser.value(ghosts)) === '', 'a letter is a ghost');
     await browser.press('ArrowDown');
-    const [one, two, three] = await browser.value("[...document.querySelectorAll('#candidates li')].slice(0, 3).map((row) => row.dataset.word)");
+    const [one, two, three] = await inPage(() => [...document.querySelectorAll('#candidates li')].slice(0, 3).map((row) => row.dataset.word));
     await browser.until(`${ghosts} === '${one.slice(1)}'`);
     await picture('ghost-letters');
     await browser.press('ArrowDown');
@@ -84,7 +84,7 @@ export const CASES = {
     const point = (word) => browser.value(`document.querySelector('#candidates [data-word=${word}] span').dispatchEvent(new PointerEvent('pointermove', { bubbles: true, pointerType: 'mouse' }))`);
     await point(three);
     await browser.until(`${ghosts} === '${three.slice(1)}'`);
-    await browser.value("document.getElementById('candidates').dispatchEvent(new PointerEvent('pointerleave'))");
+    await inPage(() => document.getElementById('candidates').dispatchEvent(new PointerEvent('pointerleave')));
     await browser.until(`${ghosts} === '${two.slice(1)}'`);
     expect((await page.facts()).includes('· 1 of'), `the grid has other letters: ${await page.facts()}`);
     // they go with the place in the grid
@@ -107,14 +107,14 @@ export const CASES = {
           await browser.press('F2');
           await browser.until(`document.querySelector('#candidates[aria-busy=false] li')?.dataset.word.length === ${letters}`);
           await browser.press('ArrowDown');
-          const cut = await browser.until(`(() => {
+          const cut = await untilInPage(() => {
             const row = document.querySelector('#candidates [aria-selected=true]');
             if (!row) return null;
             const { left, right } = row.getBoundingClientRect();
             const shown = [...row.children].filter((part) => getComputedStyle(part).display !== 'none');
             const isCut = (part) => part.scrollWidth > part.clientWidth + 1 && part.clientWidth > 0 || part.getBoundingClientRect().left < left || part.getBoundingClientRect().right > right + 0.5;
             return { parts: shown.filter(isCut).map(({ textContent, className, scrollWidth, clientWidth }) => [textContent, className, scrollWidth, clientWidth].join(' ')), grades: shown.filter(({ className }) => className === 'grade').length };
-          })()`);
+          });
           expect(!cut.parts.length && cut.grades === 2, `${width}, ${letters} letters: ${cut.parts.join(', ')} is cut; ${cut.grades} buttons`);
           await picture(`pointed-${letters}-${width}`);
           await browser.press('Escape');
@@ -140,13 +140,13 @@ export const CASES = {
     await browser.press('ArrowDown');
     await browser.press('-');
     await page.statusIs(/^COT has the score 50 in My words$/);
-    await browser.until(`document.querySelector('#candidates [data-word=COT] .score').textContent === '50'`);
+    await the('#candidates [data-word=COT] .score').says('50');
     await browser.press('-');
     await browser.until(`${rows} === 'CUT 100,CAT 50,COT 40'`);
-    expect(await browser.value("document.querySelector('#candidates [aria-selected=true]').dataset.word === 'COT'"), 'keys point at another word');
+    expect(await inPage(() => (document.querySelector('#candidates [aria-selected=true]').dataset.word === 'COT')), 'keys point at another word');
     for (const score of [50, 60, 70]) {
       await browser.press('+');
-      await browser.until(`document.querySelector('#candidates [data-word=COT] .score').textContent === '${score}'`);
+      await the('#candidates [data-word=COT] .score').says(`${score}`);
     }
     await browser.until(`${rows} === 'CUT 100,COT 70,CAT 50'`);
     // the best score is the end
@@ -154,12 +154,12 @@ export const CASES = {
     await browser.press('+');
     await page.statusIs(/^CUT has 100 already, the best score$/i);
     // and so do the buttons of a row
-    await browser.value("document.querySelector('#candidates [data-word=CAT] [data-step=\"1\"]').click()");
+    await the('#candidates [data-word=CAT] [data-step="1"]').press();
     await page.statusIs(/^CAT has the score 60 in My words$/);
     await browser.until(`${rows} === 'CUT 100,COT 70,CAT 60'`);
     expect((await page.row(1)) === '...', 'a word is placed');
     await browser.click('#tab-puzzle');
-    await browser.until("document.getElementById('lists').ariaBusy !== 'true' && !document.getElementById('personal-export').disabled");
+    await untilInPage(() => document.getElementById('lists').ariaBusy !== 'true' && !document.getElementById('personal-export').disabled);
     expect((await saved('my-words.txt', () => browser.click('#personal-export'))).toString() === 'COT;70\nCAT;60', 'my words are others');
     // in the filter they are text, where nothing is pointed at
     await browser.click('#tab-words');
@@ -169,7 +169,7 @@ export const CASES = {
     await browser.press('Escape');
     await browser.click('#tab-puzzle');
     await browser.click('#personal-edit');
-    await browser.value("document.getElementById('personal-text').value = ''");
+    await the('#personal-text').put('value', '');
     await browser.click('#personal-dialog [value=save]');
     await menu('built-in');
     await page.factsAre(/built-in list/);
@@ -181,57 +181,57 @@ export const CASES = {
     await browser.view(1700, 950);
     try {
       await browser.type('to');
-      await browser.until("document.getElementById('crossing-name').textContent === '3 Down' && document.getElementById('light-name').textContent === '1 Across'");
+      await untilInPage(() => document.getElementById('crossing-name').textContent === '3 Down' && document.getElementById('light-name').textContent === '1 Across');
       const xw = Xw.open(module, { list: LIST, record: recordOf(rowsOf(PATTERNS[0]), 'half') });
       for (const line of ['set 1 1 T', 'set 1 2 O']) xw.line(line);
       const count = Number(xw.line('words 3 down').lines[0]);
       await browser.until(`document.getElementById('crossing-summary').textContent === '${count.toLocaleString('en')} words' && document.querySelectorAll('#crossing-candidates[aria-busy=false] li').length > 20`);
-      const beside = await browser.value("[document.getElementById('candidates'), document.getElementById('crossing-candidates')].map((list) => list.getBoundingClientRect()).map(({ left, right, width }) => [left, right, width])");
+      const beside = await inPage(() => [document.getElementById('candidates'), document.getElementById('crossing-candidates')].map((list) => list.getBoundingClientRect()).map(({ left, right, width }) => [left, right, width]));
       expect(beside[0][1] <= beside[1][0] && beside.every(([, , width]) => width > 200), `the lists lie at ${beside}`);
       await picture('both-lights');
       // a word that leaves some stays where it is
-      const word = await browser.until("[...document.querySelectorAll('#crossing-candidates li')].find((row) => Number(row.querySelector('.left').textContent) > 0)?.dataset.word");
+      const word = await untilInPage(() => [...document.querySelectorAll('#crossing-candidates li')].find((row) => Number(row.querySelector('.left').textContent) > 0)?.dataset.word);
       await browser.click(`#crossing-candidates [data-word=${word}]`);
       await browser.until(`document.querySelector('#cell-4-3 .letter').textContent === '${word[3]}' && document.activeElement.id === 'grid'`);
       await page.cursorAt('1-3');
       await browser.press('Enter');
-      await browser.until("document.getElementById('crossing-name').textContent === '1 Across' && document.getElementById('light-name').textContent === '3 Down'");
+      await untilInPage(() => document.getElementById('crossing-name').textContent === '1 Across' && document.getElementById('light-name').textContent === '3 Down');
     } finally {
       await browser.view(1400, 900);
     }
-    expect(await browser.value("document.getElementById('crossing-words').offsetWidth === 0"), 'there is no room for two lists');
+    expect(await inPage(() => document.getElementById('crossing-words').offsetWidth === 0), 'there is no room for two lists');
   },
 
   async 'filters of the candidates'() {
     await begin(1);
     await browser.press('/');
-    await browser.until("document.querySelectorAll('#candidates[aria-busy=false] li').length > 100");
+    await the('#candidates[aria-busy=false] li').areAtLeast(101);
     const words = LIST.toUpperCase().split('\n').filter((word) => word.length === 4);
-    const shown = () => browser.value("[...document.querySelectorAll('#candidates li')].map((row) => row.dataset.word)");
+    const shown = () => inPage(() => [...document.querySelectorAll('#candidates li')].map((row) => row.dataset.word));
     const cases = {
       'q??t': /^Q..T$/, '*zz*': /ZZ/, '[aeiou]?[xyz]*': /^[AEIOU].[XYZ]/, '/.*(oo|ee).*/': /OO|EE/, '/q.+/': /^Q/,
     };
     for (const [typed, pattern] of Object.entries(cases)) {
-      await browser.value("document.getElementById('filter').value = ''");
+      await the('#filter').put('value', '');
       await browser.insert(typed);
       // the words of the empty grid that have a fill are most of the list
       await browser.until(`(() => { const words = [...document.querySelectorAll('#candidates li')].map((row) => row.dataset.word); return words.length > 0 && words.every((word) => ${pattern}.test(word)); })()`);
       expect((await shown()).every((word) => words.includes(word)), 'a word is not of the list');
     }
-    await browser.value("document.getElementById('filter').value = ''");
+    await the('#filter').put('value', '');
     await browser.insert('@tops');
     const anagrams = words.filter((word) => [...word].sort().join('') === 'OPST').sort();
     await browser.until(`[...document.querySelectorAll('#candidates li')].map((row) => row.dataset.word).sort().join() === '${anagrams}'`);
     // words that are equal come in no order that the alphabet gives, unless it is asked for
-    await browser.value("document.getElementById('filter').value = ''");
+    await the('#filter').put('value', '');
     await browser.insert('*s*');
-    await browser.until("(({ length }) => length > 50)(document.querySelectorAll('#candidates li')) && [...document.querySelectorAll('#candidates li')].every((row) => row.dataset.word.includes('S'))");
+    await untilInPage(() => (({ length }) => length > 50)(document.querySelectorAll('#candidates li')) && [...document.querySelectorAll('#candidates li')].every((row) => row.dataset.word.includes('S')));
     const isSorted = (list) => list.join() === [...list].sort().join();
     expect(!isSorted(await shown()), 'the words come in the order of the alphabet');
-    await browser.value("document.getElementById('order').value = 'abc', document.getElementById('order').dispatchEvent(new Event('change'))");
-    const listed = await browser.value("[...document.querySelectorAll('#candidates li:not(.dead)')].map((row) => row.dataset.word)");
+    await the('#order').choose('abc');
+    const listed = await inPage(() => [...document.querySelectorAll('#candidates li:not(.dead)')].map((row) => row.dataset.word));
     expect(listed.length > 50 && isSorted(listed), 'the words are not sorted');
-    await browser.value("document.getElementById('order').value = 'list', document.getElementById('order').dispatchEvent(new Event('change'))");
+    await the('#order').choose('list');
   },
 
   async 'the lights that cross one'() {
@@ -246,7 +246,7 @@ export const CASES = {
     await browser.until(`${shown}.join() === ${JSON.stringify(wanted.join())}`);
     await picture('crossings');
     await browser.click('#crossings .crossing:nth-child(2)');
-    await browser.until("document.getElementById('light-name').textContent === '2 Down' && document.querySelector('#crossings .crossing').innerText.includes('TOE·')");
+    await untilInPage(() => document.getElementById('light-name').textContent === '2 Down' && document.querySelector('#crossings .crossing').innerText.includes('TOE·'));
     await page.cursorAt('1-2');
   },
 
@@ -260,11 +260,11 @@ export const CASES = {
     const before = await page.rows();
     await browser.click('#cell-2-1');
     if (await page.has('2-1', 'down')) await browser.press('Enter');
-    await browser.until("/fit/.test(document.getElementById('light-summary').textContent) && document.querySelector('#candidates[aria-busy=false]')");
+    await untilInPage(() => /fit/.test(document.getElementById('light-summary').textContent) && document.querySelector('#candidates[aria-busy=false]'));
     expect((await page.rows()).join() === before.join(), 'the grid has changed');
-    await browser.until("document.getElementById('legend').textContent.startsWith('beside a word')");
-    const shown = await browser.value(`(({ bottom }) => [...document.querySelectorAll('#candidates li')].map((row) =>
-      [row.dataset.word, row.className, row.querySelector('.left').title.replace('changes ', ''), row.getBoundingClientRect().bottom < bottom]))(document.getElementById('candidates').getBoundingClientRect())`);
+    await the('#legend').begins('beside a word');
+    const shown = await inPage(() => (({ bottom }) => [...document.querySelectorAll('#candidates li')].map((row) =>
+      [row.dataset.word, row.className, row.querySelector('.left').title.replace('changes ', ''), row.getBoundingClientRect().bottom < bottom]))(document.getElementById('candidates').getBoundingClientRect()));
     const isOther = ([, name]) => /needs/.test(name);
     expect(!shown.some(([word]) => word === before[1]), 'the word that stands is among its alternatives');
     // each is as the engine says of the grid without the light, and then without what is in pencil
@@ -319,7 +319,7 @@ export const CASES = {
     await picture('dead-alternatives');
     // the grid is as it was to the engine too
     await browser.click('#candidates [data-word=BCD]');
-    await browser.until("document.querySelector('#cell-1-1:not(.ghost) .letter')?.textContent === 'B'");
+    await the('#cell-1-1:not(.ghost) .letter').says('B');
     expect((await page.row(1)) === 'BCD', `the row is ${await page.row(1)}`);
     // where there is no other word, that is said in place of a list
     writeFileSync(join(room, 'one-word.txt'), 'cat');
@@ -327,7 +327,7 @@ export const CASES = {
     await page.factsAre(/one-word.txt, 1 word/);
     await beginBlank(3, 1);
     await browser.type('cat');
-    await browser.until("document.getElementById('candidates').hidden && document.getElementById('legend').textContent === 'no other word of your lists fits here'");
+    await untilInPage(() => document.getElementById('candidates').hidden && document.getElementById('legend').textContent === 'no other word of your lists fits here');
     await menu('built-in');
     await page.factsAre(/built-in list/);
   },
@@ -335,29 +335,29 @@ export const CASES = {
   async 'a word that is not in the list, where it stands'() {
     await begin(6);
     await browser.type('zzq');
-    await browser.until("document.querySelectorAll('.cell.faulty').length === 3");
-    await browser.until("/^ZZQ is not in your lists/.test(document.getElementById('standing').textContent)");
+    await the('.cell.faulty').are(3);
+    await the('#standing').says(/^ZZQ is not in your lists/);
     await picture('unlisted');
     await browser.click('#standing button:nth-of-type(2)');
-    await browser.until("document.getElementById('standing').hidden && !document.querySelector('.cell.faulty')");
+    await untilInPage(() => document.getElementById('standing').hidden && !document.querySelector('.cell.faulty'));
     await browser.click('#cell-1-2');
     if (await page.has('1-2', 'down')) await browser.press('Enter');
     await browser.type('zzq');
-    await browser.until("/^ZZQ/.test(document.getElementById('standing').textContent) && document.querySelector('#candidates[aria-busy=false]')");
+    await untilInPage(() => /^ZZQ/.test(document.getElementById('standing').textContent) && document.querySelector('#candidates[aria-busy=false]'));
     await browser.click('#standing button:nth-of-type(1)');
     await page.statusIs(/ZZQ is added/);
-    await browser.until("document.getElementById('standing').hidden && !document.querySelector('.cell.faulty')");
+    await untilInPage(() => document.getElementById('standing').hidden && !document.querySelector('.cell.faulty'));
     // done is said when nothing is left
     await menu('new');
-    await browser.value("document.getElementById('new-width').value = 3, document.getElementById('new-height').value = 1");
+    await page.wantSize(3, 1);
     await browser.click('#new-blank');
     await page.factsAre(/^3 × 1/);
     await browser.type('qqz');
-    await browser.until("/QQZ/.test(document.getElementById('standing').textContent)");
+    await the('#standing').says(/QQZ/);
     await browser.press('Control+j');
     await page.statusIs(/every light is entered, but QQZ is not in your lists: 1 Across/);
     await browser.click('#standing button:nth-of-type(1)');
-    await browser.until("document.getElementById('standing').hidden");
+    await the('#standing').isHidden();
     await browser.press('Control+j');
     await page.statusIs(/every light is entered; one has no clue yet/);
   },
@@ -367,47 +367,47 @@ export const CASES = {
     await browser.type('zzq');
     await page.cursorAt('1-4');
     await browser.press('F4');
-    await browser.until("/ZZQ is not in your lists/.test(document.getElementById('checks').textContent)");
+    await the('#checks').says(/ZZQ is not in your lists/);
     await picture('puzzle');
     await browser.click('#checks [data-add=ZZQ]');
     await page.statusIs(/ZZQ is added/);
-    await browser.until("!/ZZQ is not in your lists/.test(document.getElementById('checks').textContent)");
+    await the('#checks').saysNot(/ZZQ is not in your lists/);
     await browser.click('#cell-5-2');
     await browser.type('zzq');
     await browser.press('F4');
-    await browser.until("/ZZQ stands twice/.test(document.getElementById('checks').textContent)");
+    await the('#checks').says(/ZZQ stands twice/);
     await browser.click('#changed [data-strike=ZZQ]');
-    await browser.until("/ZZQ is not in your lists/.test(document.getElementById('checks').textContent)");
+    await the('#checks').says(/ZZQ is not in your lists/);
     await browser.click('#title');
-    await browser.value("document.getElementById('title').value = 'a → b', document.getElementById('title').dispatchEvent(new Event('change'))");
+    await the('#title').choose('a → b');
     await page.statusIs(/“→” stays here and in .ipuz; a .puz gets: a -> b/);
   },
 
   async 'a key while choices are counted'() {
     await begin(1);
     // notes when an edit goes to the worker, and the answers that come back; queries go right before it, the first of which keeps the worker busy
-    await browser.value(`(() => {
+    await inPage(() => {
       const post = Worker.prototype.postMessage;
       Worker.prototype.postMessage = function (message, transfer) {
         window.engineWorker ??= this;
         if (message.call === 'edit' && window.told) {
-          for (const count of [1000, ...Array(40).fill(40)]) post.call(this, { id: 'choices', call: 'ask', sent: { line: \`choices 5 across \${count}\` } });
+          for (const count of [1000, ...Array(40).fill(40)]) post.call(this, { id: 'choices', call: 'ask', sent: { command: 'choices', given: ['5 across', count] } });
           window.told.push('key');
           window.keyId = message.id;
         }
         post.call(this, message, transfer);
       };
-    })()`);
+    });
     await browser.press('s');
-    await browser.until("document.querySelector('#candidates[aria-busy=false] .left') && !document.getElementById('legend').textContent.startsWith('counting')");
-    await browser.value(`(() => {
+    await untilInPage(() => (document.querySelector('#candidates[aria-busy=false] .left') && !document.getElementById('legend').textContent.startsWith('counting')));
+    await inPage(() => {
       window.told = [];
       window.engineWorker.addEventListener('message', ({ data }) => window.told.push(data.id));
       document.getElementById('grid').dispatchEvent(new KeyboardEvent('keydown', { key: 'p', bubbles: true, cancelable: true }));
-    })()`);
-    await browser.until("window.told.filter((id) => id === 'choices').length === 41");
-    const told = await browser.value('window.told');
-    const [sent, answered] = [told.indexOf('key'), told.indexOf(await browser.value('window.keyId'))];
+    });
+    await untilInPage(() => window.told.filter((id) => id === 'choices').length === 41);
+    const told = await inPage(() => window.told);
+    const [sent, answered] = [told.indexOf('key'), told.indexOf(await inPage(() => window.keyId))];
     const [ahead, behind] = [answered - sent - 1, told.length - answered - 1];
     expect(sent >= 0 && ahead <= 2 && behind > 10, `${ahead} queries were answered ahead of the key, and ${behind} after it`);
     await browser.go(PAGE.href);
@@ -419,9 +419,9 @@ export const CASES = {
     await browser.click('#tab-words');
     await begin(1);
     await browser.click('#cell-1-12');
-    await browser.until("document.getElementById('light-name').textContent === '10 Across'");
+    await the('#light-name').says('10 Across');
     // the next count waits until the worker has the edit that takes the light away
-    await browser.value(`(() => {
+    await inPage(() => {
       const post = Worker.prototype.postMessage;
       Worker.prototype.postMessage = function (message, transfer) {
         if (message.call === 'probe' && !window.late) {
@@ -436,13 +436,13 @@ export const CASES = {
         Worker.prototype.postMessage = post;
         post.call(this, window.late);
       };
-    })()`);
+    });
     await browser.click('#cell-1-13');
-    await browser.until('window.late');
+    await untilInPage(() => window.late);
     await menu('new');
     await browser.click('.pattern:nth-child(6)');
-    await browser.until('window.lateAnswer');
-    expect(!(await browser.value('window.lateAnswer.fault')), 'the count fails');
+    await untilInPage(() => window.lateAnswer);
+    expect(!(await inPage(() => window.lateAnswer.fault)), 'the count fails');
     await page.factsAre(/^5 × 5/);
     await browser.type('a');
     await isDrafted(/size 5 5[^]*set 1 2 A/);
