@@ -17,7 +17,7 @@ _xw() {
     case $COMP_CWORD,${COMP_WORDS[1]},$word in
         1,*) words='edit convert check help --help --version -h -V' ;;
         2,help,*) words='edit convert check help' ;;
-        *,edit,*) words='--dict --from --resume --to --save --journal --sync --explain --help -h' ;;
+        *,edit,*) words='--dict --from --resume --to --save --journal --sync --progress --explain --help -h' ;;
         *,convert,-* | *,check,-*) words='--explain --help -h' ;;
         *,convert,* | *,check,*) _xw_puzzles "$word" && return ;;
     esac

@@ -29,5 +29,6 @@ complete -c xw -n $edit -l to -r -k -a $puzzles -d 'Write the puzzle here at the
 complete -c xw -n $edit -l save -r -F -d 'Write the session here at the end, as commands for --resume'
 complete -c xw -n $edit -l journal -r -F -d 'Append every change here, and resume from it'
 complete -c xw -n $edit -l sync -d 'Sync each line of the journal to the device before its answer'
+complete -c xw -n $edit -l progress -d 'Say on standard error how far a long search is, as on a terminal'
 complete -c xw -n $convert -k -a $puzzles
 complete -c xw -n $check -k -a $puzzles

@@ -20,7 +20,7 @@ class Need(NamedTuple):
 
 NEEDS = (
     Need("binaryen", "wasm-opt", "library page dist"),
-    Need("binutils", "nm readelf strip", "library dist"),
+    Need("binutils", "nm objdump readelf strip", "library dist"),
     Need("chromium", "chromium", "page"),
     Need("debootstrap", "debootstrap", "dist"),
     Need("dpkg", "dpkg dpkg-deb", "dist"),

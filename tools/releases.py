@@ -18,8 +18,8 @@ from publisher import MAINTAINER, REPOSITORY
 
 # the folder of the libraries in Debian's packages
 DEBIAN_LIBDIR = "lib/x86_64-linux-gnu"
-# the oldest C library that the program and the shared library run with
-GLIBC = "2.34"
+# the oldest C libraries that the program and the shared library run with
+GLIBC, GLIBC_OF_LIBRARY = "2.34", "2.14"
 WORDS = pathlib.Path("/usr/share/dict/american-english")
 WORDS_LICENCE = pathlib.Path("/usr/share/doc/wamerican/copyright")
 TOOLS = {"dpkg-deb": "dpkg", "strip": "binutils", "wasm-opt": "binaryen", "esbuild": "esbuild", "git": "git"}
@@ -29,6 +29,10 @@ README = """xw {version}, a crossword construction engine
 bin/xw is the program. It runs from any folder, on Linux on x86-64 with glibc {glibc} or later. `bin/xw --help` lists its calls, and
 share/doc/xw/commands.md is the manual. share/ also has the manual page and completions for bash, zsh and fish: to install all, copy bin and
 share into /usr/local.
+
+lib/libxw.so and lib/libxw.a are the library for C, with its headers in include/. The shared one needs glibc {glibc_of_library} or later. They too work in any folder:
+cc mine.c $(PKG_CONFIG_PATH=FOLDER/lib/pkgconfig pkg-config --cflags --libs xw), and LD_LIBRARY_PATH=FOLDER/lib for the program that it makes. To
+install them, copy lib and include into /usr/local, and run ldconfig. share/doc/xw/embedding.md describes the calls.
 
 xw.html is the editor, in one file: open it in a browser. share/doc/xw/setters.md is its guide. Its word list has words of Debian's package
 wamerican; NOTICES says whose they are.
@@ -139,10 +143,10 @@ class Release:
         self.folder.mkdir(parents=True, exist_ok=True)
         self.info = self.build_info()
         with tempfile.TemporaryDirectory() as room:
-            program, library = self.staged(room, "install", "/usr"), self.staged(room, "install-library", "/usr")
+            program, library, plain = self.staged(room, "install"), self.staged(room, "install-library"), self.staged(room, "install-library", "lib")
             program["usr/bin/xw"] = self.stripped(room, program["usr/bin/xw"])
             self.page = self.made_page(room)
-        self.tarball(program)
+        self.tarball(program, plain)
         self.package_of_program(program)
         self.packages_of_library(library)
         self.npm_package()
@@ -150,10 +154,10 @@ class Release:
         (self.folder / "BUILD-INFO").write_text(self.info)
         self.sums()
 
-    def staged(self, room, *call):
-        """What a call of ./build installs."""
-        stage = pathlib.Path(room, call[0])
-        subprocess.run([TOP / "build", *call], env={**os.environ, "DESTDIR": str(stage), "LIBDIR": DEBIAN_LIBDIR}, check=True)
+    def staged(self, room, call, libdir=DEBIAN_LIBDIR):
+        """What a call of ./build installs in /usr."""
+        stage = pathlib.Path(room, call, libdir)
+        subprocess.run([TOP / "build", call, "/usr"], env={**os.environ, "DESTDIR": str(stage), "LIBDIR": libdir}, check=True)
         return read_tree(stage)
 
     @staticmethod
@@ -186,11 +190,14 @@ class Release:
             "BUILD-INFO": Entry(self.info.encode()),
         }
 
-    def tarball(self, program):
-        """The program with all that belongs to it."""
+    def tarball(self, program, library):
+        """The program and the library with all that belongs to them, which work in any folder."""
         name = f"xw-{self.version}-linux-x86_64"
-        readme = README.format(version=self.version, glibc=GLIBC)
-        tree = {path.removeprefix("usr/"): entry for path, entry in program.items()}
+        readme = README.format(version=self.version, glibc=GLIBC, glibc_of_library=GLIBC_OF_LIBRARY)
+        tree = {path.removeprefix("usr/"): entry for path, entry in {**library, **program}.items()}
+        # pkg-config itself escapes a space in the name of the folder, which no quotes may do again
+        told = tree["lib/pkgconfig/xw.pc"].data.replace(b"prefix=/usr\n", b"prefix=${pcfiledir}/../..\n").replace(b'"', b"")
+        tree["lib/pkgconfig/xw.pc"] = Entry(told)
         tree.update(self.licences(self.notices_of_page))
         tree.update({"README": Entry(readme.encode()), "xw.html": self.page})
         archives.tar_gz(self.folder / f"{name}.tar.gz", below(name, tree), self.time)
@@ -236,7 +243,7 @@ class Release:
         }
         # a library is no program in Debian's packages
         shared = {path: entry._replace(is_program=False) for path, entry in shared.items()}
-        self.package("libxw0", shared, f"libc6 (>= {GLIBC})", "libs", self.notices, **control)
+        self.package("libxw0", shared, f"libc6 (>= {GLIBC_OF_LIBRARY})", "libs", self.notices, **control)
         self.package("libxw-dev", others, f"libxw0 (= {self.version})", "libdevel", self.notices)
 
     # ---- the others

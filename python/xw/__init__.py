@@ -26,4 +26,4 @@ __all__ = [
 ]
 
 # The version of the package, which is that of the engine.
-__version__ = "0.2.0"
+__version__ = "0.3.0"

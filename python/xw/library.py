@@ -39,7 +39,7 @@ def _calls() -> ctypes.CDLL:
 
 
 def version() -> str:
-    """The version of the engine and of its protocol, such as `xw 0.2.0 (protocol 1)`."""
+    """The version of the engine and of its protocol, such as `xw 0.3.0 (protocol 1)`."""
     room = ctypes.create_string_buffer(200)
     length: int = _calls().xw_version(room, len(room))
     return room.raw[:length].decode()

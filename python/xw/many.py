@@ -129,7 +129,7 @@ def _taken(puzzles: Iterable[Union[Source, Puzzle]]) -> Tuple[_Part, Dict[int, F
     return whole, faulty
 
 
-def _done(part: _Part, future: "concurrent.futures.Future[List[Filled]]") -> List[Filled]:
+def done(part: _Part, future: "concurrent.futures.Future[List[Filled]]") -> List[Filled]:
     """The puzzles of a part, once it is done. If it failed, each of them has the error."""
     try:
         return future.result()
@@ -137,13 +137,44 @@ def _done(part: _Part, future: "concurrent.futures.Future[List[Filled]]") -> Lis
         return [Filled(number, error=error) for number, _ in part]
 
 
-def _in_order(parts: List[_Part], futures: "List[concurrent.futures.Future[List[Filled]]]", faulty: Dict[int, Filled]) -> Iterator[Filled]:
-    """Each puzzle once, by its number, as soon as those before it are done."""
-    for part, future in zip(parts, futures):
-        for filled in _done(part, future):
-            yield from (faulty.pop(number) for number in sorted(faulty) if number < filled.number)
+class Batch:
+    """Puzzles that workers fill, or those of an executor. `begin` has them filled, and `end` ends that at any time."""
+
+    def __init__(
+        self, puzzles: Iterable[Union[Source, Puzzle]], words: WordList, workers: int, options: _Options, executor: Optional[concurrent.futures.Executor]
+    ):
+        self._words, self._options, self._executor = list_of(words), options, executor
+        whole, self._faulty = _taken(puzzles)
+        size = 1 if executor is None else max(1, -(-len(whole) // (PARTS * workers)))
+        self._parts = [whole[at : at + size] for at in range(0, len(whole), size)]
+        self._crew = _Crew(self._words, workers) if executor is None else None
+        self._futures: "List[concurrent.futures.Future[List[Filled]]]" = []
+
+    def begin(self) -> "List[Tuple[_Part, concurrent.futures.Future[List[Filled]]]]":
+        """The parts in their order, each with its future."""
+        for part in self._parts:
+            if self._executor is None:
+                assert self._crew
+                self._futures.append(self._crew.submit(part, self._options))
+            else:
+                self._futures.append(self._executor.submit(fill_part, self._words, part, self._options))
+        return list(zip(self._parts, self._futures))
+
+    def in_order(self, found: List[Filled]) -> Iterator[Filled]:
+        """The puzzles of the next part, each after those before it that cannot be read."""
+        for filled in found:
+            yield from (self._faulty.pop(number) for number in sorted(self._faulty) if number < filled.number)
             yield filled
-    yield from faulty.values()
+
+    def rest(self) -> Iterator[Filled]:
+        """The puzzles after the last part."""
+        yield from self._faulty.values()
+
+    def end(self) -> None:
+        for future in self._futures:
+            future.cancel()
+        if self._crew:
+            self._crew.end()
 
 
 def fill_many(
@@ -161,18 +192,10 @@ def fill_many(
 
     An executor of `concurrent.futures`, or one like it, may have the processes in place of this call. It gets the puzzles in four parts for each worker. If
     it loses a part, each puzzle of it has the error."""
-    listed, options = list_of(words), {"limit": limit, "seed": seed, "seconds": seconds}
-    whole, faulty = _taken(puzzles)
-    size = 1 if executor is None else max(1, -(-len(whole) // (PARTS * workers)))
-    parts = [whole[at : at + size] for at in range(0, len(whole), size)]
-    crew = _Crew(listed, workers) if executor is None else None
-    futures: "List[concurrent.futures.Future[List[Filled]]]" = []
+    batch = Batch(puzzles, words, workers, {"limit": limit, "seed": seed, "seconds": seconds}, executor)
     try:
-        for part in parts:
-            futures.append(crew.submit(part, options) if crew else executor.submit(fill_part, listed, part, options))  # type: ignore[union-attr]
-        yield from _in_order(parts, futures, faulty)
+        for part, future in batch.begin():
+            yield from batch.in_order(done(part, future))
+        yield from batch.rest()
     finally:
-        for future in futures:
-            future.cancel()
-        if crew:
-            crew.end()
+        batch.end()

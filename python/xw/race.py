@@ -4,7 +4,7 @@ from __future__ import annotations
 import concurrent.futures
 import queue
 import threading
-from typing import Iterable, List, NamedTuple, Optional, Tuple, Union
+from typing import Callable, Iterable, List, NamedTuple, Optional, Tuple, Union
 
 from .answers import Best, Found, LightName, Progress
 from .errors import Died, Error
@@ -45,6 +45,10 @@ class Step(NamedTuple):
     placements: int
     is_over: bool
     reports: Tuple[str, ...]
+
+
+# What a worker, by its number, tells, or what it has raised.
+News = Tuple[int, Union[Step, Exception]]
 
 
 class Task(NamedTuple):
@@ -157,56 +161,81 @@ class _Legs:
             self._future.cancel()
 
 
-class _Race:
-    """What workers have found together. A thread waits for each, and puts what it tells into a queue."""
+Runner = Union[_Local, _Legs]
 
-    def __init__(self, size: int, least: int):
-        self.least, self.above, self.bound = least, least, 101
-        self.fill: Optional[Best] = None
-        self.placements, self.running = [0] * size, size
-        self.reports: Tuple[str, ...] = ()
-        self.died: Tuple[Died, ...] = ()
-        self.told: "queue.SimpleQueue[Tuple[int, Union[Step, Exception]]]" = queue.SimpleQueue()
 
-    def run(self, number: int, runner: Union[_Local, _Legs]) -> None:
+class Race:
+    """What workers, each with another seed, find together. A thread waits for each, and tells what it hears."""
+
+    def __init__(self, task: Task, workers: int, seed: int, executor: Optional[concurrent.futures.Executor]):
+        self._task, self._seeds, self._executor = task, range(seed, seed + workers), executor
+        self._crew: List[Runner] = []
+        self._threads: List[threading.Thread] = []
+        # words below this grade are left out
+        self._above, self._bound = task.least, 101
+        self._fill: Optional[Best] = None
+        self._placements, self._running = [0] * workers, workers
+        self._reports: Tuple[str, ...] = ()
+        self._died: Tuple[Died, ...] = ()
+
+    def begin(self, tell: Callable[[News], None]) -> None:
+        """Has all of them search until they end."""
+        for number, seed in enumerate(self._seeds):
+            self._crew.append(_Legs(self._executor, self._task, seed, len(self._seeds)) if self._executor else _Local(self._task, seed))
+            self._threads.append(threading.Thread(target=self._run, args=(number, self._crew[-1], tell), daemon=True))
+            self._threads[-1].start()
+
+    def _run(self, number: int, runner: Runner, tell: Callable[[News], None]) -> None:
         """Has one of them search until it ends. Each step begins with the grade of the best fill of all."""
         try:
             is_over = False
             while not is_over:
-                told = runner.step(self.above)
+                told = runner.step(self._above)
                 is_over = told.is_over
-                self.told.put((number, told))
+                tell((number, told))
         except Exception as error:
-            self.told.put((number, error))
+            tell((number, error))
 
-    def take(self, number: int, told: Union[Step, Exception]) -> None:
+    @property
+    def is_running(self) -> bool:
+        """Whether there is something left to search for, and a worker that does."""
+        return self._running > 0 and self._bound > self._above
+
+    def take(self, news: News) -> None:
+        number, told = news
         if isinstance(told, Died):
-            self.died += (told,)
-            self.running -= 1
+            self._died += (told,)
+            self._running -= 1
             return
         if isinstance(told, Exception):
             raise told
-        self.placements[number] = told.placements
+        self._placements[number] = told.placements
         # Each worker searches the same lights of the same grid over the same words; the seed only orders its choices. So what a bound of one says of all
         # fills is true for each of them, also if it was told the grade of another one.
-        self.bound, self.reports = min(self.bound, told.bound), told.reports
-        if told.fill and (self.fill is None or (told.fill.grade, told.fill.mean) > (self.fill.grade, self.fill.mean)):
-            self.fill, self.above = told.fill, told.fill.grade + 1
-        self.running -= told.is_over
+        self._bound, self._reports = min(self._bound, told.bound), told.reports
+        if told.fill and (self._fill is None or (told.fill.grade, told.fill.mean) > (self._fill.grade, self._fill.mean)):
+            self._fill, self._above = told.fill, told.fill.grade + 1
+        self._running -= told.is_over
 
-    def watch(self, progress: Optional[Told]) -> None:
-        """Waits until nothing is left to search for, all workers have ended, or `progress` returns a true value."""
-        while self.running and self.bound > self.above:
-            self.take(*self.told.get())
-            if progress and progress(Progress(sum(self.placements), self.fill.grade if self.fill else None, self.bound)):
-                return
-        if self.died and len(self.died) == len(self.placements) and not self.fill:
-            raise self.died[-1]
+    @property
+    def progress(self) -> Progress:
+        return Progress(sum(self._placements), self._fill.grade if self._fill else None, self._bound)
+
+    def end(self) -> None:
+        """Ends all of them at once."""
+        for runner in self._crew:
+            runner.end()
+        # a leg that an executor has begun ends by itself
+        for thread in self._threads if self._executor is None else ():
+            thread.join()
 
     def outcome(self) -> Outcome:
-        answer: Found = "filled" if self.fill else "nofill" if self.bound <= self.least else "limit"
-        fill = self.fill._replace(bound=self.bound) if self.fill else None
-        return Outcome(answer, self.bound, fill, sum(self.placements), self.reports, self.died)
+        """What they have found. Raises `Died` if all died before there was a fill."""
+        if len(self._died) == len(self._seeds) and not self._fill:
+            raise self._died[-1]
+        answer: Found = "filled" if self._fill else "nofill" if self._bound <= self._task.least else "limit"
+        fill = self._fill._replace(bound=self._bound) if self._fill else None
+        return Outcome(answer, self._bound, fill, sum(self._placements), self._reports, self._died)
 
 
 def best(
@@ -227,18 +256,14 @@ def best(
 
     An executor of `concurrent.futures`, or one like it, may have the processes in place of this call. Each of so many searches then sends it legs of 2 to 10
     seconds, one after another, and `progress` is told after each leg. A leg that it loses is searched again."""
-    race, crew, threads = _Race(workers, least), [], []  # type: _Race, List[Union[_Local, _Legs]], List[threading.Thread]
-    task = Task(list_of(words), bytes_of(record), " ".join(map(name_of, lights)), least, limit, seconds)
+    race = Race(Task(list_of(words), bytes_of(record), " ".join(map(name_of, lights)), least, limit, seconds), workers, seed, executor)
+    news: "queue.SimpleQueue[News]" = queue.SimpleQueue()
     try:
-        for number in range(workers):
-            crew.append(_Legs(executor, task, seed + number, workers) if executor else _Local(task, seed + number))
-            threads.append(threading.Thread(target=race.run, args=(number, crew[-1]), daemon=True))
-            threads[-1].start()
-        race.watch(progress)
+        race.begin(news.put)
+        while race.is_running:
+            race.take(news.get())
+            if progress and progress(race.progress):
+                break
     finally:
-        for runner in crew:
-            runner.end()
-        # a leg that an executor has begun ends by itself
-        for thread in threads if executor is None else ():
-            thread.join()
+        race.end()
     return race.outcome()

@@ -205,6 +205,10 @@ class Session:
         """The active words that fit a pattern, with a dot for any letter."""
         return self.line(f"match {pattern}")
 
+    def grade(self, word: str) -> int:
+        """The grade of a known word, active or not. A word that is not known is refused as `Unknown`."""
+        return int(self.line(f"grade {word}")[0])
+
     # ---- the grid
 
     def size(self, width: int, height: int) -> None:

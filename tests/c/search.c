@@ -4,8 +4,9 @@
  *   search WORDS RECORD autofill|best LIMIT STOP SEED [LIGHTS]
  *
  * By the clock of the search each slice takes as long as it may, and each fifth half as long, so that slices have twice as many placements after every five; with
- * the variable PACE each takes so many milliseconds. The search is ended when the function has been called STOP times; 0 for never. It runs in a copy of the
- * session, whose first is closed. The last lines are how the search ended, and the grid.
+ * the variable PACE each takes so many milliseconds. The search is ended when the function has been called STOP times; 0 for never; after the time of the variable
+ * MILLISECONDS, if it is there; and before it begins by a flag, with the variable STOPPED. It runs in a copy of the session, whose first is closed. The last lines
+ * are how the search ended, and the grid.
  */
 #include <xw_lines.h>
 
@@ -65,6 +66,7 @@ int main(int count, char **words) {
     struct xw_asked asked = XW_NOT_ASKED;
     struct xw_search search = XW_SEARCH;
     struct xw_progress progress;
+    struct xw_flag flag = XW_FLAG;
     struct steps steps;
     uint32_t status;
     if (count < 7)
@@ -74,11 +76,16 @@ int main(int count, char **words) {
     steps.is_counted = steps.left > 0;
     search.limit = strtoull(words[4], NULL, 10);
     search.seed = (uint32_t)atoi(words[6]);
-    search.lights = count > 7 ? words[7] : "";
+    search.lights = count > 7 ? words[7] : NULL;
     search.told = told;
     search.clock = paced;
     search.every = getenv("PACE") ? 0 : (uint32_t)SPAN;
     search.data = &steps;
+    search.milliseconds = getenv("MILLISECONDS") ? (uint32_t)atoi(getenv("MILLISECONDS")) : 0;
+    if (getenv("STOPPED")) {
+        search.flag = &flag;
+        xw_stop(&flag);
+    }
     if (status == XW_ACCEPTED)
         status = strcmp(words[3], "best") ? xw_autofill(&xw, &search, &progress) : xw_best(&xw, &search, &progress);
     if (status != XW_ACCEPTED) {

@@ -5,9 +5,11 @@ python3 tests/python/package.py WHEEL [TEST..]
 The package and its library are found by PYTHONPATH and XW_LIBRARY; WHEEL is unpacked and used without them. All tests are run, or the named ones. One that needs
 something that is not installed is skipped. The last line is 'N passed, M failed', and ', K skipped' follows if tests were skipped.
 """
+import asyncio
 import concurrent.futures
 import copy
 import doctest
+import errno
 import fcntl
 import html.parser
 import inspect
@@ -16,6 +18,7 @@ import pathlib
 import pickle
 import random
 import re
+import resource
 import shutil
 import signal
 import subprocess
@@ -31,7 +34,7 @@ import xw.many
 import xw.race
 import xw.slices
 import xw.workers
-from xw import Died, Entry, Fault, Light, Refusal, Session
+from xw import Died, Entry, Fault, Light, Refusal, Session, aio
 
 sys.dont_write_bytecode = True
 TOP = pathlib.Path(__file__).resolve().parents[2]
@@ -220,6 +223,8 @@ def words_in_the_grid_are_judged():
     session.strike("xt")
     assert session.grades(["3 across", (1, "down")]) == [("3 across", None), ("1 down", 40)]
     raises(Refusal, lambda: session.grades(["4 across"]), name="NoLight")
+    assert session.grade("xt") == 40
+    raises(Refusal, lambda: session.grade("XX"), name="Unknown")
     session.clear(1, 2)
     session.clear(2, 1)
     assert session.unmatched() == [("1 across", "X."), ("1 down", "X.")]
@@ -663,6 +668,28 @@ def a_write_that_fails_leaves_the_old_file(room):
     finally:
         os.replace = replaced
     assert path.read_bytes() == before and [it.name for it in room.iterdir()] == ["a.puz"]
+
+
+@test
+def a_full_disk_leaves_the_old_file(room):
+    """A limit of the size of files stands for it: each write ends in the middle."""
+    session = square()
+    session.fill(9)
+    # a puzzle that is replaced, a session that is kept before that, and a new file
+    (room / "a.puz").write_bytes(session.to_puz())
+    (room / "b.xw").write_bytes(b"# xw session 1\nsize 3 3\n" + b"title Another\n" * 20)
+    session.title("New")
+    before = {path.name: path.read_bytes() for path in room.iterdir()}
+    limits = resource.getrlimit(resource.RLIMIT_FSIZE)
+    for name in (*before, "new.xw", "new.puz"):
+        for most in (0, 1, 40):
+            resource.setrlimit(resource.RLIMIT_FSIZE, (most, limits[1]))
+            try:
+                raises(OSError, lambda: session.save(room / name), errno=errno.EFBIG)
+            finally:
+                resource.setrlimit(resource.RLIMIT_FSIZE, limits)
+            assert {path.name: path.read_bytes() for path in room.iterdir()} == before, (name, most)
+    assert session.save(room / "b.xw") == room / "b.xw~"
 
 
 @test
@@ -1135,6 +1162,108 @@ def an_interrupt_ends_a_race(room):
     assert not any(map(is_there, pids_in(path, 2)))
 
 
+async def all_of(filling):
+    return [it async for it in filling]
+
+
+@test
+def puzzles_are_filled_in_a_loop(room):
+    """As fill_many does, in processes and by executors."""
+    for workers in (1, 3):
+        expect_filled(asyncio.run(all_of(aio.fill_many(PUZZLES * 3, SQUARE, workers))), ANSWERS * 3)
+    for executor in (concurrent.futures.ThreadPoolExecutor(2), concurrent.futures.ProcessPoolExecutor(2)):
+        with executor:
+            found = asyncio.run(all_of(aio.fill_many([*PUZZLES * 3, room / "none", PUZZLES[0]], SQUARE, 2, executor=executor)))
+            expect_filled(found, [*ANSWERS * 3, None, "filled"], faulty=[12])
+    assert asyncio.run(all_of(aio.fill_many([], SQUARE))) == []
+    found = asyncio.run(all_of(aio.fill_many([b"size 2 2\n", room / "none", b"frob\n"], SQUARE, limit=0)))
+    expect_filled(found, ["limit", None, None], faulty=[1, 2])
+    raises(ValueError, lambda: asyncio.run(all_of(aio.fill_many([], "words.txt"))))
+    fill_part = xw.many.fill_part
+    xw.many.fill_part = deadly.die
+    try:
+        with concurrent.futures.ProcessPoolExecutor(1) as executor:
+            found = asyncio.run(all_of(aio.fill_many(PUZZLES, SQUARE, 1, executor=executor)))
+    finally:
+        xw.many.fill_part = fill_part
+    expect_filled(found, [None] * 4, faulty=range(4))
+
+
+@test
+def a_race_is_awaited():
+    told = []
+
+    def progress(step):
+        told.append((step, asyncio.get_running_loop() is not None))
+
+    async def ends(step):
+        await asyncio.sleep(0)
+        told.append(step)
+        return True
+
+    found = asyncio.run(aio.best(GRADED, b"size 2 2\nset 9 9 A\n", 2, progress=progress))
+    assert (found.answer, found.bound, found.fill.grade, found.fill.mean, found.is_best) == ("filled", 61, 60, 75, True), found
+    assert found.reports == ("xw: record: line 2: OutOfGrid",) and told[-1] == ((found.placements, 60, 61), True)
+    del told[:]
+    found = asyncio.run(aio.best(many_words(), b"size 6 6\n", 2, progress=ends))
+    assert len(told) == 1 and found.placements == told[0].placements and not found.is_best
+    with concurrent.futures.ProcessPoolExecutor(2) as executor:
+        assert asyncio.run(aio.best(SQUARE, b"size 3 3\n", 2, executor=executor)).answer == "nofill"
+    raises(Refusal, lambda: asyncio.run(aio.best(GRADED, b"size 2 2\n", 2, lights=["9 across"])), name="NoLight")
+    raises(Fault, lambda: asyncio.run(aio.best(GRADED, b"frob\n", 2)), status="NoCommand")
+    raises(ValueError, lambda: asyncio.run(aio.best("words.txt")))
+    step, xw.race.step = xw.race.step, deadly.die
+    try:
+        raises(Died, lambda: asyncio.run(aio.best(GRADED, b"size 2 2\n", 2)), code=-signal.SIGKILL)
+    finally:
+        xw.race.step = step
+
+
+async def cancelled(call, path, count):
+    """The processes of a call, which is cancelled once a file names so many. Meanwhile the loop goes on."""
+    task = asyncio.ensure_future(call)
+    pids = await asyncio.get_running_loop().run_in_executor(None, pids_in, path, count)
+    assert all(map(is_there, pids)) and not task.done()
+    task.cancel()
+    try:
+        await task
+    except asyncio.CancelledError:
+        return pids
+    raise AssertionError("the task is not cancelled")
+
+
+@test
+def a_task_that_is_cancelled_ends_all_workers(room):
+    step = xw.race.step
+    xw.many.fill_one, xw.race.step = deadly.fill_or_die, deadly.step_or_wait
+    waits = [b"# wait %s\n" % os.fsencode(room / "filling")] * 4
+    try:
+        pids = asyncio.run(cancelled(all_of(aio.fill_many([PUZZLES[0], *waits], SQUARE, 2)), room / "filling", 2))
+        pids += asyncio.run(cancelled(aio.best(GRADED, b"title %s\n" % os.fsencode(room / "racing"), 2), room / "racing", 2))
+    finally:
+        xw.many.fill_one, xw.race.step = fill_one, step
+    assert len(set(pids)) == 4 and not any(map(is_there, pids))
+
+
+@test
+def a_loop_that_is_left_in_the_middle_ends_all_workers(room):
+    async def leaves():
+        filling = aio.fill_many([PUZZLES[0], b"# wait %s\n" % os.fsencode(room / "pids")], SQUARE, 2)
+        async for filled in filling:
+            assert filled.answer == "filled"
+            break
+        pids = pids_in(room / "pids", 1)
+        assert is_there(pids[0])
+        await filling.aclose()
+        assert not is_there(pids[0])
+
+    xw.many.fill_one = deadly.fill_or_die
+    try:
+        asyncio.run(leaves())
+    finally:
+        xw.many.fill_one = fill_one
+
+
 @test
 def objects_are_puzzles():
     session = square()
@@ -1176,7 +1305,7 @@ def package_is_typed():
 
 @test
 def documents_run():
-    for name in ("docs/python.md", "python/README.md"):
+    for name in ("docs/python.md", "docs/publishers.md", "docs/list-makers.md", "python/README.md"):
         failed, tried = doctest.testfile(str(TOP / name), module_relative=False)
         assert tried and not failed, name
 

@@ -5,6 +5,7 @@ python3 search.py WORDS RECORD autofill|best LIMIT STOP SEED [LIGHTS]
 The slices of the package go by the clock. This one has the slices of xw_lines.h: twice as many placements after every five.
 """
 import itertools
+import os
 import pathlib
 import sys
 
@@ -32,7 +33,8 @@ def search(session, kind, limit, stop, seed, lights):
         told.append(step)
         return len(told) == stop
 
-    options = {"limit": limit or None, "seed": seed, "lights": lights, "progress": progress, "every": SECONDS}
+    seconds = int(os.environ.get("MILLISECONDS", 0)) / 1000 or None
+    options = {"limit": limit or None, "seed": seed, "lights": lights, "progress": progress, "every": SECONDS, "seconds": seconds}
     if kind == "autofill":
         print(session.autofill(**options))
         return

@@ -40,7 +40,7 @@ COMPLETIONS = {
     "xw.fish": "fish/vendor_completions.d/xw.fish",
 }
 # the documents that others cite are installed too, with their pictures
-MANUAL = ("commands.md", "embedding.md", "formats.md", "front-ends.md", "glossary.md", "performance.md", "promises.md", "python.md",
+MANUAL = ("commands.md", "embedding.md", "formats.md", "front-ends.md", "glossary.md", "list-makers.md", "performance.md", "promises.md", "publishers.md", "python.md",
           "setters.md", "editor.png", "DECISIONS.md")
 # the examples that are programs are installed as such
 PROGRAMS = ("board.py", "fill.py", "library.py", "race.py", "search.py", "test_board.py")

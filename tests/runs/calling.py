@@ -50,6 +50,7 @@ Options:
       --save <FILE>     Write the session here at the end, as commands for --resume
       --journal <FILE>  Append every change here, and resume from it
       --sync            Sync each line of the journal to the device before its answer
+      --progress        Say on standard error how far a long search is, as on a terminal
       --explain         Say in more lines where a fault of a file is, and what it means
   -h, --help            Print help
 """
@@ -224,8 +225,8 @@ CASES = {
         run("edit --dict five.txt", b"add CAT\n", errors=b"xw: five.txt: cannot read\n", status=FAILED),
     ],
     "version_told": [
-        run("--version", output=b"xw 0.2.0 (protocol 1)\n"),
-        run("-V", output=b"xw 0.2.0 (protocol 1)\n"),
+        run("--version", output=b"xw 0.3.0 (protocol 1)\n"),
+        run("-V", output=b"xw 0.3.0 (protocol 1)\n"),
     ],
     # The word list is not replaced by the puzzle, whatever its name; nothing is read before that is told.
     "word_list_kept_apart": [

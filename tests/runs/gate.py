@@ -77,7 +77,7 @@ LIBRARY = {
 }
 PAGE = {
     "types": f"{NODE}, no tsc (Debian package node-typescript)",
-    **dict.fromkeys(("answers", "state", "grids", "new grids", "records", "setting", "formats", "strangers"), NODE),
+    **dict.fromkeys(("told", "state", "grids", "new grids", "records", "setting", "formats", "strangers"), NODE),
     "chromium": f"{NODE}, no chromium (Debian package chromium)",
     "firefox": f"{NODE}, no firefox-esr (Debian package firefox-esr)",
     "example": f"{NODE}, no chromium (Debian package chromium)",

@@ -45,6 +45,8 @@ add FINE 30
 !least 40
 !add FINE 20
 !least 101
+!grade FINE
+!grade GONE
 !grades
 !grades 1 across 1 down
 !grades 99 down
@@ -230,6 +232,7 @@ NEW_PUZ, NEW_TEXT, NEW_XW = {"new.puz": OLD}, {"new.txt": None}, {"new.xw": OLD,
 # Each allocation of these calls is refused: the words of the call, the lines that are typed, and the files that it may write.
 CALLS = {
     "starting": ("edit --dict few", [b"add IT", *STATE], {}),
+    "telling_how_far_searches_are": ("edit --dict few --progress", [b"size 2 2", b"choices 1 across 9", b"best 9", b"fill 9"], {}),
     "starting_over_many_words": ("edit --dict many", [b"add ZZZ"], {}),
     "reading_puz": ("edit --from puzzle", STATE, {}),
     "reading_text": ("edit --from text", STATE, {}),

@@ -68,7 +68,6 @@ LEFT = """
 xw_answers/proofs/Escapes: same_judged
 xw_answers/proofs/Recording: one_line put_line_parts spot_parts
 xw_arguments/proofs/Rows: found_by called no_convert no_check
-xw_bits/proofs/BitRowLemmas: combined_bit
 xw_cli/proofs/Steps: replays explained_so_far resumed unresumed left_told left_untold left_nowhere
 xw_desk/proofs/Checks: not_read
 xw_desk/proofs/Told: reasoned unreasoned
@@ -94,7 +93,6 @@ xw_fill/proofs/NotedLemmas: noted-kept noted-new
 xw_fill/proofs/ReasonLemmas: good_letter
 xw_fill/proofs/ScanLemmas: differ-length
 xw_fill/proofs/SearchLemmas: alive-words
-xw_fill/proofs/StackLemmas: ok_gives
 xw_fill/proofs/SuggestingLemmas: none_past
 xw_fill/proofs/WordsLemmas: next_not_entered
 xw_grid/proofs/ChangeLemmas: lights_are_with
@@ -107,8 +105,6 @@ xw_lines/proofs/Turns: speaks-map
 xw_net/proofs/Edits/ChangeFacts: word_brings_none
 xw_plain/proofs/FlagsLemmas: KeepsBelow-start
 xw_plain/proofs/Strip: StripsUnsupported-start KeepsLettersBelow-start
-xw_session/proofs/DrawnLines: lights-kept on_err silent-drawn line-left
-xw_session/proofs/TextMode: where_done
 xw_session_laws/proofs/JournalFiles: kept_behind
 xw_words/proofs/ColumnLemmas: column_pushed no_column_of
 xw_words/proofs/DictionaryLemmas: matching_steps

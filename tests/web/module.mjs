@@ -98,13 +98,15 @@ async function printedBy(code) {
 }
 
 // The placements of the first slices of a search that makes so many in a millisecond.
-function slicesAt(pace, count, span, limit = Infinity) {
+function slicesAt(pace, count, span, limit = Infinity, milliseconds = Infinity) {
   const { now } = performance;
   let time = 0;
   performance.now = () => time;
   try {
-    const slices = new Slices(limit, span);
-    return range(1, count).map(() => slices.run((placements) => ((time += placements / pace), placements)));
+    const slices = new Slices(limit, span, milliseconds);
+    const sizes = [];
+    while (sizes.length < count && !slices.isOver) sizes.push(slices.run((placements) => ((time += placements / pace), placements)));
+    return sizes;
   } finally {
     performance.now = now;
   }
@@ -218,15 +220,21 @@ const CASES = {
   'a search names an option that is wrong': async () => {
     const xw = Xw.open(module, { list: 'at\n' });
     const isOther = (name, search, names) => ({ name: 'TypeError', message: `${name} is not an option of ${search}, which takes ${names}` });
-    await rejects(autofill(xw, { limits: 5 }), isOther('limits', 'autofill', 'limit, seed, lights, progress, every and signal'));
-    await rejects(autofill(xw, { least: 5 }), isOther('least', 'autofill', 'limit, seed, lights, progress, every and signal'));
-    await rejects(best(xw, { Seed: 5 }), isOther('Seed', 'best', 'limit, seed, lights, progress, every, signal and least'));
+    await rejects(autofill(xw, { limits: 5 }), isOther('limits', 'autofill', 'limit, seed, lights, progress, every, milliseconds, signal and stop'));
+    await rejects(autofill(xw, { least: 5 }), isOther('least', 'autofill', 'limit, seed, lights, progress, every, milliseconds, signal and stop'));
+    await rejects(best(xw, { Seed: 5 }), isOther('Seed', 'best', 'limit, seed, lights, progress, every, milliseconds, signal, stop and least'));
     for (const search of [autofill, best]) {
       for (const limit of [-1, 1.5, NaN, '5', null]) await rejects(search(xw, { limit }), { name: 'RangeError', message: 'limit is not a whole number or Infinity' });
       for (const seed of [-1, 0.5, Infinity, '0']) await rejects(search(xw, { seed }), { name: 'RangeError', message: 'seed is not a whole number' });
       for (const every of [0, -1, Infinity, NaN, '9']) await rejects(search(xw, { every }), { name: 'RangeError', message: 'every is not a number of milliseconds above 0' });
       for (const lights of ['1 across', [1], null]) await rejects(search(xw, { lights }), { name: 'TypeError', message: 'lights is not an array of names of lights' });
       for (const signal of [true, {}, new AbortController()]) await rejects(search(xw, { signal }), { name: 'TypeError', message: 'signal is not an AbortSignal' });
+      for (const milliseconds of [0, -1, NaN, '9', null]) {
+        await rejects(search(xw, { milliseconds }), { name: 'RangeError', message: 'milliseconds is not a number of milliseconds above 0, or Infinity' });
+      }
+      for (const stop of [true, 1, [1], new Int32Array(0), new Uint8Array(4), new SharedArrayBuffer(4)]) {
+        await rejects(search(xw, { stop }), { name: 'TypeError', message: 'stop is not an Int32Array with a number' });
+      }
       for (const progress of [true, {}]) await rejects(search(xw, { progress }), { name: 'TypeError', message: 'progress is not a function' });
       for (const options of [null, 5, 'limit']) await rejects(search(xw, options), { name: 'TypeError', message: `the options of ${search.name} are not an object` });
     }
@@ -244,6 +252,17 @@ const CASES = {
     same(slicesAt(0.01, 3, 100), [1000, 100, 100]);
     same(slicesAt(Infinity, 9, 100), [1000, 2000, 4000, 8000, 16000, 32000, 64000, 100000, 100000]);
     same(slicesAt(10, 3, 100, 2500), [1000, 1000, 500]);
+  },
+  'slices end with their time': () => {
+    same(slicesAt(8, 9, 125, Infinity, 500), [1000, 1000, 1000, 1000]);
+    // the last slice is as long as the time that is left
+    same(slicesAt(12.5, 9, 100, Infinity, 200), [1000, 1250, 250]);
+    same(slicesAt(8, 9, 125, 2500, 500), [1000, 1000, 500]);
+    for (const milliseconds of [1, 125]) same(slicesAt(8, 9, 125, Infinity, milliseconds), [1000]);
+    // those that grow are cut too
+    const sizes = slicesAt(8, 1000, null, Infinity, 20000);
+    const made = sizes.reduce((sum, size) => sum + size);
+    ok(made >= 160000 && made <= 160100, `${made} placements`);
   },
   'slices grow where nothing is told between them': () => {
     const sizes = slicesAt(10, 60, null);
@@ -347,6 +366,44 @@ const CASES = {
       }
     }, reason);
     same(rowsNow(xw), rows);
+  },
+  'a flag ends a search': async () => {
+    for (const search of [autofill, best]) {
+      for (const last of [1, 3]) {
+        const xw = Xw.open(module);
+        const stop = new Int32Array(new SharedArrayBuffer(4));
+        const sent = [];
+        const line = xw.line.bind(xw);
+        // a session whose searches find nothing; the flag is set while one slice runs
+        xw.line = (text) => {
+          if (!/^(autofill|best) /.test(text)) return line(text);
+          if (sent.push(text.split(' ')[1]) === last) Atomics.store(stop, 0, 1);
+          return { lines: ['limit', 'bound 101'].slice(0, text.startsWith('best') ? 2 : 1), ok: true, refusal: null };
+        };
+        ask(xw, 'set', 1, 1, 'a');
+        const told = await search(xw, { stop });
+        same([told.answer ?? told, sent.length, rowsNow(xw)[0]], ['limit', last, `A${'-'.repeat(14)}`]);
+        // a search that is stopped before it begins places nothing
+        await search(xw, { stop });
+        same(sent.slice(last), ['0']);
+      }
+      // and tells what is wrong all the same
+      const stop = Int32Array.of(1);
+      await rejects(search(graded(), { stop, lights: ['9 across'] }), { name: 'Fault', status: 'Refused', answer: 'NoLight' });
+      const closed = graded();
+      closed.close();
+      await rejects(search(closed, { stop }), isClosed);
+    }
+    // a fill that was found stays, under the least grade of the search
+    const [xw, stop] = [graded(), Int32Array.of(0)];
+    let rows = null;
+    for await (const fill of xw.best({ stop, least: 5 })) {
+      rows = [...fill.rows];
+      Atomics.store(stop, 0, 1);
+    }
+    same(rowsNow(xw), rows);
+    ask(xw, 'add', 'zz', 5);
+    same(ask(xw, 'match', 'zz'), ['ZZ']);
   },
   'progress has the fill so far': async () => {
     const xw = graded();

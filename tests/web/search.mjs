@@ -22,6 +22,8 @@ const options = {
   seed: Number(seed),
   lights: lights ? [lights] : [],
   every: process.env.PACE === undefined ? SPAN : undefined,
+  milliseconds: Number(process.env.MILLISECONDS ?? Infinity),
+  stop: process.env.STOPPED ? Int32Array.of(1) : undefined,
   progress: ({ placements, grade, bound }) => {
     console.log(placements, grade ?? -1, bound);
     return ++told === Number(stop);

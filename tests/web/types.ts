@@ -1,5 +1,6 @@
 // What the types of the package take and refuse. It is compiled, and does not run: each line after `@ts-expect-error` must be an error.
 import { Best, Cell, Fill, Xw, ask, best } from 'xw';
+import { RemoteXw } from 'xw/remote.js';
 
 declare const xw: Xw;
 
@@ -35,7 +36,27 @@ export async function last(stop: AbortController): Promise<Fill | null> {
   const end: IteratorResult<Fill, { bound: number }> = await xw.best().next();
   // @ts-expect-error
   xw.best({ signal: stop });
+  await best(xw, { milliseconds: 5000, stop: new Int32Array(new SharedArrayBuffer(4)) });
+  // @ts-expect-error
+  await best(xw, { stop: new SharedArrayBuffer(4) });
   return end.done || told.bound === 101 ? found : end.value;
+}
+
+export async function remote(list: string, worker: Worker): Promise<number | null> {
+  const opened = await RemoteXw.open({ list, worker });
+  const changes: Cell[] = await opened.ask('set', 1, 2, 'a');
+  const grades: (number | null)[] = (await opened.ask('grades', '1 across')).map(({ grade }) => grade);
+  // @ts-expect-error
+  await opened.ask('set', 1, 2);
+  // @ts-expect-error
+  await opened.ask('frob');
+  // @ts-expect-error
+  RemoteXw.open({ lists: list });
+  for await (const { grade, rows } of opened.best({ least: 5, progress: ({ placements }) => placements > 1000 })) if (rows.length) return grade;
+  const end: IteratorResult<Fill, { bound: number }> = await opened.best().next();
+  const [puzzle, found]: [Uint8Array, 'filled' | 'nofill' | 'limit'] = [await opened.puz(), await opened.autofill({ limit: 5 })];
+  opened.close();
+  return end.done || changes.length || found === 'filled' ? puzzle.length : grades[0];
 }
 
 xw[Symbol.dispose]();
