@@ -14,7 +14,7 @@ use Rattle.std.proofs.lemmas.List.FromFn.{get_or-map-range_with_len}
 use Rattle.std.proofs.lemmas.List.Elements.{filter_more}
 use Rattle.std.proofs.lemmas.List.Folds.{list_any_at}
 use Rattle.std.proofs.lemmas.List.Sums.{length-filter, count_by-le-length}
-use Rattle.std.proofs.lemmas.Nat.Bits.{bit_at_set_same, bit_at_set_other, bit_at_clear_same, bit_at_clear_other, bit_at_ones, bit_at_and, bit_at_or, bit_at-lt, bit_at-zero, same_from_bits_below}
+use Rattle.std.proofs.lemmas.Nat.Bits.{bit_at_set_same, bit_at_set_other, bit_at_clear_same, bit_at_clear_other, bit_at_ones, bit_at_and, bit_at_or, bit_at-lt, bit_at-zero, bit_at_not, same_from_bits_below}
 use Rattle.xw_letters.specs.Letter.{IsLetter, alphabet, is_capital}
 use Rattle.xw_letters.specs.LetterSet.{has, letters_in, letters_from}
 
@@ -156,6 +156,34 @@ has-with a b letter =
 pub with-small : (a b : ℕ) → a < 2 ^ 26 → b < 2 ^ 26 → bit_or a b < 2 ^ 26
 with-small a b small_a small_b = or_lt 26 a b small_a small_b
 
+rest_of_bits : (m n : ℕ) → m < 2 → n < 2 → eqb (min m (1 - n)) 1 ≡ (eqb m 1 && not (eqb n 1))
+rest_of_bits m n hm hn = elim (bit_is_one m hm) [
+  | inl e ↦ elim (bit_is_one n hn) [ inl f ↦ rw (e, f) refl | inr f ↦ rw (e, f) refl ]
+  | inr e ↦ elim (bit_is_one n hn) [ inl f ↦ rw (e, f) refl | inr f ↦ rw (e, f) refl ]
+]
+
+pub has-without : (a b letter : ℕ) → b < 2 ^ 26 → has (bit_and a (bit_not w32 b)) letter ≡ (has a letter && not (has b letter))
+has-without a b letter small =
+    elim (cases_Bool (is_capital letter)) [
+      | inl is ↦
+          let at = capital_is_letter letter is in
+          rw is (ap (λ n. eqb n 1) (bit_at_and a (bit_not w32 b) (letter - 65) ∙ ap (min (bit_at a (letter - 65))) (bit_at_not w32 b (letter - 65) (omega (arith, small)) (omega (arith, at.1))))
+          ∙ rest_of_bits (bit_at a (letter - 65)) (bit_at b (letter - 65)) (bit_at-lt a (letter - 65)) (bit_at-lt b (letter - 65)))
+      | inr none ↦ rw none refl
+    ]
+
+pub without-small : (a b n : ℕ) → a < n → bit_and a (bit_not w32 b) < n
+without-small a b n small = omega (arith, and_le_l a (bit_not w32 b))
+
+-- a set with a letter less is a smaller number
+pub without-less : (a b letter : ℕ) → b < 2 ^ 26 → has a letter ≡ true → has b letter ≡ true → bit_and a (bit_not w32 b) < a
+without-less a b letter small in_a in_b =
+    let new = bit_and a (bit_not w32 b) in
+    let gone : has new letter ≡ false = has-without a b letter small ∙ ap (λ t. has a letter && not t) in_b ∙ sym (and-false (has a letter)) in
+    let apart : new ≢ a = λ e. false≢true (sym gone ∙ ap (λ n. has n letter) e ∙ in_a) in
+    let most : new ≤ a = and_le_l a (bit_not w32 b) in
+    omega arith
+
 pub has-none : (letter : ℕ) → has 0 letter ≡ false
 has-none letter =
     elim (cases_Bool (is_capital letter)) [
@@ -275,7 +303,7 @@ letters_from-end set index past = ap (filter (has set)) (drop_all index alphabet
 
 pub ruleset walking_steps = (letters_from-next, letters_from-other, letters_from-end)
 
-pub ruleset set_steps = (letter_is_capital, has-all, has-common, has-with, with-small, has-none, is_same-letters)
+pub ruleset set_steps = (letter_is_capital, has-all, has-common, has-with, has-without, with-small, without-small, without-less, has-none, is_same-letters)
 
 -- a set has at most 26 letters
 pub few_letters : (set : ℕ) → length (letters_in set) ≤ 26

@@ -101,6 +101,17 @@ impl LetterSet {
         }
     }
 
+    /// The letters of this set that are not in the other.
+    #[tactic(auto, using(crate::proofs::LetterSetLemmas::set_steps))]
+    pub fn without(self, other: LetterSet) -> LetterSet
+        ensures rest { (letter : ℕ) → has result letter ≡ (has self letter && not (has other letter)) }
+        ensures fewer { (letter : ℕ) → has self letter ≡ true → has other letter ≡ true → result < self }
+    {
+        LetterSet {
+            bits: self.bits & !other.bits,
+        }
+    }
+
     /// Whether the two sets have the same letters.
     #[tactic(auto, using(crate::proofs::LetterSetLemmas::set_steps))]
     pub fn is_same(self, other: LetterSet) -> bool

@@ -11,8 +11,8 @@ pub mod EndOfStripping
 pub mod LeftByStripping
 pub mod DroppedLetters
 pub mod PassedLights
-pub mod EmptiedCells
-pub mod EmptiedAtOnce
+pub mod DroppedSets
+pub mod DroppedAtOnce
 pub mod NotedLight
 pub mod DeadLights
 pub mod ReadyNets

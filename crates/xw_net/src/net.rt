@@ -165,7 +165,14 @@ impl Net {
 
     /// Makes letters that were removed from a cell pending for a light through it, and queues the
     /// light.
-    fn leave_all_pending(&mut self, board: &Board<'_>, light: usize, cell: usize, gone: LetterSet)
+    fn leave_all_pending(
+        &mut self,
+        board: &Board<'_>,
+        light: usize,
+        cell: usize,
+        gone: LetterSet,
+        is_urgent: bool,
+    )
         requires shaped { IsShaped board.now self.old }
         requires light { light < length board.now.lights }
         requires cell { cell < length board.now.open_cells }
@@ -180,27 +187,33 @@ impl Net {
         let slot = 2 * cell + side(&board.light(light));
         let pending = self.pending[slot];
         self.pending[slot] = pending.with(gone);
-        self.queue.insert_urgent(light, true);
+        self.queue.insert_urgent(light, is_urgent);
     }
 
-    /// Removes all letters of a cell, and makes them pending for the crossing light. `_first` is one
-    /// of them.
-    fn empty_position(&mut self, board: &Board<'_>, here: Position, _first: Letter)
+    /// Removes letters from a cell, at least one, and makes them pending for the crossing light.
+    pub(crate) fn drop_letters(
+        &mut self,
+        board: &Board<'_>,
+        here: Position,
+        gone: LetterSet,
+        is_urgent: bool,
+    )
         requires shaped { IsShaped board.now self.old }
         requires there { IsThere board.now here }
-        requires stood { letter_stands self.old here.cell _first ≡ true }
+        requires stood { (letter : ℕ) → has gone letter ≡ true → letter_stands self.old here.cell letter ≡ true }
+        requires some { (letter : ℕ) × (has gone letter ≡ true) }
         ensures shaped { IsShaped board.now self.new }
         ensures rest { IsLeft self.old self.new }
         ensures same { IsStruckFrom self.old self.new }
         ensures fewer { left_of self.new ≤ left_of self.old }
         ensures waits { WaitMore self.old self.new }
-        ensures letters { (cell letter : ℕ) → letter_stands self.new cell letter ≡ (letter_stands self.old cell letter && not (cell == cell_at board.now here.light here.position)) }
-        ensures leaves { LeavesPending board.now here.light here.position (letter_stands self.old (cell_at board.now here.light here.position)) (marks_of self.old) (marks_of self.new) }
+        ensures letters { (cell letter : ℕ) → letter_stands self.new cell letter ≡ (letter_stands self.old cell letter && not ((cell == cell_at board.now here.light here.position) && has gone letter)) }
+        ensures leaves { LeavesPending board.now here.light here.position (has gone) (marks_of self.old) (marks_of self.new) }
     {
-        let gone = self.letters[here.cell];
-        self.letters[here.cell] = LetterSet::new();
+        let alive = self.letters[here.cell];
+        self.letters[here.cell] = alive.without(gone);
         if let Some(other) = board.crossing(here.light, here.position) {
-            self.leave_all_pending(board, other, here.cell, gone);
+            self.leave_all_pending(board, other, here.cell, gone, is_urgent);
         }
     }
 
@@ -258,9 +271,9 @@ impl Net {
     {
         let here = position_of(board, light, position);
         let alive = self.letters[here.cell];
-        if let Some(first) = alive.next_index(0) {
+        if let Some(_) = alive.next_index(0) {
             if self.rows[light].count() == 0 {
-                self.empty_position(board, here, Letter::at(first));
+                self.drop_letters(board, here, alive, true);
                 return;
             }
         }

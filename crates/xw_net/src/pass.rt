@@ -5,7 +5,7 @@ ghost use Rattle.xw_letters.specs.LetterSet.{has};
 ghost use Rattle.xw_words.specs.Columns.{letter_is};
 ghost use Rattle.xw_words.specs.Dictionary.{known_words};
 ghost use Rattle.xw_feas.specs.Flags.{set_has};
-ghost use Rattle.xw_net.specs.Inner.Passed.{AreLettersOf, AreListed};
+ghost use Rattle.xw_net.specs.Inner.Passed.{AreLettersOf};
 
 use crate::net::Net;
 use crate::position::position_of;
@@ -48,26 +48,6 @@ fn letters_of(bank: &Bank, row: &BitRow, len: usize) -> [LetterSet; FEW_CELLS]
     sets
 }
 
-/// The first letter of a set, by its index in the alphabet from `from` on, that is not in another.
-fn next_unlisted(letters: LetterSet, listed: LetterSet, from: u32) -> Option<u32>
-    ensures set { IfSome result (λ index. (from ≤ index) × (index < 26) × (has letters (65 + index) ≡ true)) }
-    ensures unlisted { IfSome result (λ index. has listed (65 + index) ≡ false) }
-    ensures passed { IfSome result (AreListed letters listed from) }
-    ensures none { IfNone result (AreListed letters listed from 26) }
-{
-    if letters.common(listed).is_same(letters) {
-        return None;
-    }
-    let mut at = from;
-    while let Some(index) = letters.next_index(at) {
-        if !listed.has(Letter::at(index)) {
-            return Some(index);
-        }
-        at = index + 1;
-    }
-    None
-}
-
 impl Net {
     ghost use Rattle.std.specs.Prelude.{◌≡◌, ℕ, ◌<◌, ◌≤◌, true, false, length, slice_index_or};
     ghost use Rattle.xw_words.specs.Dictionary.{known_words};
@@ -97,11 +77,9 @@ impl Net {
         ensures kept { ListsOn board.now light position listed self.old self.new }
     {
         let here = position_of(board, light, position);
-        let alive = self.letters[here.cell];
-        let mut from = 0;
-        while let Some(number) = next_unlisted(alive, listed, from) {
-            self.drop_letter(board, here, Letter::at(number));
-            from = number + 1;
+        let gone = self.letters[here.cell].without(listed);
+        if let Some(_) = gone.next_index(0) {
+            self.drop_letters(board, here, gone, false);
         }
     }
 

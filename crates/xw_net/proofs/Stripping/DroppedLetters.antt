@@ -1,12 +1,12 @@
 -- A letter that no word of a light has is removed from a cell of the light.
-use Rattle.std.proofs.Common.{◌≡◌, ℕ, ◌-◌, ◌/◌, ◌≤◌, Bool, true, false, not, ◌&&◌, cond, eqb, ltb, refl, sym, ap, ◌∙◌, inl, inr, arith}
+use Rattle.std.proofs.Common.{◌≡◌, ℕ, ◌-◌, ◌/◌, ◌≤◌, Bool, true, false, not, ◌&&◌, cond, eqb, ltb, refl, sym, ap, ◌∙◌, inl, inr}
 use Rattle.std.proofs.lemmas.Bool.{both_ways, false_from_ne_true, and_parts, or_cases, or_left, or_right, lt-ltb, le-ltb}
 use Rattle.xw_letters.specs.Letter.{IsLetter}
 use Rattle.xw_words.specs.Dictionary.{Dictionary}
 use Rattle.xw_feas.specs.Board.{Board}
-use Rattle.xw_net.specs.Marks.{Marks, IsPositionIn, cell_at, slot_at, known, puts, AreSlotsApart, Drops}
+use Rattle.xw_net.specs.Marks.{Marks, IsPositionIn, cell_at, AreSlotsApart}
 use Rattle.xw_net.specs.Due.{Measure, IsUnderway, and_light, chunks}
-use Rattle.xw_net.specs.Nets.{marks_of, word_stands, letter_stands, held_in, restart_in, queued_in}
+use Rattle.xw_net.specs.Nets.{word_stands, held_in, restart_in}
 use Rattle.xw_net.specs.Steps.{IsStruckFrom}
 use Rattle.xw_net.specs.declared.net.Net.{Net}
 use Rattle.xw_net.proofs.Costs.DueTicks.{IsFrom}
@@ -66,23 +66,3 @@ module _ (old new : Net) (same : IsStruckFrom old new) where
   pub restart_struck : (s d : ℕ) → restart_in new s d ≡ restart_in old s d
   unfolding restart_in
   restart_struck s d = ap (λ (net : Net). restart_in net s d) same
-
--- it costs nothing if no search looked for a word
-module _ (board : Board) (dictionary : Dictionary) (apart : AreSlotsApart board) where
-  pub unlisted_under : (old new : Net) (i q b : ℕ) → IsPositionIn board i q → IsLetter b → IsStruckFrom old new → letter_stands old (cell_at board i q) b ≡ true → Drops board i q b (marks_of old) (marks_of new)
-      → ((k : ℕ) → word_stands old i k ≡ true → puts board dictionary i q b k ≡ true → ⊥) → (measure : Measure) (ticks : ℕ) → measure.member i ≡ true
-      → IsUnderway board dictionary measure (marks_of old) (and_light (queued_in old) i) ticks → IsUnderway board dictionary measure (marks_of new) (and_light (queued_in new) i) ticks
-  unlisted_under old new i q b position letter same stood drops none measure ticks in_set =
-      let n = known board dictionary i in
-      let s = slot_at board i q in
-      dropped_under board dictionary apart (marks_of old) (marks_of new) i q b (from_of n (held_in old s b) (restart_in old s b)) position letter
-      (record {
-        words = words_struck old new same;
-        held = held_struck old new same;
-        restart = restart_struck old new same;
-        stood = stood;
-        drops = drops;
-        no_word = none;
-        from_is = from_is n (held_in old s b) (restart_in old s b);
-      })
-      measure ticks ticks in_set (omega arith)

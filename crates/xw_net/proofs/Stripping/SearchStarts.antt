@@ -55,13 +55,13 @@ emptied sets slot empty within none at b gone =
       | inr n ↦ ap (λ s. has s b) (get_or-set_other sets slot at empty 0 n) ∙ gone n
     ]
 
--- the set at a slot loses all letters
-pub without_all : (sets : List ℕ) (slot empty : ℕ) → slot < length sets → empty ≡ 0 → (at other : ℕ) → set_has (set sets slot empty) at other ≡ (set_has sets at other && not (eqb at slot))
-without_all sets slot empty within none at other =
-    set_has-set sets slot empty (λ o b. false) within (λ o. ap (λ s. has s o) none ∙ has-none o) at other ∙ parts (eqb at slot) (set_has sets at other) where
-      parts : (here stood : Bool) → cond here false stood ≡ (stood && not here)
-      parts true true = refl
-      parts true false = refl
+-- the set at a slot loses the letters of another
+pub without_letters : (sets : List ℕ) (slot new gone : ℕ) → slot < length sets → ((other : ℕ) → has new other ≡ (set_has sets slot other && not (has gone other))) → (at other : ℕ)
+    → set_has (set sets slot new) at other ≡ (set_has sets at other && not (eqb at slot && has gone other))
+without_letters sets slot new gone within each at other =
+    set_has-set sets slot new (λ o b. b && not (has gone o)) within each at other ∙ parts (eqb at slot) (set_has sets at other) where
+      parts : (here stood : Bool) → cond here (stood && not (has gone other)) stood ≡ (stood && not (here && has gone other))
+      parts true stood = refl
       parts false true = refl
       parts false false = refl
 

@@ -1,7 +1,6 @@
 -- The letters that the words of a row have.
-use Rattle.std.specs.Prelude.{◌≡◌, ℕ, ◌+◌, ◌<◌, ◌≤◌, true, Bool, List}
+use Rattle.std.specs.Prelude.{◌≡◌, ℕ, true, Bool, List}
 use Rattle.xw_words.specs.Dictionary.{Entry}
-use Rattle.xw_letters.specs.LetterSet.{has}
 use Rattle.xw_feas.specs.Flags.{set_has}
 use Rattle.xw_net.specs.Support.{supports}
 
@@ -9,7 +8,3 @@ use Rattle.xw_net.specs.Support.{supports}
 pub record AreLettersOf (row : List Bool) (words : List Entry) (sets : List ℕ) : Type 0 where
   pub some_has : (position letter : ℕ) → set_has sets position letter ≡ true → (word : ℕ) × (supports row words position letter word ≡ true)
   pub all_of : (position letter word : ℕ) → supports row words position letter word ≡ true → set_has sets position letter ≡ true
-
--- each letter of one set, from one index in the alphabet on, and below another, is in the other set
-abbrev pub AreListed : ℕ → ℕ → ℕ → ℕ → Type 0
-AreListed letters listed from end = (index : ℕ) → from ≤ index → index < end → has letters (65 + index) ≡ true → has listed (65 + index) ≡ true

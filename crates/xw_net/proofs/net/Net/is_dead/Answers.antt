@@ -4,7 +4,7 @@ use Rattle.std.proofs.lemmas.List.{get_or_default}
 use Rattle.std.proofs.lemmas.Option.{slice_get_read}
 use Rattle.xw_net.specs.Nets.{bits_at}
 use Rattle.xw_net.proofs.BaseRows.ClearRows.{none_set}
-use Rattle.xw_net.proofs.Stripping.EmptiedCells.{no_words}
+use Rattle.xw_net.proofs.Stripping.DroppedSets.{no_words}
 use Rattle.std.proofs.lemmas.Bool.{both_ways}
 use Rattle.std.proofs.lemmas.List.{get_or_past}
 use Rattle.std.proofs.lemmas.List.Sums.{sum_by-cons}

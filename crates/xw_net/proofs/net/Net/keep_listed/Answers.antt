@@ -1,13 +1,12 @@
-use Rattle.std.proofs.Common.{◌≡◌, ◌≢◌, ◌+◌, ◌-◌, ℕ, Bool, true, false, not, ◌&&◌, eqb, get_or, refl, sym, ap, ◌∙◌, subst, inl, inr, arith}
-use Rattle.std.proofs.lemmas.Bool.{cases_lt, both_ways, and_parts, and_from, and_right, eq-eqb, ne_eqb, not_from_true}
+use Rattle.std.proofs.Common.{◌≡◌, ℕ, ◌+◌, ◌-◌, Bool, true, false, not, ◌&&◌, eqb, get_or, refl, sym, ap, ◌∙◌, subst, arith}
+use Rattle.std.proofs.lemmas.Bool.{both_ways, and_parts, eq-eqb}
 use Rattle.std.proofs.lemmas.List.{get_or_default}
-use Rattle.xw_letters.specs.Letter.{IsLetter}
 use Rattle.xw_letters.specs.LetterSet.{has}
-use Rattle.xw_net.specs.Marks.{cell_at, Drops}
-use Rattle.xw_net.specs.Nets.{marks_of, letter_stands}
+use Rattle.xw_net.specs.Due.{IsUnderway, and_light}
+use Rattle.xw_net.specs.Marks.{cell_at, puts}
+use Rattle.xw_net.specs.Nets.{marks_of, letter_stands, word_stands, queued_in}
 use Rattle.xw_net.specs.declared.net.Net.{Net}
-use Rattle.xw_net.proofs.Stripping.DroppedLetters.{struck_struck, words_struck, unlisted_under}
-use Rattle.xw_net.proofs.Stripping.LeftByStripping.{left_left, left_same}
+use Rattle.xw_net.proofs.Stripping.DroppedSets.{still_under}
 use Rattle.xw_net.proofs.Stripping.StruckRows.{set_letter}
 use Rattle.xw_net.proofs.net.Net.keep_listed.Goals as goal
 
@@ -16,108 +15,73 @@ stood_there : (net : Net) (cell letter : ℕ) → letter_stands net cell letter 
 unfolding letter_stands
 stood_there net cell letter = refl
 
-not_both : (b : Bool) → not (b && false) ≡ true
-not_both true = refl
-not_both false = refl
+-- a letter goes where it stood and is not listed
+listed_if_left : (alive listed gone here : Bool) → gone ≡ (alive && not listed) → here ≡ true → (alive && not (here && gone)) ≡ true → listed ≡ true
+listed_if_left true true gone here goes at is = refl
+listed_if_left true false gone here goes at is = absurd (both_ways (not (here && gone)) (ap (λ b. not (b && gone)) at ∙ ap not goes) is)
+listed_if_left false listed gone here goes at is = absurd (both_ways false refl is)
 
-pub drop_letter-requires-clause-stood : goal.drop_letter-requires-clause-stood
-drop_letter-requires-clause-stood c =
-    c.loop-number.invariant.left c.at.result (omega (arith, c.at.ensures, c.in-Some.ensures.set.0)) (ap (has c.index-alive.result.now) c.at.ensures ∙ c.in-Some.ensures.set.2)
+listed_if_stays : (alive listed gone : Bool) → gone ≡ (alive && not listed) → gone ≡ false → alive ≡ true → listed ≡ true
+listed_if_stays alive true gone goes stays is = refl
+listed_if_stays true false gone goes stays is = absurd (both_ways gone stays goes)
+listed_if_stays false false gone goes stays is = is
 
-pub loop-number-init : goal.loop-number-init
-loop-number-init c = record {
-  within = omega arith;
-  shaped = c.requires.shaped;
-  rest = left_same _;
-  same = refl;
-  fewer = omega arith;
-  waits = λ other w. w;
-  pending = λ slot letter pends. inl pends;
-  alive = λ cell letter alive. alive;
-  left = λ letter past is. stood_there c.args.self.now c.position_of-here.result.cell letter ∙ ap (λ s. has s letter)
-      (sym (c.index-alive.ensures ∙ get_or_default c.args.self.now.letters.items c.position_of-here.result.cell c.index-alive.result.now 0 (omega (arith, c.position_of-here.ensures.in_board, c.requires.shaped.letters)))) ∙ is;
-  listed = λ letter lt alive. absurd (omega (arith, lt, (set_letter (get_or c.args.self.now.letters.items (cell_at c.args.board.now c.args.light c.args.position) 0) letter (sym (stood_there c.args.self.now (cell_at c.args.board.now c.args.light c.args.position) letter) ∙ alive)).0));
-  kept = λ dictionary measure ticks apart in_set has_it under. under;
-}
+unlisted_if_gone : (alive listed gone : Bool) → gone ≡ (alive && not listed) → gone ≡ true → listed ≡ false
+unlisted_if_gone alive false gone goes is = refl
+unlisted_if_gone true true gone goes is = absurd (both_ways gone goes is)
+unlisted_if_gone false true gone goes is = absurd (both_ways gone goes is)
 
-pub loop-number-preserved : goal.loop-number-preserved
-loop-number-preserved c =
-    let inv = c.loop-number.invariant in
-    let d = c.drop_letter.ensures in
+pub drop_letters-requires-clause-stood : goal.drop_letters-requires-clause-stood
+drop_letters-requires-clause-stood c letter goes =
+    let net = c.args.self.now in
+    let cell = c.position_of-here.result.cell in
+    let alive_is = c.index.ensures ∙ get_or_default net.letters.items cell c.index.result.now 0 (omega (arith, c.position_of-here.ensures.in_board, c.requires.shaped.letters)) in
+    stood_there net cell letter ∙ ap (λ s. has s letter) (sym alive_is) ∙ (and_parts (has c.index.result.now letter) (not (has c.args.listed letter)) (sym (c.without-gone.ensures.rest letter) ∙ goes)).0
+
+pub returns-in-Some-clause-listed : goal.returns-in-Some-clause-listed
+returns-in-Some-clause-listed c letter alive =
+    let old = c.args.self.now in
+    let there = c.position_of-here.ensures in
+    let here = c.position_of-here.result in
+    let at = cell_at c.args.board.now c.args.light c.args.position in
+    let alive_is = c.index.ensures ∙ get_or_default old.letters.items here.cell c.index.result.now 0 (omega (arith, there.in_board, c.requires.shaped.letters)) in
+    let stood : letter_stands old at letter ≡ has c.index.result.now letter = stood_there old at letter ∙ ap (λ n. has (get_or old.letters.items n 0) letter) (sym there.cell) ∙ ap (λ s. has s letter) (sym alive_is) in
+    listed_if_left (letter_stands old at letter) (has c.args.listed letter) (has c.without-gone.result letter) (eqb at (cell_at c.args.board.now here.light here.position))
+    (c.without-gone.ensures.rest letter ∙ ap (λ b. b && not (has c.args.listed letter)) (sym stood))
+    (eq-eqb at (cell_at c.args.board.now here.light here.position) (sym there.cell ∙ there.there.cell))
+    (sym (c.drop_letters.ensures.letters at letter) ∙ alive)
+
+pub returns-in-Some-clause-kept : goal.returns-in-Some-clause-kept
+returns-in-Some-clause-kept c dictionary measure ticks apart in_set has_it under =
+    let old = c.args.self.now in
+    let new = c.drop_letters.new.self in
     let board = c.args.board.now in
-    let old = c.loop-number.self in
-    let new = c.drop_letter.new.self in
+    let e = c.drop_letters.ensures in
     let here = c.position_of-here.result in
     let there = c.position_of-here.ensures in
-    let at = cell_at c.args.board.now c.args.light c.args.position in
-    let b = c.at.result in
-    let number = c.in-Some.number in
-    let set_is : c.index-alive.result.now ≡ get_or c.args.self.now.letters.items (cell_at c.args.board.now c.args.light c.args.position) 0 =
-    c.index-alive.ensures ∙ get_or_default c.args.self.now.letters.items c.position_of-here.result.cell c.index-alive.result.now 0 (omega (arith, there.in_board, c.requires.shaped.letters))
-    ∙ ap (λ n. get_or c.args.self.now.letters.items n 0) there.cell in
-    let drops : Drops c.args.board.now c.args.light c.args.position c.at.result (marks_of c.loop-number.self) (marks_of c.drop_letter.new.self) =
-    subst (λ n. Drops c.args.board.now n c.args.position c.at.result (marks_of c.loop-number.self) (marks_of c.drop_letter.new.self)) there.light
-    (subst (λ n. Drops c.args.board.now c.position_of-here.result.light n c.at.result (marks_of c.loop-number.self) (marks_of c.drop_letter.new.self)) there.position d.drops) in
-    let was : (cell letter : ℕ) → letter_stands c.drop_letter.new.self cell letter ≡ true → letter_stands c.loop-number.self cell letter ≡ true = λ cell letter alive.
-    (and_parts (letter_stands old cell letter) (not (eqb cell at && eqb letter b)) (sym (drops.letters cell letter) ∙ alive)).0 in
-    let stood : letter_stands c.loop-number.self (cell_at c.args.board.now c.args.light c.args.position) c.at.result ≡ true =
-    ap (λ n. letter_stands old n b) (sym there.cell) ∙ drop_letter-requires-clause-stood c.before in
-    let gone : letter_stands c.drop_letter.new.self (cell_at c.args.board.now c.args.light c.args.position) c.at.result ≡ false =
-    drops.letters at b ∙ and_right (letter_stands old at b) (not (eqb at at && eqb b b)) (not_from_true (eqb at at && eqb b b) (and_from (eqb at at) (eqb b b) (eq-eqb at at refl) (eq-eqb b b refl))) in
-    record {
-      within = omega (arith, c.in-Some.ensures.set.1);
-      shaped = d.shaped;
-      rest = left_left inv.rest d.rest;
-      same = struck_struck c.args.self.now old new inv.same d.same;
-      fewer = omega (arith, inv.fewer, d.fewer);
-      waits = λ other w. d.waits other (inv.waits other w);
-      pending = λ slot letter pends. elim (drops.pending_new slot letter pends) [
-        | inl before ↦ inv.pending slot letter before
-        | inr now ↦ inr (now.1.0, now.1.1, now.1.2.position_there, now.1.3)
-      ];
-      alive = λ cell letter alive. inv.alive cell letter (was cell letter alive);
-      left = λ letter past is.
-          let apart : letter ≢ c.at.result = λ e. absurd (omega (arith, e, past, c.at.ensures)) in
-          drops.letters here.cell letter
-          ∙ and_from (letter_stands old here.cell letter) (not (eqb here.cell at && eqb letter b)) (inv.left letter (omega (arith, past, c.in-Some.ensures.set.0)) is)
-          (ap (λ t. not (eqb here.cell at && t)) (ne_eqb letter b apart) ∙ not_both (eqb here.cell at));
-      listed = λ letter lt alive.
-          elim (cases_lt letter (65 + c.loop-number.from)) [
-            | inl done ↦ inv.listed letter done (was at letter alive)
-            | inr from ↦ elim (cases_lt letter (65 + c.in-Some.number)) [
-              | inl passed ↦
-                  let back : 65 + (letter - 65) ≡ letter = omega (arith, from) in
-                  let start : letter_stands c.args.self.now (cell_at c.args.board.now c.args.light c.args.position) letter ≡ true = inv.alive at letter (was at letter alive) in
-                  ap (has c.args.listed) (sym back)
-                  ∙ c.in-Some.ensures.passed (letter - 65) (omega (arith, from)) (omega (arith, from, passed))
-                  (ap (has c.index-alive.result.now) back ∙ ap (λ s. has s letter) set_is ∙ sym (stood_there c.args.self.now at letter) ∙ start)
-              | inr on ↦
-                  let is : c.at.result ≡ letter = omega (arith, c.at.ensures, lt, on) in
-                  absurd (both_ways (letter_stands new at letter) (ap (letter_stands new at) (sym is) ∙ gone) alive)
-            ]
-          ];
-      kept = λ dictionary measure ticks apart in_set has_it under.
-          let is_letter : IsLetter c.at.result = set_letter (get_or old.letters.items at 0) b (sym (stood_there old at b) ∙ stood) in
-          unlisted_under board dictionary apart old new c.args.light c.args.position b c.requires.position is_letter d.same stood drops
-          (λ k stands has_letter. both_ways (has c.args.listed b) (ap (has c.args.listed) c.at.ensures ∙ c.in-Some.ensures.unlisted) (has_it b k (inv.alive at b stood) (sym (words_struck c.args.self.now old inv.same c.args.light k) ∙ stands) has_letter))
-          measure ticks in_set (inv.kept dictionary measure ticks apart in_set has_it under);
-    }
+    let stood : (letter : ℕ) → has c.without-gone.result letter ≡ true → letter_stands old (cell_at c.args.board.now here.light here.position) letter ≡ true = λ letter goes.
+    ap (λ n. letter_stands old n letter) (sym there.there.cell) ∙ drop_letters-requires-clause-stood c.before letter goes in
+    let none : (letter k : ℕ) → has c.without-gone.result letter ≡ true → word_stands old here.light k ≡ true → puts c.args.board.now dictionary here.light here.position letter k ≡ true → ⊥ = λ letter k goes stands has_letter.
+    both_ways (has c.args.listed letter)
+    (unlisted_if_gone (has c.index.result.now letter) (has c.args.listed letter) (has c.without-gone.result letter) (c.without-gone.ensures.rest letter) goes)
+    (has_it letter k
+    (ap (λ n. letter_stands old n letter) (sym there.cell) ∙ drop_letters-requires-clause-stood c.before letter goes)
+    (ap (λ n. word_stands old n k) (sym there.light) ∙ stands)
+    (ap (λ n. puts board dictionary n c.args.position letter k) (sym there.light) ∙ ap (λ n. puts board dictionary here.light n letter k) (sym there.position) ∙ has_letter)) in
+    subst (λ n. measure.member n ≡ true → IsUnderway c.args.board.now dictionary measure (marks_of c.args.self.now) (and_light (queued_in c.args.self.now) n) ticks
+    → IsUnderway c.args.board.now dictionary measure (marks_of c.drop_letters.new.self) (and_light (queued_in c.drop_letters.new.self) n) ticks) there.light
+    (still_under board dictionary apart old new here.light here.position (has c.without-gone.result) there.there.position e.same e.letters e.leaves stood none (65 + c.in-Some.field-0) c.in-Some.ensures.set.2 measure ticks)
+    in_set under
 
-pub returns-clause-listed : goal.returns-clause-listed
-returns-clause-listed c letter alive =
-    let inv = c.loop-number.invariant in
+pub returns-in_default-clause-listed : goal.returns-in_default-clause-listed
+returns-in_default-clause-listed c letter alive =
+    let old = c.args.self.now in
+    let there = c.position_of-here.ensures in
+    let here = c.position_of-here.result in
     let at = cell_at c.args.board.now c.args.light c.args.position in
-    let last = c.loop-number.self in
-    let set_is : c.index-alive.result.now ≡ get_or c.args.self.now.letters.items (cell_at c.args.board.now c.args.light c.args.position) 0 =
-    c.index-alive.ensures ∙ get_or_default c.args.self.now.letters.items c.position_of-here.result.cell c.index-alive.result.now 0 (omega (arith, c.position_of-here.ensures.in_board, c.requires.shaped.letters))
-    ∙ ap (λ n. get_or c.args.self.now.letters.items n 0) c.position_of-here.ensures.cell in
-    elim (cases_lt letter (65 + c.loop-number.from)) [
-      | inl done ↦ inv.listed letter done alive
-      | inr from ↦
-          let small = set_letter (get_or last.letters.items at 0) letter (sym (stood_there last at letter) ∙ alive) in
-          let back : 65 + (letter - 65) ≡ letter = omega (arith, from) in
-          let start : letter_stands c.args.self.now (cell_at c.args.board.now c.args.light c.args.position) letter ≡ true = inv.alive at letter alive in
-          ap (has c.args.listed) (sym back)
-          ∙ c.in_default.ensures.none (letter - 65) (omega (arith, from)) (omega (arith, from, small.1))
-          (ap (has c.index-alive.result.now) back ∙ ap (λ s. has s letter) set_is ∙ sym (stood_there c.args.self.now at letter) ∙ start)
-    ]
+    let alive_is = c.index.ensures ∙ get_or_default old.letters.items here.cell c.index.result.now 0 (omega (arith, there.in_board, c.requires.shaped.letters)) in
+    let stood : letter_stands old at letter ≡ has c.index.result.now letter = stood_there old at letter ∙ ap (λ n. has (get_or old.letters.items n 0) letter) (sym there.cell) ∙ ap (λ s. has s letter) (sym alive_is) in
+    let small = set_letter (get_or old.letters.items at 0) letter (sym (stood_there old at letter) ∙ alive) in
+    let back : 65 + (letter - 65) ≡ letter = omega (arith, small.0) in
+    listed_if_stays (has c.index.result.now letter) (has c.args.listed letter) (has c.without-gone.result letter) (c.without-gone.ensures.rest letter)
+    (ap (has c.without-gone.result) (sym back) ∙ c.in_default.ensures.none (letter - 65) (omega arith)) (sym stood ∙ alive)

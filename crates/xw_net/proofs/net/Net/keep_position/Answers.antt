@@ -1,5 +1,5 @@
-use Rattle.std.proofs.Common.{◌≡◌, ◌<◌, ◌+◌, ◌-◌, ◌*◌, ℕ, Bool, List, true, false, length, get_or, refl, sym, ap, ◌∙◌, subst, inl, inr, arith}
-use Rattle.std.proofs.lemmas.Bool.{cases_lt}
+use Rattle.std.proofs.Common.{◌≡◌, ◌<◌, ◌+◌, ◌-◌, ◌*◌, ℕ, Bool, List, true, false, not, ◌&&◌, eqb, length, get_or, refl, sym, ap, ◌∙◌, subst, inl, inr, arith}
+use Rattle.std.proofs.lemmas.Bool.{cases_lt, both_ways, eq-eqb}
 use Rattle.std.proofs.lemmas.List.{get_or_default}
 use Rattle.xw_letters.specs.LetterSet.{has}
 use Rattle.xw_words.specs.Dictionary.{Dictionary}
@@ -13,7 +13,7 @@ use Rattle.xw_net.specs.declared.net.Net.{Net}
 use Rattle.std.proofs.lemmas.Option.{slice_get_read}
 use Rattle.xw_net.proofs.Stripping.KeptSupports.{held_in_row}
 use Rattle.xw_net.proofs.BaseRows.ClearRows.{none_set}
-use Rattle.xw_net.proofs.Stripping.EmptiedCells.{no_words, still_held, alive_before, still_holding, still_under, pends_at}
+use Rattle.xw_net.proofs.Stripping.DroppedSets.{no_words, still_held, alive_before, still_holding, still_under, pends_at}
 use Rattle.xw_net.proofs.net.Net.keep_position.Goals as goal
 
 -- each letter at the start is among those the loop visits
@@ -28,6 +28,15 @@ stood_there : (net : Net) (cell letter : ℕ) → letter_stands net cell letter 
 unfolding letter_stands
 stood_there net cell letter stands = stands
 
+set_there : (net : Net) (cell letter : ℕ) → letter_stands net cell letter ≡ has (get_or net.letters.items cell 0) letter
+unfolding letter_stands
+set_there net cell letter = refl
+
+-- no letter stands in a cell that loses all that stood there
+all_gone : (stood here gone : Bool) → stood ≡ gone → here ≡ true → (stood && not (here && gone)) ≡ false
+all_gone false here gone is at = refl
+all_gone true here gone is at = ap (λ b. not (b && gone)) at ∙ ap not (sym is)
+
 pub keep_letter-requires-clause-net : goal.keep_letter-requires-clause-net
 keep_letter-requires-clause-net g c =
     record {
@@ -37,7 +46,7 @@ keep_letter-requires-clause-net g c =
 
 pub keep_letter-requires-clause-stands : goal.keep_letter-requires-clause-stands
 keep_letter-requires-clause-stands g c =
-    c.loop-number.invariant.left c.at-in-Some-next_lost.result (omega (arith, c.at-in-Some-next_lost.ensures, c.in-Some-next_lost.ensures.set.0)) (ap (has c.index-alive.result.now) c.at-in-Some-next_lost.ensures ∙ c.in-Some-next_lost.ensures.set.2)
+    c.loop-number.invariant.left c.at.result (omega (arith, c.at.ensures, c.in-Some-next_lost.ensures.set.0)) (ap (has c.index-alive.result.now) c.at.ensures ∙ c.in-Some-next_lost.ensures.set.2)
 
 pub keep_letter-requires-clause-open : goal.keep_letter-requires-clause-open
 keep_letter-requires-clause-open g c =
@@ -49,10 +58,10 @@ keep_letter-requires-clause-lost g c =
     let row = c.index-in-loop-number.result.now.bits in
     let there = c.position_of-here.ensures in
     let number = c.in-Some-next_lost.number in
-    let letter : c.at-in-Some-next_lost.result - 65 ≡ c.in-Some-next_lost.number = omega (arith, c.at-in-Some-next_lost.ensures) in
+    let letter : c.at.result - 65 ≡ c.in-Some-next_lost.number = omega (arith, c.at.ensures) in
     let row_is = slice_get_read net.rows.items (length net.rows.items) c.args.light c.index-in-loop-number.result.now refl (omega (arith, c.requires.position.0, c.loop-number.invariant.shaped.rows)) c.index-in-loop-number.ensures in
     let rows_are : bits_for c.loop-number.self c.position_of-here.result.light ≡ c.index-in-loop-number.result.now.bits = ap (bits_for net) there.light ∙ ap bits_at row_is in
-    let held_are : get_or c.loop-number.self.held.items (26 * c.position_of-here.result.slot + (c.at-in-Some-next_lost.result - 65)) 0 ≡ get_or c.deref.result.now (26 * c.position_of-here.result.slot + c.in-Some-next_lost.number) 0 =
+    let held_are : get_or c.loop-number.self.held.items (26 * c.position_of-here.result.slot + (c.at.result - 65)) 0 ≡ get_or c.deref.result.now (26 * c.position_of-here.result.slot + c.in-Some-next_lost.number) 0 =
     ap (λ k. get_or net.held.items (26 * c.position_of-here.result.slot + k) 0) letter ∙ ap (λ h. get_or h (26 * c.position_of-here.result.slot + number) 0) (sym c.deref.ensures.value) in
     lost_for row _ _ _ rows_are held_are c.in-Some-next_lost.ensures.lost
 
@@ -77,7 +86,7 @@ loop-number-preserved g c =
       within = omega (arith, c.in-Some-next_lost.ensures.set.1);
       alive = λ cell letter alive. inv.alive cell letter (k.ensures.alive cell letter alive);
       entered = k.ensures.entered ∙ inv.entered;
-      left = λ letter past has. k.ensures.others letter (λ e. absurd (omega (arith, e, past, c.at-in-Some-next_lost.ensures))) (inv.left letter (omega (arith, past, c.in-Some-next_lost.ensures.set.0)) has);
+      left = λ letter past has. k.ensures.others letter (λ e. absurd (omega (arith, e, past, c.at.ensures))) (inv.left letter (omega (arith, past, c.in-Some-next_lost.ensures.set.0)) has);
       same = k.ensures.entries ∙ inv.same;
       risen = omega (arith, inv.risen, k.ensures.risen);
       rest = left_left inv.rest k.ensures.step.rest;
@@ -97,13 +106,13 @@ loop-number-preserved g c =
                   (in_set c.args.self.now (cell_at c.args.board.now c.args.light c.args.position) set letter set_is (inv.alive (cell_at board c.args.light c.args.position) letter (k.ensures.alive (cell_at board c.args.light c.args.position) letter alive))) in
                   stays dictionary setting c.args.position letter c.requires.position (λ _. is_held) alive
               | inr on ↦
-                  let is : c.at-in-Some-next_lost.result ≡ letter = omega (arith, c.at-in-Some-next_lost.ensures, lt, on) in
+                  let is : c.at.result ≡ letter = omega (arith, c.at.ensures, lt, on) in
                   let cell : here.cell ≡ cell_at board c.args.light c.args.position = there.there.cell ∙ ap (λ n. cell_at board n here.position) there.light ∙ ap (cell_at board c.args.light) there.position in
-                  let alive_there : letter_stands c.keep_letter.new.self c.position_of-here.result.cell c.at-in-Some-next_lost.result ≡ true =
-                  ap (λ x. letter_stands new x c.at-in-Some-next_lost.result) cell ∙ ap (letter_stands new (cell_at board c.args.light c.args.position)) is ∙ alive in
+                  let alive_there : letter_stands c.keep_letter.new.self c.position_of-here.result.cell c.at.result ≡ true =
+                  ap (λ x. letter_stands new x c.at.result) cell ∙ ap (letter_stands new (cell_at board c.args.light c.args.position)) is ∙ alive in
                   subst (λ d. IsHeld c.args.board.now dictionary (marks_of c.keep_letter.new.self) c.args.light c.args.position d) is
-                  (subst (λ n. IsHeld c.args.board.now dictionary (marks_of c.keep_letter.new.self) c.args.light n c.at-in-Some-next_lost.result) there.position
-                  (subst (λ n. IsHeld c.args.board.now dictionary (marks_of c.keep_letter.new.self) n c.position_of-here.result.position c.at-in-Some-next_lost.result) there.light (k.ensures.held dictionary (move dictionary setting) alive_there)))
+                  (subst (λ n. IsHeld c.args.board.now dictionary (marks_of c.keep_letter.new.self) c.args.light n c.at.result) there.position
+                  (subst (λ n. IsHeld c.args.board.now dictionary (marks_of c.keep_letter.new.self) n c.position_of-here.result.position c.at.result) there.light (k.ensures.held dictionary (move dictionary setting) alive_there)))
             ]
           ];
       stays = λ dictionary setting position letter at stood alive. stays dictionary setting position letter at (inv.stays dictionary setting position letter at stood) alive;
@@ -155,52 +164,69 @@ loop-number-init g c = record {
   kept = λ dictionary measure setting in_set under. under;
 }
 
-pub empty_position-requires-clause-stood : goal.empty_position-requires-clause-stood
+pub drop_letters-requires-clause-stood : goal.drop_letters-requires-clause-stood
 unfolding letter_stands
-empty_position-requires-clause-stood g c =
+drop_letters-requires-clause-stood g c letter alive =
     let sets = c.args.self.now.letters.items in
     let within : c.position_of-here.result.cell < length sets = omega (arith, c.position_of-here.ensures.in_board, c.requires.net.shaped.letters) in
-    ap (λ s. has s c.at.result) (sym (c.index-alive.ensures ∙ get_or_default sets c.position_of-here.result.cell c.index-alive.result.now 0 within))
-    ∙ ap (has c.index-alive.result.now) c.at.ensures
-    ∙ c.in-Some.ensures.set.2
+    ap (λ s. has s letter) (sym (c.index-alive.ensures ∙ get_or_default sets c.position_of-here.result.cell c.index-alive.result.now 0 within)) ∙ alive
+
+pub drop_letters-requires-clause-some : goal.drop_letters-requires-clause-some
+drop_letters-requires-clause-some g c = (65 + c.in-Some.field-0, c.in-Some.ensures.set.2)
 
 pub returns-then-count-eq0-clause-stays : goal.returns-then-count-eq0-clause-stays
 returns-then-count-eq0-clause-stays g c dictionary setting position letter here stood alive =
-    let here_is = c.position_of-here.ensures.there in
-    let e = c.empty_position.ensures in
+    let e = c.drop_letters.ensures in
     let old = c.args.self.now in
-    let new = c.empty_position.new.self in
-    let i = c.position_of-here.result.light in
-    let q = c.position_of-here.result.position in
-    still_held c.args.board.now (g.R.Rows.entries c.args.rows.now) dictionary setting old new i q here_is.position e.same e.letters e.leaves c.args.light position letter
-    (stood (alive_before c.args.board.now (g.R.Rows.entries c.args.rows.now) dictionary setting old new i q here_is.position e.same e.letters e.leaves (cell_at c.args.board.now c.args.light position) letter alive))
+    let new = c.drop_letters.new.self in
+    let at = c.position_of-here.result in
+    let position_is = c.position_of-here.ensures.there.position in
+    let gone = has c.index-alive.result.now in
+    still_held c.args.board.now dictionary setting.apart old new at.light at.position gone position_is e.same e.letters e.leaves c.args.light position letter
+    (stood (alive_before c.args.board.now dictionary setting.apart old new at.light at.position gone position_is e.same e.letters e.leaves (cell_at c.args.board.now c.args.light position) letter alive))
+
+pub returns-then-count-eq0-clause-held : goal.returns-then-count-eq0-clause-held
+returns-then-count-eq0-clause-held g c dictionary setting letter alive =
+    let old = c.args.self.now in
+    let there = c.position_of-here.ensures in
+    let here = c.position_of-here.result in
+    let at = cell_at c.args.board.now c.args.light c.args.position in
+    let alive_is = c.index-alive.ensures ∙ get_or_default old.letters.items here.cell c.index-alive.result.now 0 (omega (arith, there.in_board, c.requires.net.shaped.letters)) in
+    let stood : letter_stands old at letter ≡ has c.index-alive.result.now letter = set_there old at letter ∙ ap (λ n. has (get_or old.letters.items n 0) letter) (sym there.cell) ∙ ap (λ s. has s letter) (sym alive_is) in
+    absurd (both_ways (letter_stands c.drop_letters.new.self at letter)
+    (c.drop_letters.ensures.letters at letter
+    ∙ all_gone (letter_stands old at letter) (eqb at (cell_at c.args.board.now here.light here.position)) (has c.index-alive.result.now letter) stood
+    (eq-eqb at (cell_at c.args.board.now here.light here.position) (sym there.cell ∙ there.there.cell))) alive)
 
 pub returns-then-count-eq0-clause-kept : goal.returns-then-count-eq0-clause-kept
 returns-then-count-eq0-clause-kept g c dictionary measure setting =
-    let e = c.empty_position.ensures in
+    let e = c.drop_letters.ensures in
     let old = c.args.self.now in
-    let new = c.empty_position.new.self in
+    let new = c.drop_letters.new.self in
     let here = c.position_of-here.result in
     let here_is = c.position_of-here.ensures.there in
     let light_is = c.position_of-here.ensures.light in
+    let gone = has c.index-alive.result.now in
     let within : c.args.light < length old.rows.items = omega (arith, c.requires.position.0, c.requires.net.shaped.rows) in
     let row_is = slice_get_read old.rows.items (length old.rows.items) c.args.light c.index.result.now refl within c.index.ensures in
     let clear : (k : ℕ) → get_or (bits_for old c.args.light) k false ≡ false = λ k.
     ap (λ b. get_or b k false) (ap bits_at row_is) ∙ none_set c.index.result.now.bits (sym c.count.ensures ∙ c.if-count-eq0.true) k in
     let none : (k : ℕ) → word_stands old here.light k ≡ false = λ k. ap (λ n. word_stands old n k) light_is ∙ no_words old c.args.light c.requires.open clear k in
-    let stood : letter_stands old (cell_at c.args.board.now here.light here.position) c.at.result ≡ true =
-    ap (λ n. letter_stands old n c.at.result) (sym here_is.cell) ∙ empty_position-requires-clause-stood g c.before in
+    let stood : (letter : ℕ) → has c.index-alive.result.now letter ≡ true → letter_stands old (cell_at c.args.board.now here.light here.position) letter ≡ true = λ letter goes.
+    ap (λ n. letter_stands old n letter) (sym here_is.cell) ∙ drop_letters-requires-clause-stood g c.before letter goes in
+    let some = drop_letters-requires-clause-some g c.before in
     subst (λ n. measure.member n ≡ true → IsUnderway c.args.board.now dictionary measure (marks_of c.args.self.now) (and_light (queued_in c.args.self.now) n) (g.R.Rows.ticks c.args.rows.now)
-    → IsUnderway c.args.board.now dictionary measure (marks_of c.empty_position.new.self) (and_light (queued_in c.empty_position.new.self) n) (g.R.Rows.ticks c.args.rows.now)) light_is
-    (still_under c.args.board.now (g.R.Rows.entries c.args.rows.now) dictionary setting old new here.light here.position here_is.position e.same e.letters e.leaves none c.at.result stood measure (g.R.Rows.ticks c.args.rows.now))
+    → IsUnderway c.args.board.now dictionary measure (marks_of c.drop_letters.new.self) (and_light (queued_in c.drop_letters.new.self) n) (g.R.Rows.ticks c.args.rows.now)) light_is
+    (still_under c.args.board.now dictionary setting.apart old new here.light here.position gone here_is.position e.same e.letters e.leaves stood
+    (λ letter k goes stands has_it. both_ways (word_stands old here.light k) (none k) stands) some.0 some.1 measure (g.R.Rows.ticks c.args.rows.now))
 
 pub returns-then-count-eq0-clause-check : goal.returns-then-count-eq0-clause-check
 returns-then-count-eq0-clause-check g c = record {
-  fewer = c.empty_position.ensures.fewer;
-  waits = c.empty_position.ensures.waits;
-  holding = λ dictionary setting. let e = c.empty_position.ensures in
-      still_holding c.args.board.now (g.R.Rows.entries c.args.rows.now) dictionary setting c.args.self.now c.empty_position.new.self c.position_of-here.result.light c.position_of-here.result.position c.position_of-here.ensures.there.position e.same e.letters e.leaves;
-  pending = λ slot letter pends. let board = c.args.board.now in
-      pends_at board (marks_of c.args.self.now) (marks_of c.empty_position.new.self) c.position_of-here.result.light c.position_of-here.result.position
-      (letter_stands c.args.self.now (cell_at c.args.board.now c.position_of-here.result.light c.position_of-here.result.position)) c.empty_position.ensures.leaves slot letter pends;
+  fewer = c.drop_letters.ensures.fewer;
+  waits = c.drop_letters.ensures.waits;
+  holding = λ dictionary setting. let e = c.drop_letters.ensures in
+      still_holding c.args.board.now dictionary setting.apart c.args.self.now c.drop_letters.new.self c.position_of-here.result.light c.position_of-here.result.position (has c.index-alive.result.now) c.position_of-here.ensures.there.position e.same e.letters e.leaves;
+  pending = λ slot letter pends.
+      pends_at c.args.board.now (marks_of c.args.self.now) (marks_of c.drop_letters.new.self) c.position_of-here.result.light c.position_of-here.result.position
+      (has c.index-alive.result.now) c.drop_letters.ensures.leaves slot letter pends;
 }
