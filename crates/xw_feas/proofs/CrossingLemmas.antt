@@ -1,5 +1,5 @@
 -- The two lights through a cell.
-use Rattle.std.proofs.Common.{◌≡◌, ℕ, ◌+◌, ◌-◌, ◌<◌, Bool, true, false, cond, ◌&&◌, eqb, leb, ltb, length, get_or, refl, sym, ◌∙◌, ap, subst, arith, List, Option, Some, None}
+use Rattle.std.proofs.Common.{◌≡◌, ℕ, ◌+◌, ◌-◌, ◌<◌, ◌≤◌, Bool, true, false, cond, ◌&&◌, eqb, leb, ltb, length, get_or, refl, sym, ◌∙◌, ap, subst, arith, List, Option, Some, None}
 use Rattle.std.specs.Prelude.{IfSome}
 use Rattle.std.proofs.lemmas.Bool.{and_parts, and_from, eq-eqb, ne_eqb, lt-ltb, both_ways}
 use Rattle.std.proofs.lemmas.Bool.Decides.{nat_tests}
@@ -8,13 +8,13 @@ use Rattle.xw_grid.specs.declared.cell.Cell.{Cell}
 use Rattle.xw_grid.specs.declared.cell.Direction.{Direction}
 use Rattle.xw_grid.specs.declared.cell.Direction.TheVariants.{Across, Down}
 use Rattle.xw_grid.specs.declared.lights.Light.{Light}
-use Rattle.xw_grid.specs.Grid.{Grid, index_of, cell_at}
+use Rattle.xw_grid.specs.Grid.{Grid, IsGrid, index_of, cell_at}
 use Rattle.xw_grid.specs.Light.{step, lights_of, no_light, same_direction, is_on_line, holds, passes, index_through}
-use Rattle.xw_grid.proofs.GridLemmas.{cell_at-index_of, index_of-cell_at}
+use Rattle.xw_grid.proofs.GridLemmas.{cell_at-index_of, index_of-cell_at, inside_small}
 use Rattle.xw_grid.proofs.OrderLemmas.{lights_are_apart}
 use Rattle.xw_grid.proofs.LightTableLemmas.{held_step, index_is as light_table_lemmas_index_is}
 use Rattle.xw_feas.specs.Board.{Board, board_of, light_at, IsCrossing, other_than, first_found}
-use Rattle.xw_feas.proofs.BoardLemmas.{length-lights}
+use Rattle.xw_feas.proofs.BoardLemmas.{length-lights, light_fits}
 use Rattle.xw_feas.proofs.FormedLemmas.{light_in, cell_of, length-light_at, within_lights, index_is, inside_at}
 
 on_line : (direction : Direction) (first : Cell) (n k : ℕ) → k < n → is_on_line direction first n (step direction first k) ≡ true
@@ -46,6 +46,30 @@ through_at grid light position cell below meets =
     ap (is_on_line (towards grid light) start size) is ∙ on_line (towards grid light) start size position (omega (arith, length-light_at grid light within)) in
     light_table_lemmas_index_is (lights_of grid) (lights_are_apart grid) (towards grid light) (cell_at grid cell) light no_light within
     (and_from (same_direction (towards grid light) (towards grid light)) (is_on_line (towards grid light) start size (cell_at grid cell)) (same_direction_itself (towards grid light)) there)
+
+-- the cell at a position of a light
+pub position_cell : (grid : Grid) (board : Board) → board ≡ board_of grid → (light position : ℕ) → position < length (light_at board light) → (found : Light) → found ≡ light_in grid light
+    → step found.name.direction found.start position ≡ cell_at grid (get_or (light_at board light) position 0)
+position_cell grid board is light position below found same =
+    let within : position < length (light_at (board_of grid) light) = subst (λ b. position < length (light_at b light)) is below in
+    ap (λ (l : Light). step l.name.direction l.start position) same
+    ∙ sym (cell_at-index_of grid (cell_of grid light position) (inside_at grid light position within))
+    ∙ ap (cell_at grid) (sym (index_is grid light position within) ∙ ap (λ b. get_or (light_at b light) position 0) (sym is))
+
+-- a position in a light is small
+pub small_position : (grid : Grid) (board : Board) → board ≡ board_of grid → IsGrid grid → (light position : ℕ) → position < length (light_at board light) → position < 255
+small_position grid board is formed light position below =
+    let within : position < length (light_at (board_of grid) light) = subst (λ b. position < length (light_at b light)) is below in
+    let in_lights = within_lights grid light position within in
+    omega (arith, within, length-light_at grid light in_lights, (light_fits grid light no_light formed in_lights).size)
+
+-- so are the row and the column where it begins
+pub small_start : (grid : Grid) (board : Board) → board ≡ board_of grid → IsGrid grid → (light position : ℕ) → position < length (light_at board light) → (found : Light) → found ≡ light_in grid light
+    → (found.start.row ≤ 255) × (found.start.col ≤ 255)
+small_start grid board is formed light position below found same =
+    let within : position < length (light_at (board_of grid) light) = subst (λ b. position < length (light_at b light)) is below in
+    subst (λ (l : Light). (l.start.row ≤ 255) × (l.start.col ≤ 255)) (sym same)
+    (inside_small grid (light_in grid light).start formed (light_fits grid light no_light formed (within_lights grid light position within)).start)
 
 -- a light that is found passes through the cell
 pub found_at : (grid : Grid) (direction : Direction) (light other cell : ℕ) → index_through (lights_of grid) direction (cell_at grid cell) ≡ Some other → (other ≡ light → ⊥) → IsCrossing (board_of grid) light cell other

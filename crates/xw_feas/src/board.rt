@@ -119,7 +119,7 @@ impl<'a> Board<'a> {
         ensures other { IfSome result (IsCrossing self.now light (slice_index (light_at self.now light) position)) }
         ensures only { (other : ℕ) → IsCrossing self.now light (slice_index (light_at self.now light) position) other → result ≡ Some other }
     {
-        let cell = self.grid.cell_at(self.light(light).at(position));
+        let cell = self.lights.at(light).cell(position as u32);
         match other_than(light, self.lights.across_at(cell)) {
             Some(other) => Some(other),
             None => other_than(light, self.lights.down_at(cell)),
