@@ -2,6 +2,7 @@
 ghost use Rattle.std.specs.Prelude.{◌≡◌};
 ghost use Rattle.xw_commands.specs.Reading.{Reads};
 ghost use Rattle.xw_commands.specs.Change.{change_word, change_named};
+ghost use Rattle.xw_commands.specs.declared.change.ChangeName.TheVariants as names;
 
 use crate::command::{CellArg, Field, LightArg, SyntaxFault, Text, TextField, TextMode};
 use crate::names::{CLUE, CommandName, Named};
@@ -146,6 +147,48 @@ impl CommandName for ChangeName {
     }
 }
 
+/// Reads the arguments of `Size`.
+fn read_size<'a>(words: &mut Words<'a>) -> Result<Change<'a>, SyntaxFault>
+    ensures { Reads (λ change. change) result words.new (change_named (change_word names.Size) words.old) }
+{
+    Ok(Change::Size(words.number()?, words.number()?))
+}
+
+/// Reads the arguments of `Add`.
+fn read_add<'a>(words: &mut Words<'a>) -> Result<Change<'a>, SyntaxFault>
+    ensures { Reads (λ change. change) result words.new (change_named (change_word names.Add) words.old) }
+{
+    Ok(Change::Add(words.word()?, words.grade_if_any()?))
+}
+
+/// Reads the arguments of `Set`.
+fn read_set<'a>(words: &mut Words<'a>) -> Result<Change<'a>, SyntaxFault>
+    ensures { Reads (λ change. change) result words.new (change_named (change_word names.Set) words.old) }
+{
+    Ok(Change::Set(words.spot()?, words.byte()?))
+}
+
+/// Reads the arguments of `Place`.
+fn read_place<'a>(words: &mut Words<'a>) -> Result<Change<'a>, SyntaxFault>
+    ensures { Reads (λ change. change) result words.new (change_named (change_word names.Place) words.old) }
+{
+    Ok(Change::Place(words.named()?, words.word()?))
+}
+
+/// Reads the arguments of `Bar`.
+fn read_bar<'a>(words: &mut Words<'a>) -> Result<Change<'a>, SyntaxFault>
+    ensures { Reads (λ change. change) result words.new (change_named (change_word names.Bar) words.old) }
+{
+    Ok(Change::Bar(words.spot()?, words.side()?))
+}
+
+/// Reads the arguments of `Clue`.
+fn read_clue<'a>(words: &mut Words<'a>) -> Result<Change<'a>, SyntaxFault>
+    ensures { Reads (λ change. change) result words.new (change_named (change_word names.Clue) words.old) }
+{
+    Ok(Change::Clue(words.named()?, words.text()))
+}
+
 /// Reads the arguments of a change.
 pub(crate) fn arguments<'a>(
     name: ChangeName,
@@ -154,18 +197,18 @@ pub(crate) fn arguments<'a>(
     ensures { Reads (λ change. change) result words.new (change_named (change_word name) words.old) }
 {
     match name {
-        ChangeName::Size => Ok(Change::Size(words.number()?, words.number()?)),
+        ChangeName::Size => read_size(words),
         ChangeName::Symmetry => Ok(Change::Symmetry(words.symmetry()?)),
-        ChangeName::Add => Ok(Change::Add(words.word()?, words.grade_if_any()?)),
+        ChangeName::Add => read_add(words),
         ChangeName::Strike => Ok(Change::Strike(words.word()?)),
         ChangeName::Least => Ok(Change::Least(words.grade()?)),
-        ChangeName::Set => Ok(Change::Set(words.spot()?, words.byte()?)),
+        ChangeName::Set => read_set(words),
         ChangeName::Clear => Ok(Change::Clear(words.spot()?)),
-        ChangeName::Place => Ok(Change::Place(words.named()?, words.word()?)),
+        ChangeName::Place => read_place(words),
         ChangeName::Erase => Ok(Change::Erase(words.named()?)),
         ChangeName::Block => Ok(Change::Block(words.spot()?)),
-        ChangeName::Bar => Ok(Change::Bar(words.spot()?, words.side()?)),
-        ChangeName::Clue => Ok(Change::Clue(words.named()?, words.text())),
+        ChangeName::Bar => read_bar(words),
+        ChangeName::Clue => read_clue(words),
         ChangeName::Write(field) => Ok(Change::Write(field, words.text())),
         ChangeName::Circle => Ok(Change::Circle(words.spot()?)),
         ChangeName::Watch => Ok(Change::Watch(words.switch()?)),

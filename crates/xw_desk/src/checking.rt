@@ -57,8 +57,11 @@ impl<D: Disk, I: Source, O: Outlet, E: Sink> Desk<D, I, O, E> {
         ensures ok { IfOk result (λ status. (status ≡ Accepted) × IsChecked is_named file.entry.now self.old self.new) }
         ensures err { IfErr result (λ failure. IsUnchecked is_named file.entry.now failure self.old self.new) }
     {
-        let (kind, puzzle) = self.read_puzzle(file)?;
-        let line = line_of(self.alloc, file, is_named, kind, &puzzle.grid)?;
+        let line = {
+            let (kind, puzzle) = self.read_puzzle(file)?;
+            line_of(self.alloc, file, is_named, kind, &puzzle.grid)
+        };
+        let line = line?;
         match self.show(line.as_bytes()) {
             Ok(()) => Ok(ExitStatus::Accepted),
             Err(_) => Err(Failure::Output),

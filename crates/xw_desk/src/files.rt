@@ -28,9 +28,21 @@ impl<D: Disk, I: Source, O: Outlet, E: Sink> Desk<D, I, O, E> {
         ensures err { IfErr result (λ failure. IsUnread file.entry.now failure self.old self.new) }
     {
         let bytes = self.read_file(file)?;
-        let (kind, puzzle) = parsed(self.alloc, file, self.explains, bytes.as_slice())?;
-        self.warn_of_rebus(file, kind, bytes.as_slice())?;
-        Ok((kind, puzzle))
+        self.puzzle_in(file, bytes.as_slice())
+    }
+
+    /// Returns the format and the puzzle of the bytes of a file. Reports if the file has rebus cells, which are not kept.
+    fn puzzle_in<'a>(&mut self, file: &'a str, bytes: &[u8]) -> Result<(Kind, Puzzle), Failure<'a>>
+        ensures means { IfOk result (λ found. IsRead found.0 bytes.now (puzzle_view found.1)) }
+        ensures rebus { IfOk result (λ found. IsRebusTold file.entry.now found.0 bytes.now self.old self.new) }
+        ensures err { IfErr result (λ failure. (failure ≡ Memory) ⊎ IsMalformed file.entry.now self.old.explains bytes.now failure) }
+        ensures untold { OnErr result (self.new ≡ self.old) }
+    {
+        let (kind, puzzle) = parsed(self.alloc, file, self.explains, bytes)?;
+        match self.warn_of_rebus(file, kind, bytes) {
+            Ok(()) => Ok((kind, puzzle)),
+            Err(failure) => Err(failure),
+        }
     }
 
     /// Reports that the rebus cells of a `.puz` file are not kept, if it has any.

@@ -47,6 +47,13 @@ impl<E: Feasible, J: Sink> Model for JournaledSession<E, J> {
     } };
 }
 
+/// Makes the room for the entries before a search, and for an answer.
+fn buffers(alloc: Global) -> Result<(Entries, VecSink), AllocError> {
+    let before = Entries::new(alloc)?;
+    let answer = VecSink::with_capacity(alloc, ROOM)?;
+    Ok((before, answer))
+}
+
 impl<E: Feasible, J: Sink + Drop> JournaledSession<E, J> {
     /// Joins a session and its journal. Fails only if an allocation fails.
     pub fn new(
@@ -61,16 +68,17 @@ impl<E: Feasible, J: Sink + Drop> JournaledSession<E, J> {
           cause = None;
         }) }
     {
-        let before = Entries::new(alloc)?;
-        let answer = VecSink::with_capacity(alloc, ROOM)?;
-        Ok(JournaledSession {
-            alloc,
-            session,
-            journal,
-            before,
-            answer,
-            cause: None,
-        })
+        match buffers(alloc) {
+            Ok((before, answer)) => Ok(JournaledSession {
+                alloc,
+                session,
+                journal,
+                before,
+                answer,
+                cause: None,
+            }),
+            Err(error) => Err(error),
+        }
     }
 
     /// The session.
