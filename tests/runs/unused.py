@@ -70,7 +70,7 @@ xw_answers/proofs/Recording: one_line put_line_parts spot_parts
 xw_arguments/proofs/Rows: found_by called no_convert no_check
 xw_cli/proofs/Steps: replays explained_so_far resumed unresumed left_told left_untold left_nowhere
 xw_desk/proofs/Checks: not_read
-xw_desk/proofs/Told: reasoned unreasoned
+xw_desk/proofs/Writing: reasoned unreasoned
 xw_feas/proofs/EditsLemmas: block_refused refusal_made
 xw_feas/proofs/FormedLemmas: formed_steps
 xw_feas/proofs/JudgeLemmas: grid_of_after

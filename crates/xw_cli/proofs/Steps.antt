@@ -19,7 +19,7 @@ use Rattle.xw_desk.specs.declared.failure.Failure.TheVariants.{Memory}
 use Rattle.xw_desk.specs.declared.failure.ExitStatus.{ExitStatus}
 use Rattle.xw_desk.specs.Desk.{Asks, Moment, Reports}
 use Rattle.xw_desk.specs.Files.{IfNamed, IsUnreplaced}
-use Rattle.xw_desk.specs.Told.{IsFaultOf}
+use Rattle.xw_desk.specs.Failures.{IsFaultOf}
 use Rattle.xw_cli.specs.Journals.{HasReplayed, IsEnded, IsNotEnded, IsUnended, IsUnreplayed, Replaces}
 use Rattle.xw_cli.specs.declared.session_files.Refusals.{Refusals}
 use Rattle.xw_cli.specs.SessionFiles.{Copies, IsLoaded, IsLoadedTold, IsLoadingTold, IsResumed, KeepsOld, Replays, TellsReplay, after_report, explained_reports, file_of, left_line, old_line}

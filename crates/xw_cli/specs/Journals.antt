@@ -14,7 +14,7 @@ use Rattle.xw_desk.specs.Desk.{Asks, Moment, ReportsIf}
 use Rattle.xw_desk.specs.Files.{IsLineFault}
 use Rattle.xw_cli.specs.declared.session_files.Refusals.{Refusals}
 use Rattle.xw_cli.specs.SessionFiles.{Replays, cut_line, file_of, unmarked}
-use Rattle.xw_desk.specs.Told.{IsFaultOf}
+use Rattle.xw_desk.specs.Failures.{IsFaultOf}
 
 -- What a journal begins with, from the bytes that its file has. If these are at most a part of the first line, it
 -- begins with the first line; if they have the first line, with the bytes up to the last line that counts; if they are

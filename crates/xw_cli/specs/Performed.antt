@@ -28,7 +28,7 @@ use Rattle.xw_desk.specs.Desk.{Asks, Moment, ReportsIf}
 use Rattle.xw_desk.specs.Explained.{IsReported, IsTold}
 use Rattle.xw_desk.specs.Files.{IfNamed, IsFound, IsTextTold, IsUnread}
 use Rattle.xw_desk.specs.ExitStatus.{run_ended}
-use Rattle.xw_desk.specs.Told.{IsCannotWrite, IsReplaced}
+use Rattle.xw_desk.specs.Failures.{IsCannotWrite, IsReplaced}
 use Rattle.xw_cli.specs.Answered.{AnswersInput, HasBefore}
 use Rattle.xw_cli.specs.Journals.{HasReplayed, IsEnded, IsUnended, IsUnreplayed}
 use Rattle.xw_cli.specs.declared.session_files.Refusals.{Refusals}

@@ -14,7 +14,7 @@ use Rattle.xw_desk.specs.declared.location.Location.TheVariants as locations
 use Rattle.xw_desk.specs.Desk.{Asks, Moment, Reports}
 use Rattle.xw_desk.specs.Files.{AreBytesFor, IsUnfit, IsUnreplaced}
 use Rattle.xw_desk.specs.Names.{is_session}
-use Rattle.xw_desk.specs.Told.{IsCannotWrite, IsInUse, IsOldFaultOf}
+use Rattle.xw_desk.specs.Failures.{IsCannotWrite, IsInUse, IsOldFaultOf}
 use Rattle.xw_cli.specs.SessionFiles.{old_line}
 
 -- ---- bytes that are kept

@@ -19,7 +19,7 @@ use Rattle.xw_disk.specs.Kept.{kept_name}
 use Rattle.xw_disk.specs.declared.disk.DiskFault.{DiskFault}
 use Rattle.xw_desk.specs.Desk.{Asks, Moment, Reports, ReportsIf}
 use Rattle.xw_desk.specs.Files.{IsFileFault, IsLineFault, IsUnreadFile}
-use Rattle.xw_desk.specs.Told.{IsOldFaultOf}
+use Rattle.xw_desk.specs.Failures.{IsOldFaultOf}
 
 -- ---- the word list
 

@@ -9,7 +9,7 @@ use Rattle.xw_disk.specs.declared.disk.DiskFault.{DiskFault}
 use Rattle.xw_desk.specs.declared.failure.Failure.{Failure}
 use Rattle.xw_desk.specs.declared.failure.Failure.TheVariants as failures
 use Rattle.xw_desk.specs.Desk.{Asks, Moment, Reports}
-use Rattle.xw_desk.specs.Told.{IsOldFaultOf}
+use Rattle.xw_desk.specs.Failures.{IsOldFaultOf}
 use Rattle.xw_cli.specs.SessionFiles.{file_of}
 
 -- the report of a last line without an LF, with a sentence if failures are explained

@@ -5,7 +5,7 @@ ghost use Rattle.xw_journal.specs.File.{form_of as spec_form_of};
 ghost use Rattle.xw_journal.specs.declared.file.Form.TheVariants as forms;
 ghost use Rattle.xw_disk.specs.Disk.{begin, end, find, open_, started, take_lines};
 ghost use Rattle.xw_disk.specs.declared.disk.DiskFault.{DiskFault};
-ghost use Rattle.xw_desk.specs.Told.{IsFaultOf};
+ghost use Rattle.xw_desk.specs.Failures.{IsFaultOf};
 ghost use Rattle.xw_desk.specs.declared.failure.Failure.TheVariants.{Memory};
 ghost use Rattle.xw_desk.specs.Desk.{Asks};
 ghost use Rattle.xw_desk.specs.Files.{IsLineFault};

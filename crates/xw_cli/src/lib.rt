@@ -4,7 +4,7 @@
 mod answer;
 mod answer_journaled;
 mod convert;
-mod edit;
+mod edit_session;
 mod end;
 mod input;
 mod journal;

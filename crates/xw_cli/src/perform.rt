@@ -3,7 +3,7 @@ ghost use Rattle.std.specs.Prelude.{◌≡◌, ◌||◌};
 ghost use Rattle.xw_cli.specs.Performed.{IsPerformed, Performs};
 
 use crate::convert::convert;
-use crate::edit::edit;
+use crate::edit_session::edit_session;
 use xw_arguments::Call;
 use xw_desk::desk::Desk;
 use xw_desk::failure::{ExitStatus, Failure};
@@ -45,7 +45,7 @@ fn run<'a, F: Searchable, D: Disk, I: Source, O: Outlet, E: Sink, W: Observer>(
     ensures { IsPerformed call.entry result desk.old desk.new }
 {
     match call {
-        Call::Edit { files, .. } => edit::<F, D, I, O, E, W>(desk, files, observer),
+        Call::Edit { files, .. } => edit_session::<F, D, I, O, E, W>(desk, files, observer),
         Call::Convert {
             from_file,
             to_file,

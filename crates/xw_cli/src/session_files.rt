@@ -5,7 +5,7 @@ ghost use Rattle.xw_answers.specs.Text.{word_fault};
 ghost use Rattle.xw_lines.specs.Cut.{lines_of};
 ghost use Rattle.xw_disk.specs.Disk.{keep, stands};
 ghost use Rattle.xw_disk.specs.declared.disk.DiskFault.{DiskFault};
-ghost use Rattle.xw_desk.specs.Told.{IsOldFaultOf};
+ghost use Rattle.xw_desk.specs.Failures.{IsOldFaultOf};
 ghost use Rattle.xw_desk.specs.declared.failure.Failure.TheVariants.{Memory};
 ghost use Rattle.xw_desk.specs.Desk.{Asks, Reports, ReportsIf};
 ghost use Rattle.xw_desk.specs.Files.{IsFileFault};

@@ -13,7 +13,7 @@ use xw_arguments::Usage;
 use xw_arguments::arguments::arguments;
 use xw_desk::desk::Desk;
 use xw_desk::failure::ExitStatus;
-use xw_desk::outlet::{Outlet, Output, Watched};
+use xw_desk::outlet::{Outlet, Output, PipeWriter};
 use xw_desk::shown::Shown;
 use xw_disk::{Disk, SystemDisk};
 use xw_feas::progress::Observer;
@@ -71,9 +71,9 @@ pub fn answer_words<F: Searchable, S: AsStr, D: Disk, I: Source, O: Outlet, E: S
 /// Runs the program with buffered output. Fails if an allocation for the setup fails.
 fn start_gathered<F: Searchable>(rt: &HostRuntime) -> io::Result<ExitStatus> {
     let mark = Cell::new(false);
-    let watched = Watched::new(rt.stdout(), &mark);
+    let stdout = PipeWriter::new(rt.stdout(), &mark);
     let is_output_terminal = rt.stdout().is_terminal();
-    let shown = Shown::new(watched, is_output_terminal);
+    let shown = Shown::new(stdout, is_output_terminal);
     let writer = BufWriter::with_capacity(rt.alloc(), GATHERED, shown)?;
     let is_terminal = rt.stderr().is_terminal();
     let mut desk = Desk {

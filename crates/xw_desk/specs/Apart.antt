@@ -2,10 +2,10 @@
 use Rattle.std.specs.Prelude.{◌≡◌, ◌⊎◌, ◌&&◌, ◌||◌, ℕ, Bool, true, false, not, bytes_eq, codes, is_some, List, Ok, Option, Some, None, option_map, IfSome}
 use Rattle.std.specs.Borrow.{Bor}
 use Rattle.xw_files.specs.declared.kind.Kind.TheVariants.{Puz}
-use Rattle.xw_desk.specs.declared.apart.Pair.{Pair}
-use Rattle.xw_desk.specs.declared.apart.Pair.TheVariants.{ListAndWritten, PuzzleAndSession, StartAndSession, StartAndPuzzle, InputAndWritten, OutputAndOther, OtherAndJournal}
-use Rattle.xw_desk.specs.declared.apart.Role.{Role}
-use Rattle.xw_desk.specs.declared.apart.Role.TheVariants.{Output, Kept, List as RoleList, Puzzle, Start, Commands, Input, Written, Session, Journal}
+use Rattle.xw_desk.specs.declared.apart.FileConflict.{FileConflict}
+use Rattle.xw_desk.specs.declared.apart.FileConflict.TheVariants.{ListAndWritten, PuzzleAndSession, StartAndSession, StartAndPuzzle, InputAndWritten, OutputAndOther, OtherAndJournal}
+use Rattle.xw_desk.specs.declared.apart.FileRole.{FileRole}
+use Rattle.xw_desk.specs.declared.apart.FileRole.TheVariants.{Output, Kept, List as WordList, Puzzle, Start, Commands, Input, Written, Session, Journal}
 use Rattle.xw_disk.specs.CallFile.{IsKeptAs, IsNamed, IsSource}
 use Rattle.xw_disk.specs.Disk.{try_}
 use Rattle.xw_disk.specs.declared.disk.CallFile.{CallFile}
@@ -15,52 +15,52 @@ use Rattle.xw_desk.specs.declared.failure.Failure.{Failure}
 use Rattle.xw_desk.specs.declared.failure.Failure.TheVariants as failures
 use Rattle.xw_desk.specs.Desk.{Asks, Moment}
 use Rattle.xw_desk.specs.Files.{IfNamed, IsUntried}
-use Rattle.xw_desk.specs.Told.{IsInUse}
+use Rattle.xw_desk.specs.Failures.{IsInUse}
 use Rattle.xw_desk.specs.Names.{IsKindNamed}
 
 -- ---- which files must differ
 
 -- A file with the first role must not be the journal. Nor may it be the session or the puzzle to write, or a file that
 -- is read: `list` says whether this is the word list.
-abbrev pub pair_with_journal : Role → Option Pair
-pair_with_journal Output = Some OtherAndJournal
-pair_with_journal Input = Some OtherAndJournal
-pair_with_journal RoleList = Some OtherAndJournal
-pair_with_journal Written = Some OtherAndJournal
-pair_with_journal Session = Some OtherAndJournal
-pair_with_journal one = None
+abbrev pub conflict_with_journal : FileRole → Option FileConflict
+conflict_with_journal Output = Some OtherAndJournal
+conflict_with_journal Input = Some OtherAndJournal
+conflict_with_journal WordList = Some OtherAndJournal
+conflict_with_journal Written = Some OtherAndJournal
+conflict_with_journal Session = Some OtherAndJournal
+conflict_with_journal one = None
 
-abbrev pub pair_with_session : Role → Option Pair
-pair_with_session Output = Some OutputAndOther
-pair_with_session RoleList = Some ListAndWritten
-pair_with_session Puzzle = Some StartAndSession
-pair_with_session Commands = Some InputAndWritten
-pair_with_session Written = Some PuzzleAndSession
-pair_with_session one = None
+abbrev pub conflict_with_session : FileRole → Option FileConflict
+conflict_with_session Output = Some OutputAndOther
+conflict_with_session WordList = Some ListAndWritten
+conflict_with_session Puzzle = Some StartAndSession
+conflict_with_session Commands = Some InputAndWritten
+conflict_with_session Written = Some PuzzleAndSession
+conflict_with_session one = None
 
-abbrev pub pair_with_puzzle : Role → Option Pair
-pair_with_puzzle Output = Some OutputAndOther
-pair_with_puzzle Kept = Some PuzzleAndSession
-pair_with_puzzle RoleList = Some ListAndWritten
-pair_with_puzzle Start = Some StartAndPuzzle
-pair_with_puzzle Commands = Some InputAndWritten
-pair_with_puzzle one = None
+abbrev pub conflict_with_puzzle : FileRole → Option FileConflict
+conflict_with_puzzle Output = Some OutputAndOther
+conflict_with_puzzle Kept = Some PuzzleAndSession
+conflict_with_puzzle WordList = Some ListAndWritten
+conflict_with_puzzle Start = Some StartAndPuzzle
+conflict_with_puzzle Commands = Some InputAndWritten
+conflict_with_puzzle one = None
 
-abbrev pub pair_with_read : Role → Bool → Option Pair
-pair_with_read Output list = Some OutputAndOther
-pair_with_read Kept true = Some ListAndWritten
-pair_with_read one list = None
+abbrev pub conflict_with_read : FileRole → Bool → Option FileConflict
+conflict_with_read Output list = Some OutputAndOther
+conflict_with_read Kept true = Some ListAndWritten
+conflict_with_read one list = None
 
 -- why files with these roles must differ, if they must
-abbrev pub pair_of : Role → Role → Option Pair
-pair_of one Journal = pair_with_journal one
-pair_of one Session = pair_with_session one
-pair_of one Written = pair_with_puzzle one
-pair_of one RoleList = pair_with_read one true
-pair_of one Puzzle = pair_with_read one false
-pair_of one Start = pair_with_read one false
-pair_of one Commands = pair_with_read one false
-pair_of one other = None
+abbrev pub conflict_of : FileRole → FileRole → Option FileConflict
+conflict_of one Journal = conflict_with_journal one
+conflict_of one Session = conflict_with_session one
+conflict_of one Written = conflict_with_puzzle one
+conflict_of one WordList = conflict_with_read one true
+conflict_of one Puzzle = conflict_with_read one false
+conflict_of one Start = conflict_with_read one false
+conflict_of one Commands = conflict_with_read one false
+conflict_of one other = None
 
 -- the file is named, and its name stands for standard input
 abbrev pub is_input : Option (Bor (List ℕ)) → Bool
@@ -72,8 +72,8 @@ abbrev pub reads_input : SessionFiles → Bool
 reads_input files = is_input files.dict || (is_input files.from_file || is_input files.resume_file)
 
 -- the name of the file with this role in the call; standard input has the name `-`
-abbrev pub name_of : SessionFiles → Role → Option (List ℕ)
-name_of files RoleList = option_map (λ name. name.now) files.dict
+abbrev pub name_of : SessionFiles → FileRole → Option (List ℕ)
+name_of files WordList = option_map (λ name. name.now) files.dict
 name_of files Puzzle = option_map (λ name. name.now) files.from_file
 name_of files Start = option_map (λ name. name.now) files.resume_file
 name_of files Commands = Some (codes "-")
@@ -83,10 +83,10 @@ name_of files Journal = option_map (λ name. name.now) files.journal_file
 name_of files role = None
 
 -- whether the call has a file with this role; commands come on standard input unless a file is read from it
-abbrev pub has : SessionFiles → Role → Bool
+abbrev pub has : SessionFiles → FileRole → Bool
 has files Output = true
 has files Kept = is_some files.save_file
-has files RoleList = is_some files.dict
+has files WordList = is_some files.dict
 has files Puzzle = is_some files.from_file
 has files Start = is_some files.resume_file
 has files Commands = not (reads_input files)
@@ -96,10 +96,10 @@ has files Session = is_some files.save_file
 has files Journal = is_some files.journal_file
 
 -- this file of a call is the one with this role
-abbrev pub IsFileOf : SessionFiles → Role → CallFile → Type 0
+abbrev pub IsFileOf : SessionFiles → FileRole → CallFile → Type 0
 IsFileOf files Output file = file ≡ call_files.Output
 IsFileOf files Kept file = IfNamed files.save_file (λ name. IsKeptAs name file)
-IsFileOf files RoleList file = IfNamed files.dict (λ name. IsSource name file)
+IsFileOf files WordList file = IfNamed files.dict (λ name. IsSource name file)
 IsFileOf files Puzzle file = IfNamed files.from_file (λ name. IsSource name file)
 IsFileOf files Start file = IfNamed files.resume_file (λ name. IsSource name file)
 IsFileOf files Commands file = (reads_input files ≡ false) × (file ≡ call_files.Input)
@@ -126,14 +126,14 @@ IsReadTwice files failure = (is_input files.dict && (is_input files.from_file ||
 
 -- The files of the call with these roles must differ, and the disk found that they are one. The failure says so, and names
 -- the second.
-abbrev pub IsFoundOne : SessionFiles → Role → Role → Failure → Type 0
-IsFoundOne files one other (failures.SameFile pair file same) =
-    (pair_of one other ≡ Some pair) × IfSome (name_of files other) (λ name. file.now ≡ name) × IsFileOf files one same.one × IsFileOf files other same.other
+abbrev pub IsFoundOne : SessionFiles → FileRole → FileRole → Failure → Type 0
+IsFoundOne files one other (failures.SameFile conflict file same) =
+    (conflict_of one other ≡ Some conflict) × IfSome (name_of files other) (λ name. file.now ≡ name) × IsFileOf files one same.one × IsFileOf files other same.other
 IsFoundOne files one other failure = ⊥
 
 -- two files of the call must differ, and are one; or an allocation failed
 abbrev pub IsRefused : SessionFiles → Failure → Type 0
-IsRefused files failure = (failure ≡ failures.Memory) ⊎ ((one : Role) × (other : Role) × IsFoundOne files one other failure)
+IsRefused files failure = (failure ≡ failures.Memory) ⊎ ((one : FileRole) × (other : FileRole) × IsFoundOne files one other failure)
 
 -- two files are standard input, the session is written as `.puz`, or two files are one that must differ
 abbrev pub IsNotApart : SessionFiles → Failure → Type 0

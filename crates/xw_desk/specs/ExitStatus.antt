@@ -27,7 +27,7 @@ status_of (failures.OldUnwritable file number) = Failed
 status_of (failures.File file name) = Format
 status_of (failures.Located file name location) = Format
 status_of (failures.Line file number name) = Format
-status_of (failures.SameFile pair file same) = Usage
+status_of (failures.SameFile conflict file same) = Usage
 status_of (failures.SavedAsPuz file) = Usage
 status_of failures.InputTwice = Usage
 

@@ -5,7 +5,7 @@ use Rattle.xw_arguments.specs.declared.arguments.Usage.TheVariants.{Help, Wrong,
 use Rattle.xw_desk.specs.Desk.{FailsToShow, Moment, Reports, Shows}
 use Rattle.xw_desk.specs.ExitStatus.{status_of}
 use Rattle.xw_desk.specs.Sentences.{sentence_if}
-use Rattle.xw_desk.specs.Told.{failure_text}
+use Rattle.xw_desk.specs.Failures.{failure_text}
 use Rattle.xw_desk.specs.declared.failure.Failure.{Failure}
 use Rattle.xw_desk.specs.declared.failure.Failure.TheVariants as faults
 use Rattle.xw_desk.specs.declared.failure.ExitStatus.{ExitStatus}

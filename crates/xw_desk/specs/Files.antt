@@ -18,7 +18,7 @@ use Rattle.xw_desk.specs.declared.location.Location.{Location}
 use Rattle.xw_disk.specs.Disk.{read, replace, try_}
 use Rattle.xw_disk.specs.declared.disk.DiskFault.{DiskFault}
 use Rattle.xw_desk.specs.Desk.{Asks, Moment, Reports, ReportsIf}
-use Rattle.xw_desk.specs.Told.{IsFaultOf}
+use Rattle.xw_desk.specs.Failures.{IsFaultOf}
 use Rattle.xw_desk.specs.Explained.{rebus_line}
 use Rattle.xw_desk.specs.Names.{HasEnding, IsKindNamed}
 use Rattle.xw_desk.specs.Locations.{read_location, write_location}

@@ -1,7 +1,7 @@
 pub mod Apart
 pub mod Checked
 pub mod ExitStatus
-pub mod Told
+pub mod Failures
 pub mod Names
 pub mod Locations
 pub mod Sentences

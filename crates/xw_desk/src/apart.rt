@@ -2,9 +2,9 @@
 //! another program.
 ghost use Rattle.std.specs.Prelude.{◌≡◌, is_some, option_map, IfErr, IfSome, OnOk};
 ghost use Rattle.xw_disk.specs.CallFile.{IsKeptAs, IsNamed, IsSource};
-ghost use Rattle.xw_desk.specs.Apart.{AreInUse, AreUnwritable, AreWritable, CanWrite, has, is_input, name_of, pair_of, reads_input, pair_with_journal, pair_with_puzzle, pair_with_read, pair_with_session, IsFileOf, IsNotApart, IsReadTwice, IsRefused, IsRefusedJournal, IsRefusedPuz, IsRefusedWrite};
+ghost use Rattle.xw_desk.specs.Apart.{AreInUse, AreUnwritable, AreWritable, CanWrite, has, is_input, name_of, conflict_of, reads_input, conflict_with_journal, conflict_with_puzzle, conflict_with_read, conflict_with_session, IsFileOf, IsNotApart, IsReadTwice, IsRefused, IsRefusedJournal, IsRefusedPuz, IsRefusedWrite};
 ghost use Rattle.xw_desk.specs.Files.{IfNamed};
-ghost use Rattle.xw_desk.specs.Told.{reason};
+ghost use Rattle.xw_desk.specs.Failures.{reason};
 
 use crate::desk::Desk;
 use crate::failure::Failure;
@@ -19,7 +19,7 @@ use xw_lines::{Sink, Source};
 
 /// What a call does with a file.
 #[derive(Clone, Copy, Debug, PartialEq, Eq)]
-pub enum Role {
+pub enum FileRole {
     /// The file that standard output goes to.
     Output,
     /// The file that is kept beside the session.
@@ -43,22 +43,22 @@ pub enum Role {
 }
 
 /// All roles.
-const ROLES: [Role; 10] = [
-    Role::Output,
-    Role::Kept,
-    Role::List,
-    Role::Puzzle,
-    Role::Start,
-    Role::Commands,
-    Role::Input,
-    Role::Written,
-    Role::Session,
-    Role::Journal,
+const ROLES: [FileRole; 10] = [
+    FileRole::Output,
+    FileRole::Kept,
+    FileRole::List,
+    FileRole::Puzzle,
+    FileRole::Start,
+    FileRole::Commands,
+    FileRole::Input,
+    FileRole::Written,
+    FileRole::Session,
+    FileRole::Journal,
 ];
 
 /// Two files of a call that must not be one.
 #[derive(Clone, Copy, Debug, PartialEq, Eq)]
-pub enum Pair {
+pub enum FileConflict {
     /// The word list, and a file to write.
     ListAndWritten,
     /// The puzzle and the session to write.
@@ -75,111 +75,113 @@ pub enum Pair {
     OtherAndJournal,
 }
 
-impl Pair {
+impl FileConflict {
     /// Returns why the files must not be one, as it follows the name of the second in a message.
     pub fn reason(self) -> &'static str
         ensures { result.now ≡ reason self }
     {
         match self {
-            Pair::ListAndWritten => ": the word list cannot be the file to write",
-            Pair::PuzzleAndSession => {
+            FileConflict::ListAndWritten => ": the word list cannot be the file to write",
+            FileConflict::PuzzleAndSession => {
                 ": the puzzle and the session cannot be written into one file"
             }
-            Pair::StartAndSession => {
+            FileConflict::StartAndSession => {
                 ": the session cannot be written over the puzzle to start with"
             }
-            Pair::StartAndPuzzle => {
+            FileConflict::StartAndPuzzle => {
                 ": the puzzle cannot be written over the session to start with"
             }
-            Pair::InputAndWritten => ": standard input cannot be the file to write",
-            Pair::OutputAndOther => ": standard output cannot be another file of the call",
-            Pair::OtherAndJournal => ": the journal cannot be another file of the call",
+            FileConflict::InputAndWritten => ": standard input cannot be the file to write",
+            FileConflict::OutputAndOther => ": standard output cannot be another file of the call",
+            FileConflict::OtherAndJournal => ": the journal cannot be another file of the call",
         }
     }
 }
 
 /// Returns why files with these roles must not be one, or `None` if they may be.
-fn pair_of(one: Role, other: Role) -> Option<Pair>
-    ensures { result ≡ pair_of one other }
+fn conflict_of(one: FileRole, other: FileRole) -> Option<FileConflict>
+    ensures { result ≡ conflict_of one other }
 {
     match other {
-        Role::Journal => pair_with_journal(one),
-        Role::Session => pair_with_session(one),
-        Role::Written => pair_with_puzzle(one),
-        Role::List => pair_with_read(one, true),
-        Role::Puzzle | Role::Start | Role::Commands => pair_with_read(one, false),
+        FileRole::Journal => conflict_with_journal(one),
+        FileRole::Session => conflict_with_session(one),
+        FileRole::Written => conflict_with_puzzle(one),
+        FileRole::List => conflict_with_read(one, true),
+        FileRole::Puzzle | FileRole::Start | FileRole::Commands => conflict_with_read(one, false),
         _ => None,
     }
 }
 
 /// Returns why a file must not be the journal.
-fn pair_with_journal(one: Role) -> Option<Pair>
-    ensures { result ≡ pair_with_journal one }
+fn conflict_with_journal(one: FileRole) -> Option<FileConflict>
+    ensures { result ≡ conflict_with_journal one }
 {
     match one {
-        Role::Output | Role::Input | Role::List | Role::Written | Role::Session => {
-            Some(Pair::OtherAndJournal)
-        }
+        FileRole::Output
+        | FileRole::Input
+        | FileRole::List
+        | FileRole::Written
+        | FileRole::Session => { Some(FileConflict::OtherAndJournal) }
         _ => None,
     }
 }
 
 /// Returns why a file must not be the session to write.
-fn pair_with_session(one: Role) -> Option<Pair>
-    ensures { result ≡ pair_with_session one }
+fn conflict_with_session(one: FileRole) -> Option<FileConflict>
+    ensures { result ≡ conflict_with_session one }
 {
     match one {
-        Role::Output => Some(Pair::OutputAndOther),
-        Role::List => Some(Pair::ListAndWritten),
-        Role::Puzzle => Some(Pair::StartAndSession),
-        Role::Commands => Some(Pair::InputAndWritten),
-        Role::Written => Some(Pair::PuzzleAndSession),
+        FileRole::Output => Some(FileConflict::OutputAndOther),
+        FileRole::List => Some(FileConflict::ListAndWritten),
+        FileRole::Puzzle => Some(FileConflict::StartAndSession),
+        FileRole::Commands => Some(FileConflict::InputAndWritten),
+        FileRole::Written => Some(FileConflict::PuzzleAndSession),
         _ => None,
     }
 }
 
 /// Returns why a file must not be the puzzle to write.
-fn pair_with_puzzle(one: Role) -> Option<Pair>
-    ensures { result ≡ pair_with_puzzle one }
+fn conflict_with_puzzle(one: FileRole) -> Option<FileConflict>
+    ensures { result ≡ conflict_with_puzzle one }
 {
     match one {
-        Role::Output => Some(Pair::OutputAndOther),
-        Role::Kept => Some(Pair::PuzzleAndSession),
-        Role::List => Some(Pair::ListAndWritten),
-        Role::Start => Some(Pair::StartAndPuzzle),
-        Role::Commands => Some(Pair::InputAndWritten),
+        FileRole::Output => Some(FileConflict::OutputAndOther),
+        FileRole::Kept => Some(FileConflict::PuzzleAndSession),
+        FileRole::List => Some(FileConflict::ListAndWritten),
+        FileRole::Start => Some(FileConflict::StartAndPuzzle),
+        FileRole::Commands => Some(FileConflict::InputAndWritten),
         _ => None,
     }
 }
 
 /// Returns why a file must not be one that is read.
-fn pair_with_read(one: Role, is_list: bool) -> Option<Pair>
-    ensures { result ≡ pair_with_read one is_list }
+fn conflict_with_read(one: FileRole, is_list: bool) -> Option<FileConflict>
+    ensures { result ≡ conflict_with_read one is_list }
 {
     match one {
-        Role::Output => Some(Pair::OutputAndOther),
-        Role::Kept if is_list => Some(Pair::ListAndWritten),
+        FileRole::Output => Some(FileConflict::OutputAndOther),
+        FileRole::Kept if is_list => Some(FileConflict::ListAndWritten),
         _ => None,
     }
 }
 
 /// Returns the file of a call with a role, if there is one.
-fn file_of<'a>(files: SessionFiles<'a>, role: Role) -> Option<CallFile<'a>>
+fn file_of<'a>(files: SessionFiles<'a>, role: FileRole) -> Option<CallFile<'a>>
     ensures has { is_some result ≡ has files.entry role }
     ensures file { IfSome result (IsFileOf files.entry role) }
 {
     match role {
-        Role::Output => Some(CallFile::Output),
-        Role::Kept => kept(files.save_file),
-        Role::List => read(files.dict),
-        Role::Puzzle => read(files.from_file),
-        Role::Start => read(files.resume_file),
-        Role::Commands if reads_input(files) => None,
-        Role::Commands => Some(CallFile::Input),
-        Role::Input => Some(CallFile::Named(INPUT_PATH)),
-        Role::Written => named(files.to_file),
-        Role::Session => named(files.save_file),
-        Role::Journal => named(files.journal_file),
+        FileRole::Output => Some(CallFile::Output),
+        FileRole::Kept => kept(files.save_file),
+        FileRole::List => read(files.dict),
+        FileRole::Puzzle => read(files.from_file),
+        FileRole::Start => read(files.resume_file),
+        FileRole::Commands if reads_input(files) => None,
+        FileRole::Commands => Some(CallFile::Input),
+        FileRole::Input => Some(CallFile::Named(INPUT_PATH)),
+        FileRole::Written => named(files.to_file),
+        FileRole::Session => named(files.save_file),
+        FileRole::Journal => named(files.journal_file),
     }
 }
 
@@ -217,17 +219,17 @@ fn read<'a>(name: Option<&'a str>) -> Option<CallFile<'a>>
 }
 
 /// Returns the name of the file with a role in the call, if it has one. Standard input has the name `-`.
-fn name_of<'a>(named: SessionFiles<'a>, role: Role) -> Option<&'a str>
+fn name_of<'a>(named: SessionFiles<'a>, role: FileRole) -> Option<&'a str>
     ensures { option_map (λ name. name.now) result ≡ name_of named.entry role }
 {
     match role {
-        Role::List => named.dict,
-        Role::Puzzle => named.from_file,
-        Role::Start => named.resume_file,
-        Role::Commands => Some("-"),
-        Role::Written => named.to_file,
-        Role::Session => named.save_file,
-        Role::Journal => named.journal_file,
+        FileRole::List => named.dict,
+        FileRole::Puzzle => named.from_file,
+        FileRole::Start => named.resume_file,
+        FileRole::Commands => Some("-"),
+        FileRole::Written => named.to_file,
+        FileRole::Session => named.save_file,
+        FileRole::Journal => named.journal_file,
         _ => None,
     }
 }
@@ -246,7 +248,11 @@ pub fn keep_apart<'a, D: Disk>(disk: &D, named: SessionFiles<'a>) -> Result<(), 
 }
 
 /// Refuses another file with each role if it must not be this one.
-fn refuse_with<'a, D: Disk>(disk: &D, named: SessionFiles<'a>, one: Role) -> Result<(), Failure<'a>>
+fn refuse_with<'a, D: Disk>(
+    disk: &D,
+    named: SessionFiles<'a>,
+    one: FileRole,
+) -> Result<(), Failure<'a>>
     ensures { IfErr result (λ failure. IsRefused named.entry failure) }
 {
     for other in ROLES {
@@ -259,12 +265,12 @@ fn refuse_with<'a, D: Disk>(disk: &D, named: SessionFiles<'a>, one: Role) -> Res
 fn refuse<'a, D: Disk>(
     disk: &D,
     named: SessionFiles<'a>,
-    one: Role,
-    other: Role,
+    one: FileRole,
+    other: FileRole,
 ) -> Result<(), Failure<'a>>
     ensures { IfErr result (λ failure. IsRefused named.entry failure) }
 {
-    let (Some(pair), Some(name)) = (pair_of(one, other), name_of(named, other)) else {
+    let (Some(conflict), Some(name)) = (conflict_of(one, other), name_of(named, other)) else {
         return Ok(());
     };
     let (Some(first), Some(second)) = (file_of(named, one), file_of(named, other)) else {
@@ -272,7 +278,7 @@ fn refuse<'a, D: Disk>(
     };
     match disk.same_file(first, second)? {
         Some(same) => Err(Failure::SameFile {
-            pair,
+            conflict,
             file: name,
             same,
         }),
@@ -285,9 +291,9 @@ pub fn keep_session_apart<'a, D: Disk>(disk: &D, named: SessionFiles<'a>) -> Res
     ensures { IfErr result (λ failure. IsNotApart named.entry failure) }
 {
     for role in ROLES {
-        if role != Role::Written {
-            refuse(disk, named, role, Role::Session)?;
-            refuse(disk, named, Role::Session, role)?;
+        if role != FileRole::Written {
+            refuse(disk, named, role, FileRole::Session)?;
+            refuse(disk, named, FileRole::Session, role)?;
         }
     }
     Ok(())

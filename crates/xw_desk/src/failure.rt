@@ -4,10 +4,10 @@ ghost use Rattle.std.specs.Fmt.{WritesOnOk};
 ghost use Rattle.std.specs.Process.{exit_status};
 ghost use Rattle.xw_desk.specs.ExitStatus.{code_of, status_of, run_ended};
 ghost use Rattle.xw_desk.specs.Explained.{is_of_disk};
-ghost use Rattle.xw_desk.specs.Told.{IsFaultOf, IsOldFaultOf};
+ghost use Rattle.xw_desk.specs.Failures.{IsFaultOf, IsOldFaultOf};
 ghost use Rattle.xw_disk.specs.Kept.{kept_name};
 
-use crate::apart::Pair;
+use crate::apart::FileConflict;
 use crate::location::Location;
 use std::alloc::AllocError;
 use std::fmt;
@@ -89,7 +89,7 @@ pub enum Failure<'a> {
     },
     /// Two files of the call are one, and must not be. `file` is the name of the second.
     SameFile {
-        pair: Pair,
+        conflict: FileConflict,
         file: &'a str,
         same: SameFile<'a>,
     },
@@ -103,7 +103,7 @@ pub enum Failure<'a> {
 
 impl<'a> fmt::Display for Failure<'a> {
     ghost use Rattle.std.specs.Prelude.{Some};
-    ghost use Rattle.xw_desk.specs.Told.{failure_text};
+    ghost use Rattle.xw_desk.specs.Failures.{failure_text};
 
     ghost output = { λ failure. Some (failure_text failure) };
 
@@ -126,7 +126,7 @@ impl<'a> fmt::Display for Failure<'a> {
             Failure::Line { file, number, name } => {
                 write!(f, "xw: {file}: line {number}: {name}")
             }
-            Failure::SameFile { pair, file, .. } => write_named(f, file, pair.reason()),
+            Failure::SameFile { conflict, file, .. } => write_named(f, file, conflict.reason()),
             Failure::SavedAsPuz { file } => {
                 write_named(f, file, ": the session cannot be written as .puz")
             }

@@ -17,14 +17,14 @@ pub trait Outlet: Sink {
 
 /// A writer that sets a mark when its pipe has no reader.
 #[derive(Drop)]
-pub struct Watched<'a, W: Drop> {
+pub struct PipeWriter<'a, W: Drop> {
     writer: W,
     mark: &'a Cell<bool>,
 }
 
-impl<'a, W: Write + Drop> Watched<'a, W> {
-    pub fn new(writer: W, mark: &'a Cell<bool>) -> Watched<'a, W> {
-        Watched { writer, mark }
+impl<'a, W: Write + Drop> PipeWriter<'a, W> {
+    pub fn new(writer: W, mark: &'a Cell<bool>) -> PipeWriter<'a, W> {
+        PipeWriter { writer, mark }
     }
 
     /// Sets the mark if the error says so, and returns the error.
@@ -36,7 +36,7 @@ impl<'a, W: Write + Drop> Watched<'a, W> {
     }
 }
 
-impl<'a, W: Write + Drop> Write for Watched<'a, W> {
+impl<'a, W: Write + Drop> Write for PipeWriter<'a, W> {
     fn write(&mut self, bytes: &[u8]) -> io::Result<usize> {
         match self.writer.write(bytes) {
             Ok(count) => Ok(count),
@@ -52,7 +52,7 @@ impl<'a, W: Write + Drop> Write for Watched<'a, W> {
     }
 }
 
-/// A sink over a `Watched` with this mark, as an `Outlet`.
+/// A sink over a `PipeWriter` with this mark, as an `Outlet`.
 #[derive(Drop)]
 pub struct Output<'a, S: Sink + Drop> {
     sink: S,

@@ -1,5 +1,5 @@
 use Rattle.std.proofs.Common.{◌≡◌, ◌∙◌, true, sym, subst, append_assoc, rules}
-use Rattle.xw_desk.proofs.Told.{reports_as}
+use Rattle.xw_desk.proofs.Writing.{reports_as}
 use Rattle.xw_desk.specs.Desk.{ReportsIf}
 use Rattle.xw_cli.specs.SessionFiles.{cut_line}
 use Rattle.xw_cli.proofs.session_files.tell_cut_if.Goals as goal

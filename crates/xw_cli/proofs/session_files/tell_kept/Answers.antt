@@ -1,6 +1,6 @@
 use Rattle.std.proofs.Common.{◌≡◌, ◌∙◌, ◌++◌, ap, List, ℕ, append_assoc}
 use Rattle.std.specs.Prelude.{codes}
-use Rattle.xw_desk.proofs.Told.{reports_as}
+use Rattle.xw_desk.proofs.Writing.{reports_as}
 use Rattle.xw_disk.specs.Kept.{kept_name}
 use Rattle.xw_cli.specs.SessionFiles.{old_line}
 use Rattle.xw_cli.proofs.session_files.tell_kept.Goals as goal

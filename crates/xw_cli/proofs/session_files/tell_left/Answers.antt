@@ -1,5 +1,5 @@
 use Rattle.std.proofs.Common.{◌≡◌, ◌∙◌, append_assoc}
-use Rattle.xw_desk.proofs.Told.{reports_as}
+use Rattle.xw_desk.proofs.Writing.{reports_as}
 use Rattle.xw_cli.specs.SessionFiles.{left_line}
 use Rattle.xw_cli.proofs.session_files.tell_left.Goals as goal
 

@@ -1,6 +1,6 @@
 use Rattle.std.proofs.Common.{◌≡◌, ◌∙◌, ◌++◌, ap, List, ℕ, append_assoc}
 use Rattle.std.specs.Prelude.{codes}
-use Rattle.xw_desk.proofs.Told.{reports_as}
+use Rattle.xw_desk.proofs.Writing.{reports_as}
 use Rattle.xw_cli.specs.Unended.{before_line}
 use Rattle.xw_cli.proofs.unended.tell_before.Goals as goal
 

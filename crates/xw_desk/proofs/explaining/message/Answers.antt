@@ -1,6 +1,6 @@
 use Rattle.std.proofs.Common.{Bool, append_assoc, subst}
 use Rattle.xw_desk.specs.Explained.{IsReason}
-use Rattle.xw_desk.proofs.Told.{messaged}
+use Rattle.xw_desk.proofs.Writing.{messaged}
 use Rattle.xw_desk.proofs.explaining.message.Goals as goal
 
 pub returns : goal.returns

@@ -1,5 +1,5 @@
 use Rattle.std.proofs.Common.{refl}
-use Rattle.xw_desk.proofs.Told.{goes_out}
+use Rattle.xw_desk.proofs.Writing.{goes_out}
 use Rattle.xw_desk.proofs.desk.Desk.report.Goals as goal
 
 pub returns : goal.returns

@@ -1,6 +1,6 @@
 use Rattle.std.proofs.Common.{[], false}
 use Rattle.xw_desk.specs.Desk.{Moment}
-use Rattle.xw_desk.proofs.Told.{fails_to_show, shows}
+use Rattle.xw_desk.proofs.Writing.{fails_to_show, shows}
 use Rattle.xw_desk.proofs.desk.Desk.show.Goals as goal
 
 pub returns-clause-ok : goal.returns-clause-ok

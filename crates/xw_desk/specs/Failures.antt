@@ -3,14 +3,14 @@ use Rattle.std.specs.Prelude.{◌≡◌, ℕ, ◌++◌, List, codes, decimal}
 use Rattle.xw_disk.specs.Kept.{kept_name}
 use Rattle.xw_disk.specs.declared.disk.DiskFault.{DiskFault}
 use Rattle.xw_disk.specs.declared.disk.DiskFault.TheVariants as faults
-use Rattle.xw_desk.specs.declared.apart.Pair.{Pair}
-use Rattle.xw_desk.specs.declared.apart.Pair.TheVariants.{ListAndWritten, PuzzleAndSession, StartAndSession, StartAndPuzzle, InputAndWritten, OutputAndOther, OtherAndJournal}
+use Rattle.xw_desk.specs.declared.apart.FileConflict.{FileConflict}
+use Rattle.xw_desk.specs.declared.apart.FileConflict.TheVariants.{ListAndWritten, PuzzleAndSession, StartAndSession, StartAndPuzzle, InputAndWritten, OutputAndOther, OtherAndJournal}
 use Rattle.xw_desk.specs.declared.failure.Failure.{Failure}
 use Rattle.xw_desk.specs.declared.failure.Failure.TheVariants as failures
 use Rattle.xw_desk.specs.Locations.{location_text}
 
 -- why two files of a call must not be one, behind the name of the second
-abbrev pub reason : Pair → List ℕ
+abbrev pub reason : FileConflict → List ℕ
 reason ListAndWritten = codes ": the word list cannot be the file to write"
 reason PuzzleAndSession = codes ": the puzzle and the session cannot be written into one file"
 reason StartAndSession = codes ": the session cannot be written over the puzzle to start with"
@@ -31,7 +31,7 @@ failure_text (failures.OldUnwritable file number) = codes "xw: " ++ kept_name fi
 failure_text (failures.File file name) = codes "xw: " ++ file.now ++ codes ": " ++ name.now
 failure_text (failures.Located file name location) = codes "xw: " ++ file.now ++ codes ": " ++ name.now ++ codes "\nxw: " ++ location_text location
 failure_text (failures.Line file number name) = codes "xw: " ++ file.now ++ codes ": line " ++ decimal number ++ codes ": " ++ name.now
-failure_text (failures.SameFile pair file same) = codes "xw: " ++ file.now ++ reason pair
+failure_text (failures.SameFile conflict file same) = codes "xw: " ++ file.now ++ reason conflict
 failure_text (failures.SavedAsPuz file) = codes "xw: " ++ file.now ++ codes ": the session cannot be written as .puz"
 failure_text failures.InputTwice = codes "xw: -: standard input can be read only once"
 

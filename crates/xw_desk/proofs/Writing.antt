@@ -7,7 +7,7 @@ use Rattle.xw_desk.specs.Desk.{FailsToShow, Moment, Reports, Shows}
 use Rattle.xw_desk.specs.declared.failure.Failure.{Failure}
 use Rattle.xw_desk.specs.Explained.{IsMessage, IsReason, is_of_disk}
 use Rattle.xw_desk.specs.Sentences.{sentence_if}
-use Rattle.xw_desk.specs.Told.{failure_text}
+use Rattle.xw_desk.specs.Failures.{failure_text}
 
 pub goes_out : {S T E : Type 0} (transcript : S → List ℕ) (failures : S → ℕ) (old new : S) (result : Result T E) (text : List ℕ)
     → Sends transcript failures old new result text → ((transcript new ≡ transcript old ++ text) × (failures new ≡ failures old)) ⊎ HasFailed (failures old) (failures new)

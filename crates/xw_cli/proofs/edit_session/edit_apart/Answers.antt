@@ -1,7 +1,7 @@
 use Rattle.std.proofs.Common.{inl, inr}
 use Rattle.std.proofs.lemmas.Result.{err_from_is_err_and}
 use Rattle.xw_cli.proofs.Steps.{edits}
-use Rattle.xw_cli.proofs.edit.edit_apart.Goals as goal
+use Rattle.xw_cli.proofs.edit_session.edit_apart.Goals as goal
 
 pub returns-in_err-session : goal.returns-in_err-session
 returns-in_err-session g c =

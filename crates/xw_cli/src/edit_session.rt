@@ -20,7 +20,7 @@ use xw_session::Session;
 
 /// Runs a session: opens its files, answers the input, and writes its files. Files that must differ are refused first. The
 /// observer may be told how far a long search is.
-pub fn edit<'a, F: Searchable, D: Disk, I: Source, O: Outlet, E: Sink, W: Observer>(
+pub fn edit_session<'a, F: Searchable, D: Disk, I: Source, O: Outlet, E: Sink, W: Observer>(
     desk: &mut Desk<D, I, O, E>,
     named: SessionFiles<'a>,
     observer: W,

@@ -1,6 +1,6 @@
 use Rattle.std.proofs.Common.{inl, inr}
 use Rattle.std.proofs.lemmas.Result.{err_from_is_err_and}
-use Rattle.xw_cli.proofs.edit.edit.Goals as goal
+use Rattle.xw_cli.proofs.edit_session.edit_session.Goals as goal
 
 pub returns-in_err-keep_files : goal.returns-in_err-keep_files
 returns-in_err-keep_files g c =
