@@ -3,6 +3,9 @@ pub mod Gathering
 pub mod Sending
 pub mod Bars
 pub mod LightTexts
+pub mod BaseWords
+pub mod LightStarts
+pub mod Numbered
 pub mod Escapes
 pub mod FieldTexts
 pub mod Recording

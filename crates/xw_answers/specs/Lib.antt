@@ -1,5 +1,6 @@
 pub mod Escape
 pub mod Text
+pub mod Numbering
 pub mod Token
 pub mod Show
 pub mod Fields

@@ -8,6 +8,7 @@ pub mod fields;
 mod lights;
 pub mod lists;
 pub mod lookup;
+pub mod numbering;
 pub mod record;
 pub mod refusal;
 pub mod show;

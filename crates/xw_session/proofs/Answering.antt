@@ -1,5 +1,5 @@
 -- Answering commands.
-use Rattle.std.proofs.Common.{◌≡◌, ℕ, List, ◌++◌, refl, ap, subst, sym, ◌∙◌, inl, inr}
+use Rattle.std.proofs.Common.{◌≡◌, ℕ, List, ◌++◌, refl, ap, subst, sym, ◌∙◌, inl, inr, append-nil}
 use Rattle.std.specs.Prelude.{Option, Some, Result, Ok, Err, IfOk}
 use Rattle.xw_lines.specs.Sends.{Sends}
 use Rattle.xw_lines.specs.Device.{Begins, HasFailed}
@@ -10,7 +10,7 @@ use Rattle.xw_lines.specs.Cut.{held}
 use Rattle.xw_lines.specs.Spoken.{Answered, BreaksPiece, NeverStops}
 use Rattle.xw_lines.specs.declared.outcome.AnswerFault.TheVariants.{WriteFailed}
 use Rattle.xw_commands.specs.Command.{command_of}
-use Rattle.xw_answers.specs.Text.{accepted, refused}
+use Rattle.xw_answers.specs.Text.{refused}
 use Rattle.xw_commands.specs.declared.command.SyntaxFault.{SyntaxFault}
 use Rattle.xw_session.specs.State.{SessionState}
 use Rattle.xw_commands.specs.declared.command.Command.{Command}
@@ -22,167 +22,118 @@ use Rattle.xw_answers.specs.declared.refusal.CommandRefusal.TheVariants as refus
 use Rattle.xw_feas.specs.declared.edit.Edit.{Edit}
 use Rattle.xw_feas.specs.State.{action_of, after as state_after}
 use Rattle.xw_session.specs.Reply.{Reply, shown, changed, moved, want_of}
-use Rattle.xw_session.specs.Answer.{AnswersEdit, Asks, Answers, IsReply, IsAnswer, AnswersBy, AnswersTo, AnswersQuery, AnswersChange, AnswersParsed, AnswersParsedBy, Edits, reply_of, text_of, ended_by, step_by, outcome_of, step_of, IsExecuted}
+use Rattle.xw_session.specs.Answer.{AnswersEdit, Asks, Answers, IsAnswer, AnswersBy, AnswersTo, AnswersQuery, AnswersChange, AnswersParsed, AnswersParsedBy, Edits, accepted_by, reply_of, lines_in, end_of, text_of, ended_by, step_by, step_of, IsExecuted}
 
--- a change was made or refused, and then its answer was written
-pub edit_answers : {S E T : Type 0} (transcript : S → List ℕ) (failures : S → ℕ) (state after : SessionState) (change : Change) (done : Result T CommandRefusal) (result : Result (Result (Unit {0}) CommandRefusal) E) (old new : S) → Edits state change done after
-    → ((g : SessionState) → Sends transcript failures old new result (text_of (reply_of done g)))
-    → ((g : SessionState) → IfOk result (λ o. o ≡ ended_by (reply_of done g)))
-    → AnswersChange transcript failures state change result after old new
-edit_answers transcript failures state after change done result old new edits sends outcome = (
-  changed state change,
-  refl,
-  record {
-    reply = reply_of done after;
-    fits = edits.0;
-    effect = edits.1;
-    sends = sends after;
-    step = outcome after;
-  },
-)
+-- how a command without answer lines ended
+pub ended_itself : (ended : Result (Unit {0}) CommandRefusal) (after : SessionState) → ended ≡ ended_by (reply_of ended after)
+ended_itself (Ok done) after = refl
+ended_itself (Err refusal) after = refl
 
--- the edit that a change asks for was answered
-pub asked_answers : {S E : Type 0} (transcript : S → List ℕ) (failures : S → ℕ) (state left : SessionState) (change : Change) (edit : Edit) (result : Result (Result (Unit {0}) CommandRefusal) E) (old new : S) → Asks state change (Ok edit)
-    → AnswersEdit transcript failures state edit result left old new → AnswersChange transcript failures state change result left old new
-asked_answers transcript failures state left change edit result old new asks answers =
-    let due = moved state (state_after state.engine (action_of edit)) in
-    (due, asks.0, subst (λ (want : Option CommandRefusal). AnswersBy transcript failures state due want result left old new) (sym asks.1) answers)
+-- the lines of an answer, and then its end
+answer_parts : (reply : Result Reply CommandRefusal) → lines_in reply ++ end_of (ended_by reply) ≡ text_of reply
+answer_parts (Ok reply) = refl
+answer_parts (Err refusal) = refl
+
+no_lines : {S : Type 0} (transcript : S → List ℕ) (ended : Result (Unit {0}) CommandRefusal) (after : SessionState) (sink : S) → transcript sink ≡ transcript sink ++ lines_in (reply_of ended after)
+no_lines transcript (Ok done) after sink = sym (append-nil (transcript sink))
+no_lines transcript (Err refusal) after sink = sym (append-nil (transcript sink))
 
 -- the outcome of a line, by the reply to its command
 step_by_reply : (reply : Result Reply CommandRefusal) → step_by (ended_by reply) ≡ step_of reply
 step_by_reply (Ok reply) = refl
 step_by_reply (Err refusal) = refl
 
--- a line with a command
-pub line_answers : {S E : Type 0} (transcript : S → List ℕ) (failures : S → ℕ) (state after : SessionState) (command : Command) (result : Result (Result (Unit {0}) CommandRefusal) E) (old new : S)
-    → AnswersTo transcript failures state command result after old new → AnswersParsedBy transcript failures state (Ok (Some command)) (outcome_of result) after old new
-line_answers transcript failures state after command (Ok ended) old new (due, owed, a) = record {
-  outcome = step_of a.reply;
-  answer = text_of a.reply;
-  fits = (a.reply, (due, owed, a.fits), refl, refl, a.effect);
-  sends = a.sends;
-  is = ap step_by a.step ∙ step_by_reply a.reply;
-}
-line_answers transcript failures state after command (Err error) old new (due, owed, a) = record {
-  outcome = step_of a.reply;
-  answer = text_of a.reply;
-  fits = (a.reply, (due, owed, a.fits), refl, refl, a.effect);
-  sends = a.sends;
-  is = tt;
-}
+-- a command was accepted if its lines were written
+pub wrote_lines : {S E : Type 0} (transcript : S → List ℕ) (failures : S → ℕ) (lines : List ℕ) (wrote : Result (Unit {0}) E) (old new : S) → Sends transcript failures old new wrote lines → Sends transcript failures old new (accepted_by wrote) lines
+wrote_lines transcript failures lines (Ok done) old new sent = sent
+wrote_lines transcript failures lines (Err error) old new sent = sent
 
--- a line that is not a valid command
-pub line_refused : {S E : Type 0} (transcript : S → List ℕ) (failures : S → ℕ) (state : SessionState) (fault : SyntaxFault) (result : Result (Result (Unit {0}) CommandRefusal) E) (old new : S)
-    → ((g : SessionState) → Sends transcript failures old new result (text_of (reply_of {T = Unit {0}} (Err (refusals.Syntax fault)) g)))
-    → ((g : SessionState) → IfOk result (λ o. o ≡ ended_by (reply_of {T = Unit {0}} (Err (refusals.Syntax fault)) g)))
-    → AnswersParsedBy transcript failures state (Err fault) (outcome_of result) state old new
-line_refused transcript failures state fault (Ok ended) old new sends ends = record {
-  outcome = Refused;
-  answer = refused (refusals.Syntax fault);
-  fits = (refl, refl, refl);
-  sends = sends state;
-  is = ap step_by (ends state);
-}
-line_refused transcript failures state fault (Err error) old new sends ends = record {
-  outcome = Refused;
-  answer = refused (refusals.Syntax fault);
-  fits = (refl, refl, refl);
-  sends = sends state;
-  is = tt;
-}
+pub wrote_accepted : {E : Type 0} (wrote : Result (Unit {0}) E) → IfOk (accepted_by wrote) (λ ended. ended ≡ Ok tt)
+wrote_accepted (Ok done) = refl
+wrote_accepted (Err error) = tt
 
--- ---- the specified reply was answered
+module _ {S E : Type 0} (transcript : S → List ℕ) (failures : S → ℕ) (state : SessionState) where
+  -- ---- changes
 
-module _ {S : Type 0} (transcript : S → List ℕ) (failures : S → ℕ) where
-  -- the lines were written, and then the end of the answer
-  pub reply_answers : {E : Type 0} (state : SessionState) (due : Result Reply CommandRefusal) (want : Option CommandRefusal) (reply : Reply) (result : Result (Result (Unit {0}) CommandRefusal) E) (old mid new : S)
-      → due ≡ Ok reply
-      → (transcript mid ≡ transcript old ++ reply.lines) × (failures mid ≡ failures old)
-      → ((g : SessionState) → Sends transcript failures mid new result (text_of (reply_of {T = Unit {0}} (Ok tt) g)))
-      → ((g : SessionState) → IfOk result (λ o. o ≡ ended_by (reply_of {T = Unit {0}} (Ok tt) g)))
-      → AnswersBy transcript failures state due want result reply.state old new
-  reply_answers state due want reply result old mid new is wrote sends outcome = record {
-    reply = Ok reply;
-    fits = is;
-    effect = refl;
-    sends = sends-then transcript failures old mid new reply.lines accepted result wrote (sends state);
-    step = outcome state;
-  }
+  module _ (after : SessionState) (change : Change) where
+    -- a change without answer lines was made or refused
+    pub edit_answers : (ended : Result (Unit {0}) CommandRefusal) (sink : S) → Edits state change ended after → AnswersChange {E = E} transcript failures state change (Ok ended) after sink sink
+    edit_answers ended sink edits =
+        (changed state change, refl, record { reply = reply_of ended after; fits = edits.0; effect = edits.1; sends = (no_lines transcript ended after sink, refl); ends = ended_itself ended after })
 
-  -- the writer failed within the lines
-  pub reply_stops : {E : Type 0} (state : SessionState) (due : Result Reply CommandRefusal) (want : Option CommandRefusal) (reply : Reply) (error : E) (old new : S)
-      → due ≡ Ok reply
-      → Begins (transcript old) (transcript new) reply.lines × HasFailed (failures old) (failures new)
-      → AnswersBy transcript failures state due want (Err error) reply.state old new
-  reply_stops state due want reply error old new is sends = record {
-    reply = Ok reply;
-    fits = is;
-    effect = refl;
-    sends = stops-within transcript failures old new reply.lines accepted sends;
-    step = tt;
-  }
+    -- the edit that a change asks for was made or refused
+    pub asked_answers : (edit : Edit) (result : Result (Result (Unit {0}) CommandRefusal) E) (old new : S) → Asks state change (Ok edit)
+        → AnswersEdit transcript failures state edit result after old new → AnswersChange transcript failures state change result after old new
+    asked_answers edit result old new asks answers =
+        let due = moved state (state_after state.engine (action_of edit)) in
+        (due, asks.0, subst (λ (want : Option CommandRefusal). AnswersBy transcript failures state due want result after old new) (sym asks.1) answers)
 
-  -- a refusal was answered
-  pub refused_answers : {E : Type 0} (state : SessionState) (due : Result Reply CommandRefusal) (want : Option CommandRefusal) (refusal : CommandRefusal) (result : Result (Result (Unit {0}) CommandRefusal) E) (old new : S)
-      → IsReply due want (Err refusal)
-      → ((g : SessionState) → Sends transcript failures old new result (text_of (reply_of {T = Unit {0}} (Err refusal) g)))
-      → ((g : SessionState) → IfOk result (λ o. o ≡ ended_by (reply_of {T = Unit {0}} (Err refusal) g)))
-      → AnswersBy transcript failures state due want result state old new
-  refused_answers state due want refusal result old new is sends outcome = record {
-    reply = Err refusal;
-    fits = is;
-    effect = refl;
-    sends = sends state;
-    step = outcome state;
-  }
+  -- ---- queries
 
-  module _ {E : Type 0} (state : SessionState) (query : Query) where
-    -- a query wrote its lines, and then the end of its answer
-    pub query_answers : (lines : List ℕ) (result : Result (Result (Unit {0}) CommandRefusal) E) (old mid new : S)
-        → IsAnswer state query (Ok lines)
-        → (transcript mid ≡ transcript old ++ lines) × (failures mid ≡ failures old)
-        → ((g : SessionState) → Sends transcript failures mid new result (text_of (reply_of {T = Unit {0}} (Ok tt) g)))
-        → ((g : SessionState) → IfOk result (λ o. o ≡ ended_by (reply_of {T = Unit {0}} (Ok tt) g)))
-        → AnswersQuery transcript failures state query result old new
-    query_answers lines result old mid new is wrote sends outcome =
-        (shown state lines, (Ok lines, is, refl), reply_answers state (shown state lines) (want_of state (commands.Ask query)) (record { lines = lines; state = state }) result old mid new refl wrote sends outcome)
-
-    -- the writer failed within the lines of a query
-    pub query_stops : (lines : List ℕ) (error : E) (old new : S)
-        → IsAnswer state query (Ok lines)
-        → Begins (transcript old) (transcript new) lines × HasFailed (failures old) (failures new)
-        → AnswersQuery transcript failures state query (Err error) old new
-    query_stops lines error old new is sends =
-        (shown state lines, (Ok lines, is, refl), reply_stops state (shown state lines) (want_of state (commands.Ask query)) (record { lines = lines; state = state }) error old new refl sends)
+  module _ (query : Query) where
+    -- the lines of an answer were written, or the writer failed within them
+    pub query_answers : (lines : List ℕ) (wrote : Result (Unit {0}) E) (old new : S) → IsAnswer state query (Ok lines) → Sends transcript failures old new wrote lines
+        → AnswersQuery transcript failures state query (accepted_by wrote) old new
+    query_answers lines wrote old new is sent =
+        (shown state lines, (Ok lines, is, refl), record { reply = shown state lines; fits = refl; effect = refl; sends = wrote_lines transcript failures lines wrote old new sent; ends = wrote_accepted wrote })
 
     -- a query was refused
-    pub query_refused : (refusal : CommandRefusal) (result : Result (Result (Unit {0}) CommandRefusal) E) (old new : S)
-        → IsAnswer state query (Err refusal)
-        → ((g : SessionState) → Sends transcript failures old new result (text_of (reply_of {T = Unit {0}} (Err refusal) g)))
-        → ((g : SessionState) → IfOk result (λ o. o ≡ ended_by (reply_of {T = Unit {0}} (Err refusal) g)))
-        → AnswersQuery transcript failures state query result old new
-    query_refused refusal result old new is sends outcome =
-        (Err refusal, (Err refusal, is, refl), refused_answers state (Err refusal) (want_of state (commands.Ask query)) refusal result old new (inl refl) sends outcome)
+    pub query_refused : (refusal : CommandRefusal) (sink : S) → IsAnswer state query (Err refusal) → AnswersQuery {E = E} transcript failures state query (Ok (Err refusal)) sink sink
+    query_refused refusal sink is =
+        (Err refusal, (Err refusal, is, refl), record { reply = Err refusal; fits = inl refl; effect = refl; sends = (sym (append-nil (transcript sink)), refl); ends = refl })
 
     -- a query was refused for a failed allocation
-    pub query_unanswered : (lines : List ℕ) (refusal : CommandRefusal) (result : Result (Result (Unit {0}) CommandRefusal) E) (old new : S)
-        → IsAnswer state query (Ok lines) → want_of state (commands.Ask query) ≡ Some refusal
-        → ((g : SessionState) → Sends transcript failures old new result (text_of (reply_of {T = Unit {0}} (Err refusal) g)))
-        → ((g : SessionState) → IfOk result (λ o. o ≡ ended_by (reply_of {T = Unit {0}} (Err refusal) g)))
-        → AnswersQuery transcript failures state query result old new
-    query_unanswered lines refusal result old new is wants sends outcome =
-        (shown state lines, (Ok lines, is, refl), refused_answers state (shown state lines) (want_of state (commands.Ask query)) refusal result old new (inr (refl, wants)) sends outcome)
+    pub query_unanswered : (lines : List ℕ) (refusal : CommandRefusal) (sink : S) → IsAnswer state query (Ok lines) → want_of state (commands.Ask query) ≡ Some refusal
+        → AnswersQuery {E = E} transcript failures state query (Ok (Err refusal)) sink sink
+    query_unanswered lines refusal sink is wants =
+        (shown state lines, (Ok lines, is, refl), record { reply = Err refusal; fits = inr (refl, wants); effect = refl; sends = (sym (append-nil (transcript sink)), refl); ends = refl })
+
+  -- ---- lines
+
+  -- a command was executed, and then the end of its answer was written
+  pub line_answers : {F : Type 0} (after : SessionState) (command : Command) (ended : Result (Unit {0}) CommandRefusal) (result : Result Step F) (old mid new : S) → AnswersTo {E = E} transcript failures state command (Ok ended) after old mid
+      → Sends transcript failures mid new result (end_of ended) → IfOk result (λ step. step ≡ step_by ended) → AnswersParsedBy transcript failures state (Ok (Some command)) result after old new
+  line_answers after command ended result old mid new (due, owed, a) sent step = record {
+    outcome = step_of a.reply;
+    answer = text_of a.reply;
+    fits = (a.reply, (due, owed, a.fits), refl, refl, a.effect);
+    sends =
+        subst (λ (text : List ℕ). Sends transcript failures old new result text) (ap (λ (e : Result (Unit {0}) CommandRefusal). lines_in a.reply ++ end_of e) a.ends ∙ answer_parts a.reply)
+        (sends-then transcript failures old mid new (lines_in a.reply) (end_of ended) result a.sends sent);
+    is = subst (λ (s : Step). IfOk result (λ step. step ≡ s)) (ap step_by a.ends ∙ step_by_reply a.reply) step;
+  }
+
+  -- the writer failed within the lines of an answer
+  pub line_stops : {F : Type 0} (after : SessionState) (command : Command) (error : E) (failed : F) (old new : S) → AnswersTo transcript failures state command (Err error) after old new
+      → AnswersParsedBy transcript failures state (Ok (Some command)) (Err failed) after old new
+  line_stops after command error failed old new (due, owed, a) = record {
+    outcome = step_of a.reply;
+    answer = text_of a.reply;
+    fits = (a.reply, (due, owed, a.fits), refl, refl, a.effect);
+    sends =
+        subst (λ (text : List ℕ). Begins (transcript old) (transcript new) text × HasFailed (failures old) (failures new)) (answer_parts a.reply)
+        (stops-within transcript failures old new (lines_in a.reply) (end_of (ended_by a.reply)) a.sends);
+    is = tt;
+  }
+
+  -- a line that is not a valid command
+  pub line_refused : (fault : SyntaxFault) (result : Result Step E) (old new : S) → Sends transcript failures old new result (refused (refusals.Syntax fault)) → IfOk result (λ step. step ≡ Refused)
+      → AnswersParsedBy transcript failures state (Err fault) result state old new
+  line_refused fault result old new sent step = record { outcome = Refused; answer = refused (refusals.Syntax fault); fits = (refl, refl, refl); sends = sent; is = step }
+
+  -- the command of an answer was executed
+  pub was_executed : (after : SessionState) (command : Command) (ended : Result (Unit {0}) CommandRefusal) (old new : S) → AnswersTo {E = E} transcript failures state command (Ok ended) after old new → IsExecuted state command ended after
+  was_executed after command ended old new (due, owed, a) = record { reply = a.reply; fits = (due, owed, a.fits); is = a.ends; effect = a.effect }
+
+  -- a command whose answer broke off was executed, and ended somehow
+  pub broken_executed : (after : SessionState) (command : Command) (error : E) (old new : S) → AnswersTo transcript failures state command (Err error) after old new → (ended : Result (Unit {0}) CommandRefusal) × IsExecuted state command ended after
+  broken_executed after command error old new (due, owed, a) = (ended_by a.reply, record { reply = a.reply; fits = (due, owed, a.fits); is = refl; effect = a.effect })
 
 -- only a line without a command is silent
-pub not_silent : {E : Type 0} (P : Type 0) (result : Result (Result (Unit {0}) CommandRefusal) E) → IfOk (outcome_of result) (λ step. step ≡ Silent → P)
-not_silent P (Ok (Ok done)) = λ e. cc
-not_silent P (Ok (Err refusal)) = λ e. cc
-not_silent P (Err error) = tt
-
--- the command of an answer was executed
-pub was_executed : {S E : Type 0} (transcript : S → List ℕ) (failures : S → ℕ) (state after : SessionState) (command : Command) (ended : Result (Unit {0}) CommandRefusal) (old new : S)
-    → AnswersTo {E = E} transcript failures state command (Ok ended) after old new → IsExecuted state command ended after
-was_executed transcript failures state after command ended old new (due, owed, a) = record { reply = a.reply; fits = (due, owed, a.fits); is = a.step; effect = a.effect }
+pub not_silent : {E : Type 0} (P : Type 0) (ended : Result (Unit {0}) CommandRefusal) (result : Result Step E) → IfOk result (λ step. step ≡ step_by ended) → IfOk result (λ step. step ≡ Silent → P)
+not_silent P (Ok done) (Ok step) is = λ e. cc
+not_silent P (Err refusal) (Ok step) is = λ e. cc
+not_silent P ended (Err error) is = tt
 
 -- ---- the pieces that a run passes on
 

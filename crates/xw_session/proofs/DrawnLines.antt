@@ -11,6 +11,7 @@ use Rattle.xw_feas.specs.State.{State, Action, action_of, after as state_after, 
 use Rattle.xw_commands.specs.declared.command.Command.{Command}
 use Rattle.xw_commands.specs.declared.command.Command.TheVariants as commands
 use Rattle.xw_commands.specs.declared.query.Query.TheVariants as queries
+use Rattle.xw_commands.specs.declared.query.Query.{Query}
 use Rattle.xw_commands.specs.declared.change.Change.{Change}
 use Rattle.xw_commands.specs.declared.change.Change.TheVariants as changes
 use Rattle.xw_commands.specs.declared.command.Field.{Field}
@@ -24,12 +25,13 @@ use Rattle.xw_session.specs.declared.session.putting.Target.{Target}
 use Rattle.xw_session.specs.declared.session.putting.Target.TheVariants as targets
 use Rattle.xw_session.specs.Put.{CanPut, target_of, with_piece}
 use Rattle.xw_lines.specs.Cut.{lines_of}
-use Rattle.xw_session.specs.Drafting.{IsMade, IsOfGrid, IsRedrawn, is_shown}
-use Rattle.xw_session.specs.Numbering.{AreNumbered}
+use Rattle.xw_session.specs.Drafting.{IsMade, IsOfGrid, IsRedrawn, is_report}
+use Rattle.xw_answers.specs.Numbering.{AreNumbered}
 use Rattle.xw_session.specs.Reply.{changed, edited, grid_memory, moved, watch_lines}
-use Rattle.xw_session.specs.Answer.{Asks, Edits, IsExecuted, ended_by, reply_of}
+use Rattle.xw_session.specs.Answer.{Asks, Edits, IsExecuted, reply_of}
 use Rattle.xw_commands.specs.Command.{command_of}
 use Rattle.xw_session.specs.Resuming.{AreDone, IsDrawn, IsNoted, count, line_fault, told_of}
+use Rattle.xw_session.proofs.Answering.{ended_itself}
 use Rattle.xw_session.proofs.Resumed.{count-few, done-accepted, done-all, done-one, done-refused}
 use Rattle.xw_session.proofs.TextMode.{memory_due, put_due, spelled_some}
 
@@ -67,13 +69,9 @@ made-numbered old new action (Some (Err refusal)) known some none before after =
 
 -- ---- other commands
 
-ends : (ended : Result (Unit {0}) CommandRefusal) (after : SessionState) → ended ≡ ended_by (reply_of ended after)
-ends (Ok done) after = refl
-ends (Err refusal) after = refl
-
 -- a change was made or refused
 pub edits-executed : (state after : SessionState) (change : Change) (ended : Result (Unit {0}) CommandRefusal) → Edits state change ended after → IsExecuted state (commands.Change change) ended after
-edits-executed state after change ended edits = record { reply = reply_of ended after; fits = (changed state change, refl, edits.0); is = ends ended after; effect = edits.1 }
+edits-executed state after change ended edits = record { reply = reply_of ended after; fits = (changed state change, refl, edits.0); is = ended_itself ended after; effect = edits.1 }
 
 -- A change that keeps the engine, over any grid, was made over that of a draft, or over the engine's if there is no draft.
 pub edits-seen : (state after : SessionState) (draft : Option (Bor Grid)) (change : Change) (ended : Result (Unit {0}) CommandRefusal) → after.engine ≡ state.engine
@@ -85,17 +83,10 @@ pub some-weaker : {X : Type 0} {P Q : X → Type 0} (found : Option X) → ((x :
 some-weaker None weaker holds = tt
 some-weaker (Some x) weaker holds = weaker x holds
 
--- a query that is always accepted
-pub shown-executed : (state : SessionState) (command : Command) → is_shown command ≡ true → IsExecuted state command (Ok tt) state
-shown-executed state (commands.Ask queries.Circles) is = record { reply = Ok _; fits = (_, (_, refl, refl), refl); is = refl; effect = refl }
-shown-executed state (commands.Ask queries.Show) is = record { reply = Ok _; fits = (_, (_, refl, refl), refl); is = refl; effect = refl }
-shown-executed state (commands.Ask queries.Lights) is = record { reply = Ok _; fits = (_, (_, refl, refl), refl); is = refl; effect = refl }
-shown-executed state (commands.Ask queries.Duplicates) is = record { reply = Ok _; fits = (_, (_, refl, refl), refl); is = refl; effect = refl }
-shown-executed state (commands.Ask queries.Unlisted) is = record { reply = Ok _; fits = (_, (_, refl, refl), refl); is = refl; effect = refl }
-shown-executed state (commands.Ask queries.Unmatched) is = record { reply = Ok _; fits = (_, (_, refl, refl), refl); is = refl; effect = refl }
-shown-executed state (commands.Ask queries.Suggest) is = record { reply = Ok _; fits = (_, (_, refl, refl), refl); is = refl; effect = refl }
-shown-executed state (commands.Ask (queries.Tell telling)) is = record { reply = Ok _; fits = (_, (_, refl, refl), refl); is = refl; effect = refl }
-shown-executed state other is = cc
+-- a report is always accepted
+pub told-executed : (state : SessionState) (query : Query) → is_report query ≡ true → IsExecuted state (commands.Ask query) (Ok tt) state
+told-executed state (queries.Tell told) is = record { reply = Ok _; fits = (_, (_, refl, refl), refl); is = refl; effect = refl }
+told-executed state other is = cc
 
 -- a text is put at a target
 piece_drawn : (state : SessionState) (grid : Grid) (putting : TextMode) (target : Target) (piece : List ℕ) → with_piece (drawn state grid) putting target piece ≡ drawn (with_piece state putting target piece) grid

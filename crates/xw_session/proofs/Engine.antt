@@ -27,10 +27,9 @@ use Rattle.xw_fill.proofs.FeasibleLettersLemmas.{answered_letters}
 use Rattle.xw_answers.specs.declared.refusal.CommandRefusal.{CommandRefusal}
 use Rattle.xw_answers.specs.declared.refusal.CommandRefusal.TheVariants as refusals
 use Rattle.xw_session.specs.State.{SessionState}
-use Rattle.xw_answers.specs.Text.{change_line, letters_line}
-use Rattle.xw_session.specs.Tally.{tally_line}
-use Rattle.xw_session.specs.Reply.{Reply, filling_line, changes_between, moved, want_of_action, lettered, tallied, fill_tried, grid_memory}
-use Rattle.xw_session.specs.Answer.{IsReply, lines_reply, state_after, watched_edit, watched_lines}
+use Rattle.xw_answers.specs.Text.{change_line}
+use Rattle.xw_session.specs.Reply.{Reply, filling_line, changes_between, moved, want_of_action, on_open, fill_tried, grid_memory}
+use Rattle.xw_session.specs.Answer.{IsReply, lines_reply, state_after, watched_lines}
 
 abbrev pub Knows : State → Answers → Type 0
 Knows engine answers = AreAnswers (board_of engine.grid) engine.words answers
@@ -51,7 +50,7 @@ may_move state (Err refusal) is = is
 module _ (state : SessionState) (now : State) (a b : Answers) (action : Action) (known : Knows state.engine a) (known_now : Knows now b) where
   -- an edit of the engine gives an allowed reply
   pub edit_fits : (result : Result Changed Refusal) → IsEdited state.engine a action result now b
-      → IsReply (moved state (after state.engine action)) (want_of_action state action) (lines_reply watched_lines (watched_edit state.is_watched result) (record state { engine = now }))
+      → IsReply (moved state (after state.engine action)) (want_of_action state action) (lines_reply (watched_lines state.is_watched) result (record state { engine = now }))
   edit_fits (Ok changed) edited =
       ap (moved state) edited.state
       ∙ ap (λ lines. Ok (record { lines = if state.is_watched then flat_map change_line lines else []; state = record state { engine = now } })) (sym (changes_are state.engine now a b known known_now) ∙ sym edited.changes)
@@ -62,7 +61,7 @@ module _ (state : SessionState) (now : State) (a b : Answers) (action : Action) 
       ]
 
 pub edit_effect : (state : SessionState) (now : State) (a b : Answers) (action : Action) (result : Result Changed Refusal) → IsEdited state.engine a action result now b
-    → record state { engine = now } ≡ state_after state (lines_reply watched_lines (watched_edit state.is_watched result) (record state { engine = now }))
+    → record state { engine = now } ≡ state_after state (lines_reply (watched_lines state.is_watched) result (record state { engine = now }))
 edit_effect state now a b action (Ok changed) edited = refl
 edit_effect state now a b action (Err refusal) edited = ap (λ (p : State). record state { engine = p }) edited.state
 
@@ -73,26 +72,18 @@ lines_effect lines state now (Err refusal) same = ap (λ (p : State). record sta
 
 -- ---- letters of a cell
 
-judged : {X : Type 0} (is_in blocks : Bool) (good letters : List ℕ) (answer : List ℕ → Result X CommandRefusal)
-    → (if not is_in then Err (edits.Grid grids.OutOfGrid) else if blocks then Err (edits.Grid grids.OnBlock) else Ok good) ≡ Ok letters
-    → (if not is_in then Err (refusals.Engine (edits.Grid grids.OutOfGrid)) else if blocks then Err (refusals.Engine (edits.Grid grids.OnBlock)) else answer good) ≡ answer letters
-judged true false good letters answer is = let same : good ≡ letters = cc in ap answer same
-judged true true good letters answer is = cc
-judged false blocks good letters answer is = cc
+judged : (is_in blocks : Bool) (good letters lines : List ℕ) → (if not is_in then Err (edits.Grid grids.OutOfGrid) else if blocks then Err (edits.Grid grids.OnBlock) else Ok good) ≡ Ok letters
+    → ((if not is_in then Err (refusals.Engine (edits.Grid grids.OutOfGrid)) else if blocks then Err (refusals.Engine (edits.Grid grids.OnBlock)) else Ok lines) ≡ Ok lines) × (good ≡ letters)
+judged true false good letters lines is = (refl, cc)
+judged true true good letters lines is = cc
+judged false blocks good letters lines is = cc
 
-pub lettered_is : (state : SessionState) (answers : Answers) (cell : Cell) (set : ℕ) → Knows state.engine answers
-    → cell_judged state.engine.grid cell (letters_of answers (index_of state.engine.grid cell)) ≡ Ok (letters_in set)
-    → lettered state cell ≡ Ok (letters_line (letters_in set))
-lettered_is state answers cell set exact is =
-    judged (is_inside state.engine.grid cell) (is_block state.engine.grid cell) _ _ (λ letters. Ok (letters_line letters))
-    (ap (cell_judged state.engine.grid cell) (sym (answered_letters (position_of state.engine) answers exact (index_of state.engine.grid cell))) ∙ is)
-
-pub tallied_is : (state : SessionState) (answers : Answers) (cell : Cell) (set : ℕ) → Knows state.engine answers
-    → cell_judged state.engine.grid cell (letters_of answers (index_of state.engine.grid cell)) ≡ Ok (letters_in set)
-    → tallied state cell ≡ Ok (flat_map (tally_line state.engine cell) (letters_in set))
-tallied_is state answers cell set exact is =
-    judged (is_inside state.engine.grid cell) (is_block state.engine.grid cell) _ _ (λ letters. Ok (flat_map (tally_line state.engine cell) letters))
-    (ap (cell_judged state.engine.grid cell) (sym (answered_letters (position_of state.engine) answers exact (index_of state.engine.grid cell))) ∙ is)
+-- a cell for which an engine has letters is open
+pub open_letters : (engine : State) (answers : Answers) (cell : Cell) (set : ℕ) → Knows engine answers → cell_judged engine.grid cell (letters_of answers (index_of engine.grid cell)) ≡ Ok (letters_in set)
+    → ((lines : List ℕ) → on_open engine.grid cell lines ≡ Ok lines) × (letters_in set ≡ feasible_letters (position_of engine) (index_of engine.grid cell))
+open_letters engine answers cell set exact is =
+    let found = λ (lines : List ℕ). judged (is_inside engine.grid cell) (is_block engine.grid cell) (letters_of answers (index_of engine.grid cell)) (letters_in set) lines is in
+    (λ lines. (found lines).0, sym (found []).1 ∙ answered_letters (position_of engine) answers exact (index_of engine.grid cell))
 
 -- ---- words of a light
 

@@ -9,7 +9,8 @@ use Rattle.xw_commands.specs.declared.command.LightArg.{LightArg}
 use Rattle.xw_feas.specs.State.{State}
 use Rattle.xw_fill.specs.NamedFill.{AreLights}
 use Rattle.xw_session.specs.NamedSearch.{names_of}
-use Rattle.xw_session.specs.Grades.{entered_lines, named_line, grade_lines}
+use Rattle.xw_session.specs.Grades.{entered_line, named_line, grade_lines}
+use Rattle.xw_session.specs.Reports.{light_report}
 use Rattle.xw_session.specs.Reply.{are_lights}
 use Rattle.xw_session.proofs.Naming.{IsLight, head_of, tail_of, with_head}
 
@@ -31,7 +32,7 @@ module _ (engine : State) where
 
   -- ---- which lines are written
 
-  pub none_named : (lights left : List LightArg) (next : Option LightArg) → YieldsFirst (λ lights. lights) lights next left → is_some next ≡ false → entered_lines engine ≡ grade_lines engine (names_of lights)
+  pub none_named : (lights left : List LightArg) (next : Option LightArg) → YieldsFirst (λ lights. lights) lights next left → is_some next ≡ false → light_report entered_line engine ≡ grade_lines engine (names_of lights)
   none_named lights left None steps e = ap (λ ls. grade_lines engine (names_of ls)) (sym steps.0)
   none_named lights left (Some light) steps e = cc
 

@@ -1,14 +1,11 @@
 pub mod Answering
 pub mod Engine
 pub mod Naming
-pub mod LightStarts
-pub mod Numbered
 pub mod Searching
 pub mod Grading
 pub mod Reasoning
 pub mod Tallying
 pub mod Erasing
-pub mod BaseWords
 pub mod Choosing
 pub mod Report
 pub mod TextMode

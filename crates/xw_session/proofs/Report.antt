@@ -21,7 +21,7 @@ use Rattle.xw_fill.specs.Position.{position_of}
 use Rattle.xw_fill.specs.FeasibleWords.{feasible_words}
 use Rattle.xw_fill.proofs.FeasibleWordsLemmas.{answered_words}
 use Rattle.xw_fill.proofs.FeasibleLettersLemmas.{answered_letters}
-use Rattle.xw_session.specs.Told.{letters_told, count_line}
+use Rattle.xw_session.specs.Reports.{letters_told, count_line}
 use Rattle.xw_answers.specs.Text.{numbered_line, change_line}
 use Rattle.xw_session.proofs.Engine.{Knows}
 

@@ -10,7 +10,7 @@ use Rattle.xw_lines.specs.declared.outcome.Step.TheVariants.{Refused}
 use Rattle.xw_commands.specs.Command.{command_of}
 use Rattle.xw_commands.specs.declared.command.Command.{Command}
 use Rattle.xw_session.specs.Reply.{Reply}
-use Rattle.xw_session.specs.Answer.{Answers, AnswersParsed, AnswersTo, IsExecuted, Replies, ended_by, state_after, step_of, text_of}
+use Rattle.xw_session.specs.Answer.{Answers, AnswersParsed, IsExecuted, Replies, ended_by, state_after, step_of, text_of}
 use Rattle.xw_answers.specs.declared.refusal.CommandRefusal.{CommandRefusal}
 use Rattle.xw_session.specs.declared.resuming.Stop.{Stop}
 use Rattle.xw_session.specs.declared.resuming.Stop.TheVariants.{NoCommand, Memory}
@@ -37,12 +37,6 @@ accepted-reply (Err refusal) done is = cc
 refused-reply : (reply : Result Reply CommandRefusal) (refusal : CommandRefusal) → Err refusal ≡ ended_by reply → reply ≡ Err refusal
 refused-reply (Ok reply) refusal is = cc
 refused-reply (Err why) refusal is = let same : refusal ≡ why = cc in ap Err (sym same)
-
--- a command whose answer broke off was executed, and ended somehow
-pub broken-executed : {S E : Type 0} (transcript : S → List ℕ) (failures : S → ℕ) (state after : SessionState) (command : Command) (error : E) (old new : S) → AnswersTo transcript failures state command (Err error) after old new
-    → (ended : Result (Unit {0}) CommandRefusal) × IsExecuted state command ended after
-broken-executed transcript failures state after command error old new (due, owed, a) =
-    (ended_by a.reply, record { reply = a.reply; fits = (due, owed, a.fits); is = refl; effect = a.effect })
 
 module _ (state after : SessionState) (line : List ℕ) (command : Command) (is : command_of line ≡ Ok (Some command)) where
   answered : (reply : Result Reply CommandRefusal) → Replies state command reply → after ≡ state_after state reply → Answers state line (step_of reply) (text_of reply) after

@@ -7,7 +7,6 @@ use Rattle.xw_feas.specs.declared.edit.Refusal.{Refusal}
 use Rattle.xw_feas.specs.declared.changed.Changed.{Changed}
 use Rattle.xw_session.specs.declared.session.asking.Asked.{Asked}
 use Rattle.xw_session.specs.declared.session.asking.Asked.TheVariants as asked_for
-use Rattle.xw_session.specs.declared.session.asking.Watched.{Watched}
 use Rattle.xw_feas.specs.State.{action_of, after}
 use Rattle.xw_feas.specs.Changed.{changes_left}
 use Rattle.xw_feas.specs.Changes.{spelled_out}
@@ -71,6 +70,16 @@ IsDue state (commands.Search search) due = IsOnlyOr (searched state search) (IsF
 abbrev pub Replies : SessionState → Command → Result Reply CommandRefusal → Type 0
 Replies state command reply = (due : Result Reply CommandRefusal) × IsDue state command due × IsReply due (want_of state command) reply
 
+-- the lines of an answer, which its end follows
+abbrev pub lines_in : Result Reply CommandRefusal → List ℕ
+lines_in (Ok reply) = reply.lines
+lines_in (Err refusal) = []
+
+-- the end of an answer
+abbrev pub end_of : Result (Unit {0}) CommandRefusal → List ℕ
+end_of (Ok done) = accepted
+end_of (Err refusal) = refused refusal
+
 abbrev pub text_of : Result Reply CommandRefusal → List ℕ
 text_of (Ok reply) = reply.lines ++ accepted
 text_of (Err refusal) = refused refusal
@@ -89,25 +98,26 @@ abbrev pub step_of : Result Reply CommandRefusal → Step
 step_of (Ok reply) = Accepted
 step_of (Err refusal) = Refused
 
--- An allowed reply was written to a writer, or a prefix of it if the writer failed. Its effect remains in both cases.
+-- The lines of an allowed reply were written to a writer, or a prefix of them if the writer failed. Its effect remains in
+-- both cases.
 pub record AnswersBy {S E : Type 0} (transcript : S → List ℕ) (failures : S → ℕ) (state : SessionState) (due : Result Reply CommandRefusal) (want : Option CommandRefusal) (result : Result (Result (Unit {0}) CommandRefusal) E) (after : SessionState) (old new : S) : Type 0 where
   pub reply : Result Reply CommandRefusal
   pub fits : IsReply due want reply
   pub effect : after ≡ state_after state reply
-  pub sends : Sends transcript failures old new result (text_of reply)
-  pub step : IfOk result (λ ended. ended ≡ ended_by reply)
+  pub sends : Sends transcript failures old new result (lines_in reply)
+  pub ends : IfOk result (λ ended. ended ≡ ended_by reply)
 
--- an edit of the grid or the dictionary was answered
+-- an edit of the grid or the dictionary was made or refused, and the lines of its answer were written
 abbrev pub AnswersEdit : {S E : Type 0} → (S → List ℕ) → (S → ℕ) → SessionState → Edit → Result (Result (Unit {0}) CommandRefusal) E → SessionState → S → S → Type 0
 AnswersEdit transcript failures state edit result left old new =
     AnswersBy transcript failures state (moved state (after state.engine (action_of edit))) (want_of_action state (action_of edit)) result left old new
 
--- the command was answered
+-- the command was executed, and the lines of its answer were written
 abbrev pub AnswersTo : {S E : Type 0} → (S → List ℕ) → (S → ℕ) → SessionState → Command → Result (Result (Unit {0}) CommandRefusal) E → SessionState → S → S → Type 0
 AnswersTo transcript failures state command result after old new =
     (due : Result Reply CommandRefusal) × IsDue state command due × AnswersBy transcript failures state due (want_of state command) result after old new
 
--- the query was answered, and the state stays as it was
+-- the lines of the answer to a query were written, and the state stays as it was
 abbrev pub AnswersQuery : {S E : Type 0} → (S → List ℕ) → (S → ℕ) → SessionState → Query → Result (Result (Unit {0}) CommandRefusal) E → S → S → Type 0
 AnswersQuery transcript failures state query result old new = AnswersTo transcript failures state (commands.Ask query) result state old new
 
@@ -118,6 +128,11 @@ abbrev pub AnswersSearch : {S E : Type 0} → (S → List ℕ) → (S → ℕ) �
 AnswersSearch transcript failures state search result after old new = AnswersTo transcript failures state (commands.Search search) result after old new
 
 -- ---- what single functions of a session do
+
+-- a command was accepted if its lines were written
+abbrev pub accepted_by : {E : Type 0} → Result (Unit {0}) E → Result (Result (Unit {0}) CommandRefusal) E
+accepted_by (Ok done) = Ok (Ok done)
+accepted_by (Err error) = Err error
 
 -- the change stands for this edit of the engine, or is refused before any edit
 abbrev pub Asks : SessionState → Change → Result Edit Refusal → Type 0
@@ -135,13 +150,8 @@ lines_reply lines (Ok given) state = Ok (record { lines = lines given; state = s
 lines_reply lines (Err refusal) state = Err (refusals.Engine refusal)
 
 -- the changed cells of an edit if the watch is on
-abbrev pub watched_lines : Watched → List ℕ
-watched_lines edit = if edit.is_watched then flat_map change_line (spelled_out (changes_left edit.changed)) else []
-
--- what the engine gave for an edit, with whether the watch is on
-abbrev pub watched_edit : Bool → Result Changed Refusal → Result Watched Refusal
-watched_edit is_watched (Ok changed) = Ok (record { changed = changed; is_watched = is_watched })
-watched_edit is_watched (Err refusal) = Err refusal
+abbrev pub watched_lines : Bool → Changed → List ℕ
+watched_lines is_watched changed = if is_watched then flat_map change_line (spelled_out (changes_left changed)) else []
 
 -- the result of a search for a reason, as a reply with its entries
 abbrev pub why_reply : Grid → Result (Vec (Option ℕ) Global) NoReason → SessionState → Result Reply CommandRefusal
@@ -175,10 +185,6 @@ pub record IsExecuted (state : SessionState) (command : Command) (ended : Result
 abbrev pub step_by : Result (Unit {0}) CommandRefusal → Step
 step_by (Ok done) = Accepted
 step_by (Err refusal) = Refused
-
-abbrev pub outcome_of : {E : Type 0} → Result (Result (Unit {0}) CommandRefusal) E → Result Step E
-outcome_of (Ok ended) = Ok (step_by ended)
-outcome_of (Err error) = Err error
 
 -- The outcome of a parsed line, its answer, and the state after it.
 abbrev pub AnswersParsed : SessionState → Result (Option Command) SyntaxFault → Step → List ℕ → SessionState → Type 0

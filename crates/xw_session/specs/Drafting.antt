@@ -4,8 +4,7 @@ use Rattle.xw_grid.specs.Grid.{Grid}
 use Rattle.xw_feas.specs.declared.edit.Refusal.{Refusal}
 use Rattle.xw_feas.specs.State.{Action, State, after, grid_after, with_grid}
 use Rattle.xw_lines.specs.Cut.{lines_of}
-use Rattle.xw_commands.specs.declared.command.Command.{Command}
-use Rattle.xw_commands.specs.declared.command.Command.TheVariants as commands
+use Rattle.xw_commands.specs.declared.query.Query.{Query}
 use Rattle.xw_commands.specs.declared.query.Query.TheVariants as queries
 use Rattle.xw_session.specs.State.{SessionState}
 use Rattle.xw_session.specs.Resuming.{AreDone}
@@ -19,17 +18,10 @@ abbrev pub IsMade : Grid → Action → Result (Unit {0}) Refusal → Grid → T
 IsMade old action (Ok done) new = IsOfGrid action × (grid_after old action ≡ Ok new)
 IsMade old action (Err refusal) new = IsOfGrid action × (grid_after old action ≡ Err refusal) × (new ≡ old)
 
--- whether the command is a query that is accepted in every state
-abbrev pub is_shown : Command → Bool
-is_shown (commands.Ask queries.Circles) = true
-is_shown (commands.Ask queries.Show) = true
-is_shown (commands.Ask queries.Lights) = true
-is_shown (commands.Ask queries.Duplicates) = true
-is_shown (commands.Ask queries.Unlisted) = true
-is_shown (commands.Ask queries.Unmatched) = true
-is_shown (commands.Ask queries.Suggest) = true
-is_shown (commands.Ask (queries.Tell telling)) = true
-is_shown other = false
+-- whether the query reports on the whole puzzle
+abbrev pub is_report : Query → Bool
+is_report (queries.Tell report) = true
+is_report other = false
 
 -- The first `taken` lines of a text, which come after `before` lines of a file, may be executed one after another, with
 -- these reports of refused lines and this number of them, and leave the state `end`. `rest` is the text after them.

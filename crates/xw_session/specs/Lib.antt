@@ -1,6 +1,6 @@
 pub mod State
 pub mod Found
-pub mod Told
+pub mod Reports
 pub mod Help
 pub mod Tally
 pub mod Erase
@@ -10,7 +10,6 @@ pub mod Choices
 pub mod Put
 pub mod Record
 pub mod Reply
-pub mod Numbering
 pub mod NamedSearch
 pub mod Best
 pub mod Why

@@ -25,7 +25,6 @@ use Rattle.xw_fill.specs.declared.search.Filling.{Filling}
 use Rattle.xw_fill.specs.declared.search.Filling.TheVariants as fillings
 use Rattle.xw_fill.specs.Listing.{duplicates_of, unlisted_of}
 use Rattle.xw_commands.specs.declared.command.CellArg.{CellArg}
-use Rattle.xw_commands.specs.declared.command.LightArg.{LightArg}
 use Rattle.xw_commands.specs.declared.command.TextField.{TextField}
 use Rattle.xw_commands.specs.declared.command.Command.{Command}
 use Rattle.xw_commands.specs.declared.command.Command.TheVariants as commands
@@ -44,16 +43,17 @@ use Rattle.xw_commands.specs.declared.command.TextMode.{TextMode}
 use Rattle.xw_commands.specs.declared.command.Field.{Field}
 use Rattle.xw_session.specs.State.{SessionState, with_text_in}
 pub use Rattle.xw_session.specs.State.{cell_of}
+pub use Rattle.xw_answers.specs.Numbering.{name_of_light, light_named, start_named}
 use Rattle.xw_answers.specs.Escape.{text_spelled, has_nul}
 use Rattle.xw_session.specs.Tally.{tally_lines}
 use Rattle.xw_session.specs.Erase.{erased_cells, emptied}
 use Rattle.xw_session.specs.Grades.{grade_lines}
-use Rattle.xw_session.specs.Unmatched.{unmatched_lines}
+use Rattle.xw_session.specs.Unmatched.{unmatched_line}
 use Rattle.xw_session.specs.Choices.{first_index, choice_lines}
 use Rattle.xw_session.specs.Help.{all_forms}
-use Rattle.xw_session.specs.Told.{told_lines}
+use Rattle.xw_session.specs.Reports.{light_report, told_lines}
 use Rattle.xw_session.specs.Put.{target_of, has_target, with_piece}
-use Rattle.xw_answers.specs.Text.{word_line, light_lines, circle_lines, change_line, letters_line, counted_lines, light_of, spelled_line}
+use Rattle.xw_answers.specs.Text.{word_line, light_lines, circle_lines, change_line, letters_line, counted_lines, spelled_line}
 use Rattle.xw_session.specs.Found.{duplicate_line, suggestion_line}
 use Rattle.xw_answers.specs.Show.{show_lines}
 
@@ -61,9 +61,6 @@ use Rattle.xw_answers.specs.Show.{show_lines}
 pub record Reply : Type 0 where
   pub lines : List ℕ
   pub state : SessionState
-
-abbrev pub name_of_light : LightArg → LightName
-name_of_light named = record { number = named.number; direction = named.direction }
 
 -- ---- the lines of a reply and the state after it
 
@@ -109,18 +106,10 @@ abbrev pub grade_told : Result ℕ WordFault → Result (List ℕ) CommandRefusa
 grade_told (Ok grade) = Ok (word_line (decimal grade))
 grade_told (Err fault) = Err (refusals.Engine (edits.Word fault))
 
--- the light that a command names
-abbrev pub light_named : Grid → LightArg → Option Light
-light_named grid named = light_of grid (name_of_light named)
-
 -- the cells of the light are emptied in one edit
 abbrev pub erased : SessionState → Option Light → Result Reply CommandRefusal
 erased state None = Err (refusals.Engine edits.NoLight)
 erased state (Some light) = moved state (after state.engine (list_written (emptied (erased_cells state.engine light))))
-
--- the first cell of the light that a command names
-abbrev pub start_named : Grid → LightArg → Option Cell
-start_named grid named = option_map (λ light. light.start) (light_named grid named)
 
 -- the clue is stored at the first cell of the light, in its direction
 abbrev pub with_clue_at : SessionState → Option Cell → Direction → List ℕ → Result Reply CommandRefusal
@@ -175,19 +164,12 @@ are_lights grid names = list_all (λ name. is_some (index_named (lights_of grid)
 abbrev pub graded : SessionState → List LightName → Result (List ℕ) CommandRefusal
 graded state names = if are_lights state.engine.grid names then Ok (grade_lines state.engine names) else Err (refusals.Engine edits.NoLight)
 
--- the feasible letters of an open cell
-abbrev pub lettered : SessionState → Cell → Result (List ℕ) CommandRefusal
-lettered state cell =
-    if not (is_inside state.engine.grid cell) then Err (refusals.Engine (edits.Grid grids.OutOfGrid))
-    else if is_block state.engine.grid cell then Err (refusals.Engine (edits.Grid grids.OnBlock))
-    else Ok (letters_line (feasible_letters state.engine (index_of state.engine.grid cell)))
-
--- for each feasible letter of an open cell the counts of its lights
-abbrev pub tallied : SessionState → Cell → Result (List ℕ) CommandRefusal
-tallied state cell =
-    if not (is_inside state.engine.grid cell) then Err (refusals.Engine (edits.Grid grids.OutOfGrid))
-    else if is_block state.engine.grid cell then Err (refusals.Engine (edits.Grid grids.OnBlock))
-    else Ok (tally_lines state.engine cell)
+-- the lines that an open cell has
+abbrev pub on_open : Grid → Cell → List ℕ → Result (List ℕ) CommandRefusal
+on_open grid cell lines =
+    if not (is_inside grid cell) then Err (refusals.Engine (edits.Grid grids.OutOfGrid))
+    else if is_block grid cell then Err (refusals.Engine (edits.Grid grids.OnBlock))
+    else Ok lines
 
 -- the form of a command, if there is one
 abbrev pub form_shown : Option (List ℕ) → Result (List ℕ) CommandRefusal
@@ -226,12 +208,12 @@ answer_of state queries.Show = Some (Ok (show_lines state.engine.grid))
 answer_of state queries.Lights = Some (Ok (light_lines state.engine.grid))
 answer_of state (queries.Words named most) = Some (worded state (index_named (lights_of state.engine.grid) (name_of_light named)) most)
 answer_of state (queries.Choices named most first) = Some (weighed state (index_named (lights_of state.engine.grid) (name_of_light named)) most first)
-answer_of state (queries.Letters spot) = Some (lettered state (cell_of spot))
-answer_of state (queries.Tally spot) = Some (tallied state (cell_of spot))
+answer_of state (queries.Letters spot) = Some (on_open state.engine.grid (cell_of spot) (letters_line (feasible_letters state.engine (index_of state.engine.grid (cell_of spot)))))
+answer_of state (queries.Tally spot) = Some (on_open state.engine.grid (cell_of spot) (tally_lines state.engine (cell_of spot)))
 answer_of state queries.Duplicates = Some (Ok (flat_map (duplicate_line state.engine.grid) (duplicates_of state.engine)))
 answer_of state queries.Unlisted = Some (Ok (flat_map (spelled_line state.engine.grid) (unlisted_of state.engine)))
 answer_of state (queries.Grades lights) = Some (graded state (map name_of_light lights))
-answer_of state queries.Unmatched = Some (Ok (unmatched_lines state.engine))
+answer_of state queries.Unmatched = Some (Ok (light_report unmatched_line state.engine))
 answer_of state queries.Suggest = Some (Ok (suggestion_line state.engine (suggestion state.engine)))
 answer_of state (queries.Why named) = None
 answer_of state (queries.Help word) = Some (helped word)

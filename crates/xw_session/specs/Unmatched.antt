@@ -1,7 +1,5 @@
 -- The lights that no word matches.
-use Rattle.std.specs.Prelude.{ℕ, Bool, not, ◌&&◌, ◌==◌, List, [], length, flat_map, if◌then◌else◌}
-use Rattle.std.specs.List.{range_with_len}
-use Rattle.xw_grid.specs.Light.{lights_of}
+use Rattle.std.specs.Prelude.{ℕ, Bool, not, ◌&&◌, ◌==◌, List, [], length, if◌then◌else◌}
 use Rattle.xw_feas.specs.Board.{board_of}
 use Rattle.xw_feas.specs.Feasible.{base_words_at}
 use Rattle.xw_feas.specs.State.{State}
@@ -16,7 +14,3 @@ is_unmatched engine light = not (is_entered engine light) && (length (base_words
 -- the line of an unmatched light, with its letters; nothing for any other light
 abbrev pub unmatched_line : State → ℕ → List ℕ
 unmatched_line engine light = if is_unmatched engine light then spelled_line engine.grid (name_at engine light) else []
-
--- the lines of all unmatched lights, in order
-abbrev pub unmatched_lines : State → List ℕ
-unmatched_lines engine = flat_map (unmatched_line engine) (range_with_len 0 (length (lights_of engine.grid)))

@@ -94,7 +94,7 @@ fn redo<F: Searchable>(
     ensures memory { OnErr result ((ended : Result (Unit {0}) SpecCommandRefusal) × IsExecuted session.old command.entry ended session.new) }
 {
     let mut answer = VecSink::new(alloc);
-    match session.answer(command, &mut answer) {
+    match session.perform(command, &mut answer) {
         Ok(ended) => Ok(ended),
         Err(_) => Err(AllocError),
     }

@@ -10,7 +10,6 @@ mod erasing;
 mod grading;
 mod helping;
 mod matching;
-mod numbering;
 mod putting;
 mod queries;
 mod reasoning;
@@ -26,7 +25,7 @@ ghost use Rattle.xw_lines.specs.Run.{IsRun};
 ghost use Rattle.xw_lines.specs.Spoken.{NeverStops};
 ghost use Rattle.xw_answers.specs.Record.{known_counts};
 ghost use Rattle.xw_session.specs.Reply.{cell_of};
-ghost use Rattle.xw_session.specs.Answer.{AnswersTo, AnswersQuery, AnswersChange, AnswersSearch, AnswersParsedBy, AnswersLine, Answers, outcome_of};
+ghost use Rattle.xw_session.specs.Answer.{AnswersTo, AnswersQuery, AnswersChange, AnswersSearch, AnswersParsedBy, AnswersLine, Answers};
 
 use crate::session::asking::Asked;
 use crate::session::ending::{Ended, end_answer};
@@ -117,17 +116,6 @@ fn keeps_words_and_lights(change: &Change<'_>) -> bool {
         change,
         Change::Set(..) | Change::Clear(_) | Change::Place(..) | Change::Erase(_) | Change::Least(_)
     )
-}
-
-/// Returns the outcome of a line whose command was answered.
-fn outcome(answered: Result<Ended, WriteFailed>) -> Result<Step, WriteFailed>
-    ensures { result ≡ outcome_of answered }
-{
-    match answered {
-        Ok(Ok(())) => Ok(Step::Accepted),
-        Ok(Err(_)) => Ok(Step::Refused),
-        Err(failed) => Err(failed),
-    }
 }
 
 /// Copies the texts. Fails only if an allocation fails.
@@ -244,14 +232,6 @@ impl<E: Feasible> Session<E> {
             circles: self.circles.copy()?,
         })
     }
-
-    /// Returns the cell at a row and column. Returns `OutOfGrid` if it is not in the grid.
-    fn cell(&self, spot: CellArg) -> Result<Cell, Refusal>
-        ensures ok { IfOk result (λ cell. (cell ≡ cell_of spot) × (is_inside self.now.engine.grid cell ≡ true)) }
-        ensures refused { IfErr result (λ refusal. (refusal ≡ Refusal.Grid GridFault.OutOfGrid) × (is_inside self.now.engine.grid (cell_of spot) ≡ false)) }
-    {
-        cell_in(self.engine.grid(), spot)
-    }
 }
 
 impl<E: Searchable> Session<E> {
@@ -271,8 +251,8 @@ impl<E: Searchable> Session<E> {
         }
     }
 
-    /// Answers a query. The session stays as it was.
-    pub fn ask<W: Sink>(&mut self, query: Query<'_>, sink: &mut W) -> Result<Ended, WriteFailed>
+    /// Writes the lines of the answer to a query. The session stays as it was.
+    fn ask<W: Sink>(&mut self, query: Query<'_>, sink: &mut W) -> Result<Ended, WriteFailed>
         ensures answer { AnswersQuery W.transcript W.failures self.old query.entry result sink.old sink.new }
         ensures unchanged { self.new ≡ self.old }
     {
@@ -297,7 +277,7 @@ impl<E: Searchable> Session<E> {
         }
     }
 
-    /// Makes a change and writes its answer.
+    /// Makes a change and writes the lines of its answer.
     fn answer_change<W: Sink>(
         &mut self,
         change: Change<'_>,
@@ -306,22 +286,18 @@ impl<E: Searchable> Session<E> {
         ensures { AnswersChange W.transcript W.failures self.old change.entry result self.new sink.old sink.new }
     {
         match self.begin(None, change) {
-            Ok(Asked::Nothing) => end_answer(sink, Ok(())),
+            Ok(Asked::Nothing) => Ok(Ok(())),
             Ok(Asked::Edit(edit)) => self.answer_edit(&edit, sink),
-            Ok(Asked::Clue(named, text)) => end_answer(sink, self.set_clue(named, text)),
+            Ok(Asked::Clue(named, text)) => Ok(self.set_clue(named, text)),
             Ok(Asked::Erase(named)) => self.answer_erase(named, sink),
-            Ok(Asked::Size(width, height)) => end_answer(sink, self.resize(width, height)),
-            Err(refusal) => end_answer(sink, Err(refusal)),
+            Ok(Asked::Size(width, height)) => Ok(self.resize(width, height)),
+            Err(refusal) => Ok(Err(refusal)),
         }
     }
 
-    /// Makes a change and writes its answer. A change that is not refused ends the search that `autofill` could
+    /// Makes a change and writes the lines of its answer. A change that is not refused ends the search that `autofill` could
     /// continue. It also ends that of `best` if it changes more than entries and the least grade.
-    pub fn change<W: Sink>(
-        &mut self,
-        change: Change<'_>,
-        sink: &mut W,
-    ) -> Result<Ended, WriteFailed>
+    fn change<W: Sink>(&mut self, change: Change<'_>, sink: &mut W) -> Result<Ended, WriteFailed>
         ensures { AnswersChange W.transcript W.failures self.old change.entry result self.new sink.old sink.new }
     {
         let may_go_on = keeps_words_and_lights(&change);
@@ -332,12 +308,8 @@ impl<E: Searchable> Session<E> {
         answered
     }
 
-    /// Searches and answers how the search ended.
-    pub fn search<W: Sink>(
-        &mut self,
-        search: Search<'_>,
-        sink: &mut W,
-    ) -> Result<Ended, WriteFailed>
+    /// Searches and writes how the search ended.
+    fn search<W: Sink>(&mut self, search: Search<'_>, sink: &mut W) -> Result<Ended, WriteFailed>
         ensures { AnswersSearch W.transcript W.failures self.old search.entry result self.new sink.old sink.new }
     {
         match search {
@@ -349,8 +321,8 @@ impl<E: Searchable> Session<E> {
         }
     }
 
-    /// Executes a command and writes its answer.
-    pub(crate) fn answer<W: Sink>(
+    /// Executes a command and writes the lines of its answer.
+    pub(crate) fn perform<W: Sink>(
         &mut self,
         command: Command<'_>,
         sink: &mut W,
@@ -376,8 +348,11 @@ impl<E: Searchable> Session<E> {
     {
         match parsed {
             Ok(None) => Ok(Step::Silent),
-            Ok(Some(command)) => outcome(self.answer(command, sink)),
-            Err(fault) => outcome(end_answer(sink, Err(CommandRefusal::Syntax(fault)))),
+            Ok(Some(command)) => {
+                let ended = self.perform(command, sink)?;
+                end_answer(sink, ended)
+            }
+            Err(fault) => end_answer(sink, Err(CommandRefusal::Syntax(fault))),
         }
     }
 

@@ -1,12 +1,13 @@
 //! Turns commands into edits of the engine, and answers them.
-ghost use Rattle.std.specs.Prelude.{◌≡◌};
-ghost use Rattle.xw_session.specs.Answer.{AnswersEdit, Edits, IsBegun, watched_edit};
+ghost use Rattle.std.specs.Prelude.{◌≡◌, IfOk};
+ghost use Rattle.xw_lines.specs.Sends.{Sends};
+ghost use Rattle.xw_session.specs.Answer.{AnswersEdit, Edits, IsBegun, ended_by, lines_in, lines_reply, watched_lines};
 ghost use Rattle.xw_session.specs.State.{SessionState, grid_seen, seen};
 ghost use Rattle.xw_commands.specs.declared.change.Change.{Change as SpecChange};
 ghost use Rattle.xw_commands.specs.declared.change.Change.TheVariants as changes;
 
 use crate::lookup::light_name;
-use crate::session::ending::{Ended, WriteLines, answer_lines};
+use crate::session::ending::{Ended, accepted};
 use crate::session::{Session, cell_in};
 use xw_answers::lists;
 use xw_answers::refusal::CommandRefusal;
@@ -35,40 +36,33 @@ pub enum Asked<'a> {
     Size(u64, u64),
 }
 
-/// The changed cells of an edit, and whether the watch is on.
-#[derive(Drop)]
-struct Watched<'a> {
-    changed: Changed<'a>,
+/// Writes the changed cells of an edit if the watch is on.
+fn write_watched<W: Sink>(
+    sink: &mut W,
+    changed: Changed<'_>,
     is_watched: bool,
-}
-
-impl<'a> WriteLines for Watched<'a> {
-    ghost use Rattle.xw_session.specs.Answer.{watched_lines};
-
-    ghost lines = { watched_lines };
-
-    fn write_lines<W: Sink>(self, sink: &mut W) -> Result<(), WriteFailed> {
-        if self.is_watched {
-            lists::write_changes(sink, self.changed)
-        } else {
-            Ok(())
-        }
+) -> Result<(), WriteFailed>
+    ensures { Sends W.transcript W.failures sink.old sink.new result (watched_lines is_watched changed.entry) }
+{
+    if is_watched {
+        lists::write_changes(sink, changed)
+    } else {
+        Ok(())
     }
 }
 
-/// Returns the changed cells of an edit with whether the watch is on, or its refusal.
-fn with_watch(
+/// Writes what an edit changed, if the watch is on, or returns its refusal.
+fn write_edited<W: Sink>(
+    sink: &mut W,
     edited: Result<Changed<'_>, Refusal>,
     is_watched: bool,
-) -> Result<Watched<'_>, Refusal>
-    ensures { result ≡ watched_edit is_watched edited.entry }
+) -> Result<Ended, WriteFailed>
+    ensures sends { (state : SessionState) → Sends W.transcript W.failures sink.old sink.new result (lines_in (lines_reply (watched_lines is_watched) edited.entry state)) }
+    ensures ends { (state : SessionState) → IfOk result (λ ended. ended ≡ ended_by (lines_reply (watched_lines is_watched) edited.entry state)) }
 {
     match edited {
-        Ok(changed) => Ok(Watched {
-            changed,
-            is_watched,
-        }),
-        Err(refusal) => Err(refusal),
+        Ok(changed) => accepted(write_watched(sink, changed, is_watched)),
+        Err(refusal) => Ok(Err(CommandRefusal::Engine(refusal))),
     }
 }
 
@@ -173,7 +167,6 @@ impl<E: Feasible> Session<E> {
         ensures { AnswersEdit W.transcript W.failures self.old edit.now result self.new sink.old sink.new }
     {
         let is_watched = self.is_watched;
-        let edited = with_watch(self.engine.edit(edit), is_watched);
-        answer_lines(sink, edited)
+        write_edited(sink, self.engine.edit(edit), is_watched)
     }
 }

@@ -6,7 +6,7 @@ ghost use Rattle.xw_session.specs.Answer.{AnswersSearch};
 
 use crate::lookup::names_of;
 use crate::session::Session;
-use crate::session::ending::{Ended, answer_lines};
+use crate::session::ending::{Ended, write_given};
 use std::alloc::Global;
 use xw_commands::lights::LightArgs;
 use xw_feas::edit::Refusal;
@@ -66,6 +66,6 @@ impl<E: Searchable> Session<E> {
         self.engine.tell(News::Ends);
         self.hints
             .end_autofill_if(matches!(filled, Ok(Filling::Filled)));
-        answer_lines(sink, filled)
+        write_given(sink, filled)
     }
 }

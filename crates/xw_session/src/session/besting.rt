@@ -10,7 +10,7 @@ ghost use Rattle.xw_session.specs.Answer.{AnswersSearch};
 
 use crate::lookup::names_of;
 use crate::session::Session;
-use crate::session::ending::{Ended, WriteLines, answer_lines};
+use crate::session::ending::{Ended, WriteLines, write_given};
 use std::alloc::Global;
 use xw_answers::text;
 use xw_commands::lights::LightArgs;
@@ -99,6 +99,6 @@ impl<E: Searchable> Session<E> {
         self.engine.tell(News::Ends);
         self.hints
             .end_autofill_if(matches!(best, Ok(Best::Filled { .. })));
-        answer_lines(sink, best)
+        write_given(sink, best)
     }
 }

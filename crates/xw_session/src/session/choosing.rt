@@ -12,7 +12,7 @@ ghost use Rattle.xw_session.specs.Answer.{AnswersQuery};
 
 use crate::lookup::light_name;
 use crate::session::Session;
-use crate::session::ending::{Ended, end_answer};
+use crate::session::ending::{Ended, accepted};
 use xw_answers::answer_line::{Token, write_line};
 use xw_answers::refusal::CommandRefusal;
 use xw_answers::text::Pattern;
@@ -272,14 +272,11 @@ impl<E: Searchable> Session<E> {
         ensures unchanged { self.new ≡ self.old }
     {
         let Some(light) = self.light_index(named) else {
-            return end_answer(sink, Err(CommandRefusal::Engine(Refusal::NoLight)));
+            return Ok(Err(CommandRefusal::Engine(Refusal::NoLight)));
         };
         match first_index(&self.engine, light, first) {
-            Ok(from) => {
-                write_weighed(sink, &mut self.engine, light, from, most)?;
-                end_answer(sink, Ok(()))
-            }
-            Err(refusal) => end_answer(sink, Err(CommandRefusal::Engine(refusal))),
+            Ok(from) => accepted(write_weighed(sink, &mut self.engine, light, from, most)),
+            Err(refusal) => Ok(Err(CommandRefusal::Engine(refusal))),
         }
     }
 }

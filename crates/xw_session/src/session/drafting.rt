@@ -11,7 +11,7 @@ ghost use Rattle.xw_feas.specs.State.{action_of, letter_set, cell_cleared, word_
 ghost use Rattle.xw_commands.specs.declared.change.Change.{Change as SpecChange};
 ghost use Rattle.xw_commands.specs.declared.command.Command.TheVariants as commands;
 ghost use Rattle.xw_session.specs.Answer.{Asks, IsExecuted};
-ghost use Rattle.xw_session.specs.Drafting.{IsMade, IsRedrawn, is_shown};
+ghost use Rattle.xw_session.specs.Drafting.{IsMade, IsRedrawn, is_report as spec_is_report};
 ghost use Rattle.xw_session.specs.Resuming.{IsDrawn};
 ghost use Rattle.xw_session.specs.Reply.{start_named as spec_start_named};
 ghost use Rattle.xw_session.specs.State.{SessionState, drawn};
@@ -21,9 +21,9 @@ use crate::session::Session;
 use crate::session::asking::Asked;
 use crate::session::changing::start_in;
 use crate::session::ending::Ended;
-use crate::session::numbering::{forget, start_named};
 use std::alloc::Global;
 use std::marker::Model;
+use xw_answers::numbering::{forget, start_named};
 use xw_answers::refusal::CommandRefusal;
 use xw_commands::command::LightArg;
 use xw_commands::{Change, Command, Query};
@@ -95,7 +95,7 @@ impl Model for Draft {
     ghost use Rattle.std.specs.Prelude.{◌≡◌, IfSome};
     ghost use Rattle.xw_grid.specs.Grid.{Grid};
     ghost use Rattle.xw_grid.specs.Light.{lights_of};
-    ghost use Rattle.xw_session.specs.Numbering.{AreNumbered};
+    ghost use Rattle.xw_answers.specs.Numbering.{AreNumbered};
 
     ghost Value = { Grid };
 
@@ -200,21 +200,11 @@ impl Draft {
     }
 }
 
-/// Returns whether no session refuses a query.
-fn is_answered(query: &Query<'_>) -> bool
-    ensures { result ≡ is_shown (commands.Ask query.now) }
+/// Returns whether a query is a report. No session refuses one.
+fn is_report(query: &Query<'_>) -> bool
+    ensures { result ≡ spec_is_report query.now }
 {
-    matches!(
-        query,
-        Query::Circles
-            | Query::Show
-            | Query::Lights
-            | Query::Duplicates
-            | Query::Unlisted
-            | Query::Unmatched
-            | Query::Suggest
-            | Query::Tell(_)
-    )
+    matches!(query, Query::Tell(_))
 }
 
 /// Lines that were executed over a draft: how many, how many of them were refused, the reports of these, and the text
@@ -254,7 +244,7 @@ impl<E: Feasible> Session<E> {
         ensures begun { self.new.begun ≡ self.old.begun }
     {
         match command {
-            Command::Ask(query) if is_answered(&query) => Some(Ok(())),
+            Command::Ask(query) if is_report(&query) => Some(Ok(())),
             Command::Change(change) => self.draft_change(draft, change),
             _ => None,
         }

@@ -2,12 +2,13 @@
 ghost use Rattle.std.specs.Prelude.{◌≡◌, IfOk};
 ghost use Rattle.xw_lines.specs.Sends.{Sends};
 ghost use Rattle.xw_session.specs.State.{SessionState};
-ghost use Rattle.xw_session.specs.Answer.{lines_reply, reply_of, text_of, ended_by};
+ghost use Rattle.xw_session.specs.Answer.{accepted_by, end_of, ended_by, lines_in, lines_reply, step_by};
 
 use xw_answers::refusal::CommandRefusal;
 use xw_answers::text;
 use xw_feas::edit::Refusal;
 use xw_lines::device::{Sink, WriteFailed};
+use xw_lines::outcome::Step;
 
 /// How a command ended: it was accepted, or refused.
 pub(crate) type Ended = Result<(), CommandRefusal>;
@@ -25,35 +26,42 @@ pub(crate) trait WriteLines {
 }
 
 /// Writes the end of an answer: `ok`, or the refusal.
-pub(crate) fn end_answer<W: Sink>(sink: &mut W, ended: Ended) -> Result<Ended, WriteFailed>
-    ensures sends { (state : SessionState) → Sends W.transcript W.failures sink.old sink.new result (text_of (reply_of ended state)) }
-    ensures step { (state : SessionState) → IfOk result (λ answered. answered ≡ ended_by (reply_of ended state)) }
+pub(crate) fn end_answer<W: Sink>(sink: &mut W, ended: Ended) -> Result<Step, WriteFailed>
+    ensures sends { Sends W.transcript W.failures sink.old sink.new result (end_of ended) }
+    ensures step { IfOk result (λ step. step ≡ step_by ended) }
 {
     match ended {
         Ok(()) => {
             text::write_accepted(sink)?;
-            Ok(Ok(()))
+            Ok(Step::Accepted)
         }
         Err(refusal) => {
             text::write_refused(sink, refusal)?;
-            Ok(Err(refusal))
+            Ok(Step::Refused)
         }
     }
 }
 
-/// Answers an edit or a search of the engine: writes the lines of what it gave and `ok`, or its refusal.
-pub(crate) fn answer_lines<T: WriteLines, W: Sink>(
+/// Returns that a command was accepted, if its lines were written.
+pub(crate) fn accepted(wrote: Result<(), WriteFailed>) -> Result<Ended, WriteFailed>
+    ensures { result ≡ accepted_by wrote }
+{
+    match wrote {
+        Ok(()) => Ok(Ok(())),
+        Err(failed) => Err(failed),
+    }
+}
+
+/// Writes the lines of what the engine gave for an edit or a search, or returns its refusal.
+pub(crate) fn write_given<T: WriteLines, W: Sink>(
     sink: &mut W,
     given: Result<T, Refusal>,
 ) -> Result<Ended, WriteFailed>
-    ensures sends { (state : SessionState) → Sends W.transcript W.failures sink.old sink.new result (text_of (lines_reply T.lines given state)) }
-    ensures step { (state : SessionState) → IfOk result (λ ended. ended ≡ ended_by (lines_reply T.lines given state)) }
+    ensures sends { (state : SessionState) → Sends W.transcript W.failures sink.old sink.new result (lines_in (lines_reply T.lines given state)) }
+    ensures ends { (state : SessionState) → IfOk result (λ ended. ended ≡ ended_by (lines_reply T.lines given state)) }
 {
     match given {
-        Ok(given) => {
-            given.write_lines(sink)?;
-            end_answer(sink, Ok(()))
-        }
-        Err(refusal) => end_answer(sink, Err(CommandRefusal::Engine(refusal))),
+        Ok(given) => accepted(given.write_lines(sink)),
+        Err(refusal) => Ok(Err(CommandRefusal::Engine(refusal))),
     }
 }

@@ -4,7 +4,7 @@ ghost use Rattle.xw_session.specs.Erase.{crossing as spec_crossing, is_held as s
 ghost use Rattle.xw_session.specs.Answer.{AnswersChange};
 
 use crate::session::Session;
-use crate::session::ending::{Ended, end_answer};
+use crate::session::ending::Ended;
 use crate::session::tallying::light_through;
 use std::marker::Model;
 use xw_answers::refusal::CommandRefusal;
@@ -133,7 +133,7 @@ impl<E: Feasible> Session<E> {
                 let erased = erased_cells(&self.engine, &light);
                 self.answer_edit(&Edit::Write(erased.list()), sink)
             }
-            None => end_answer(sink, Err(CommandRefusal::Engine(Refusal::NoLight))),
+            None => Ok(Err(CommandRefusal::Engine(Refusal::NoLight))),
         }
     }
 }

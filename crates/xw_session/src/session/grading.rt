@@ -1,18 +1,19 @@
 //! Answers `grade` and `grades`.
-ghost use Rattle.std.specs.Prelude.{◌≡◌, ◌<◌, true, flat_map, is_some};
+ghost use Rattle.std.specs.Prelude.{◌≡◌, true, flat_map, is_some};
 ghost use Rattle.std.specs.Option.{option_and_then};
 ghost use Rattle.xw_grid.specs.Light.{lights_of, index_named};
-ghost use Rattle.xw_fill.specs.OfState.{light_count, grade_of};
+ghost use Rattle.xw_fill.specs.OfState.{grade_of};
 ghost use Rattle.xw_fill.specs.NamedFill.{AreLights};
 ghost use Rattle.xw_lines.specs.Sends.{Sends};
 ghost use Rattle.xw_session.specs.Reply.{name_of_light};
 ghost use Rattle.xw_session.specs.NamedSearch.{names_of};
-ghost use Rattle.xw_session.specs.Grades.{entered_line, entered_lines, named_line, grade_lines};
+ghost use Rattle.xw_session.specs.Grades.{named_line, grade_lines};
 ghost use Rattle.xw_session.specs.Answer.{AnswersQuery};
 
 use crate::lookup::{are_lights, known_name};
 use crate::session::Session;
-use crate::session::ending::{Ended, end_answer};
+use crate::session::ending::{Ended, accepted};
+use crate::session::telling::{LightReport, write_each_light};
 use xw_answers::answer_line::{Token, write_line};
 use xw_answers::refusal::CommandRefusal;
 use xw_answers::text;
@@ -25,30 +26,26 @@ use xw_fill::scan::{is_entered, name_at};
 use xw_grid::LightName;
 use xw_lines::device::{Sink, WriteFailed};
 
-/// Writes the grade of the word of a light if the light is wholly entered.
-fn write_if_entered<E: Feasible, W: Sink>(
-    sink: &mut W,
-    engine: &E,
-    light: usize,
-) -> Result<(), WriteFailed>
-    requires { light < light_count (E.state engine.now) }
-    ensures { Sends W.transcript W.failures sink.old sink.new result (entered_line (E.state engine.now) light) }
-{
-    if is_entered(engine, light) {
-        text::write_grade(sink, name_at(engine, light), grade(engine, light))
-    } else {
-        Ok(())
-    }
-}
+/// A wholly entered light has a line with the grade of its word.
+struct EnteredGrades;
 
-/// Writes the grades of the words of all wholly entered lights.
-fn write_entered<E: Feasible, W: Sink>(sink: &mut W, engine: &E) -> Result<(), WriteFailed>
-    ensures { Sends W.transcript W.failures sink.old sink.new result (entered_lines (E.state engine.now)) }
-{
-    for light in 0..engine.lights().len() {
-        write_if_entered(sink, engine, light)?;
+impl LightReport for EnteredGrades {
+    ghost use Rattle.xw_session.specs.Grades.{entered_line};
+
+    ghost line = { entered_line };
+
+    fn write_light<E: Feasible, W: Sink>(
+        &self,
+        sink: &mut W,
+        engine: &E,
+        light: usize,
+    ) -> Result<(), WriteFailed> {
+        if is_entered(engine, light) {
+            text::write_grade(sink, name_at(engine, light), grade(engine, light))
+        } else {
+            Ok(())
+        }
     }
-    Ok(())
 }
 
 /// Returns the grade of the word of the light with this name.
@@ -99,7 +96,7 @@ fn write_grades<E: Feasible, W: Sink>(
     ensures { Sends W.transcript W.failures sink.old sink.new result (grade_lines (E.state engine.now) (names_of lights.entry)) }
 {
     if lights.copy().next().is_none() {
-        write_entered(sink, engine)
+        write_each_light(sink, engine, &EnteredGrades)
     } else {
         write_each(sink, engine, lights)
     }
@@ -117,11 +114,8 @@ impl<E: Feasible> Session<E> {
         ensures { AnswersQuery W.transcript W.failures self.now (queries.Grade word.now) result sink.old sink.new }
     {
         match self.engine.bank().grade_of(word) {
-            Ok(grade) => {
-                write_line(sink, &[Token::Number(grade as u64)])?;
-                end_answer(sink, Ok(()))
-            }
-            Err(fault) => end_answer(sink, Err(CommandRefusal::Engine(Refusal::Word(fault)))),
+            Ok(grade) => accepted(write_line(sink, &[Token::Number(grade as u64)])),
+            Err(fault) => Ok(Err(CommandRefusal::Engine(Refusal::Word(fault)))),
         }
     }
 
@@ -134,9 +128,8 @@ impl<E: Feasible> Session<E> {
         ensures { AnswersQuery W.transcript W.failures self.now (queries.Grades lights.entry) result sink.old sink.new }
     {
         if !are_lights(&self.engine, lights.copy()) {
-            return end_answer(sink, Err(CommandRefusal::Engine(Refusal::NoLight)));
+            return Ok(Err(CommandRefusal::Engine(Refusal::NoLight)));
         }
-        write_grades(sink, &self.engine, lights)?;
-        end_answer(sink, Ok(()))
+        accepted(write_grades(sink, &self.engine, lights))
     }
 }

@@ -8,7 +8,7 @@ ghost use Rattle.xw_session.specs.Reply.{form_shown};
 ghost use Rattle.xw_session.specs.Answer.{AnswersQuery};
 
 use crate::session::Session;
-use crate::session::ending::{Ended, end_answer};
+use crate::session::ending::{Ended, accepted};
 use xw_answers::answer_line::{Token, write_line};
 use xw_answers::refusal::CommandRefusal;
 use xw_commands::change::CHANGES;
@@ -72,11 +72,8 @@ impl<E: Feasible> Session<E> {
         ensures { AnswersQuery W.transcript W.failures self.now (queries.Help (Some word.now)) result sink.old sink.new }
     {
         match form_of(word) {
-            Ok(form) => {
-                write_form(sink, form)?;
-                end_answer(sink, Ok(()))
-            }
-            Err(refusal) => end_answer(sink, Err(refusal)),
+            Ok(form) => accepted(write_form(sink, form)),
+            Err(refusal) => Ok(Err(refusal)),
         }
     }
 
@@ -84,8 +81,7 @@ impl<E: Feasible> Session<E> {
     fn answer_forms<W: Sink>(&self, sink: &mut W) -> Result<Ended, WriteFailed>
         ensures { AnswersQuery W.transcript W.failures self.now (queries.Help None) result sink.old sink.new }
     {
-        write_all_forms(sink)?;
-        end_answer(sink, Ok(()))
+        accepted(write_all_forms(sink))
     }
 
     /// Answers `help`: the forms of all commands, or of the one that is named.

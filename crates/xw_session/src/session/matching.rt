@@ -3,12 +3,12 @@ ghost use Rattle.std.specs.Prelude.{◌≡◌, ◌<◌, true, false, length};
 ghost use Rattle.xw_feas.specs.Board.{board_of};
 ghost use Rattle.xw_feas.specs.Feasible.{base_words_at};
 ghost use Rattle.xw_fill.specs.OfState.{light_count, is_entered as spec_is_entered};
-ghost use Rattle.xw_lines.specs.Sends.{Sends};
-ghost use Rattle.xw_session.specs.Unmatched.{is_unmatched as spec_is_unmatched, unmatched_line, unmatched_lines};
+ghost use Rattle.xw_session.specs.Unmatched.{is_unmatched as spec_is_unmatched};
 ghost use Rattle.xw_session.specs.Answer.{AnswersQuery};
 
 use crate::session::Session;
-use crate::session::ending::{Ended, end_answer};
+use crate::session::ending::{Ended, accepted};
+use crate::session::telling::{LightReport, write_each_light};
 use xw_answers::text::{self, Pattern};
 use xw_feas::feasible::Feasible;
 use xw_fill::scan::{is_entered, name_at};
@@ -36,30 +36,26 @@ fn is_unmatched<E: Feasible>(engine: &E, light: usize) -> bool
     !is_entered(engine, light) && !has_base_word(engine, light)
 }
 
-/// Writes a light with its letters if no word matches them.
-fn write_if_unmatched<E: Feasible, W: Sink>(
-    sink: &mut W,
-    engine: &E,
-    light: usize,
-) -> Result<(), WriteFailed>
-    requires { light < light_count (E.state engine.now) }
-    ensures { Sends W.transcript W.failures sink.old sink.new result (unmatched_line (E.state engine.now) light) }
-{
-    if is_unmatched(engine, light) {
-        text::write_light_word(sink, engine.grid(), engine.lights(), name_at(engine, light))
-    } else {
-        Ok(())
-    }
-}
+/// A light that no word matches has a line with its letters.
+struct UnmatchedLights;
 
-/// Writes each light that no word matches.
-fn write_unmatched<E: Feasible, W: Sink>(sink: &mut W, engine: &E) -> Result<(), WriteFailed>
-    ensures { Sends W.transcript W.failures sink.old sink.new result (unmatched_lines (E.state engine.now)) }
-{
-    for light in 0..engine.lights().len() {
-        write_if_unmatched(sink, engine, light)?;
+impl LightReport for UnmatchedLights {
+    ghost use Rattle.xw_session.specs.Unmatched.{unmatched_line};
+
+    ghost line = { unmatched_line };
+
+    fn write_light<E: Feasible, W: Sink>(
+        &self,
+        sink: &mut W,
+        engine: &E,
+        light: usize,
+    ) -> Result<(), WriteFailed> {
+        if is_unmatched(engine, light) {
+            text::write_light_word(sink, engine.grid(), engine.lights(), name_at(engine, light))
+        } else {
+            Ok(())
+        }
     }
-    Ok(())
 }
 
 impl<E: Feasible> Session<E> {
@@ -69,7 +65,6 @@ impl<E: Feasible> Session<E> {
     pub(crate) fn answer_unmatched<W: Sink>(&self, sink: &mut W) -> Result<Ended, WriteFailed>
         ensures { AnswersQuery W.transcript W.failures self.now queries.Unmatched result sink.old sink.new }
     {
-        write_unmatched(sink, &self.engine)?;
-        end_answer(sink, Ok(()))
+        accepted(write_each_light(sink, &self.engine, &UnmatchedLights))
     }
 }

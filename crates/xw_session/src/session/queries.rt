@@ -1,19 +1,19 @@
 //! Answers queries of the session, the engine and the search.
-ghost use Rattle.std.specs.Prelude.{◌≡◌, ℕ, flat_map, Ok, Err, ◌∷◌, [], length, IfOk, IfErr, IfSome, IfNone, Some, None, codes, decimal, ◌++◌};
+ghost use Rattle.std.specs.Prelude.{◌≡◌, ℕ, List, flat_map, Ok, Err, ◌∷◌, [], length, IfOk, IfErr, IfSome, IfNone, Some, None, decimal};
 ghost use Rattle.xw_letters.specs.LetterSet.{letters_in};
 ghost use Rattle.xw_grid.specs.Grid.{index_of};
 ghost use Rattle.xw_grid.specs.Light.{lights_of, index_named};
-ghost use Rattle.xw_fill.specs.OfState.{feasible_words};
+ghost use Rattle.xw_fill.specs.OfState.{feasible_letters, feasible_words};
 ghost use Rattle.xw_lines.specs.Sends.{Sends};
 ghost use Rattle.xw_commands.specs.Names.{direction_name};
-ghost use Rattle.xw_answers.specs.Text.{line_of, counted_lines, letters_line};
+ghost use Rattle.xw_answers.specs.Text.{line_of, counted_lines};
 ghost use Rattle.xw_session.specs.Found.{duplicate_line, suggestion_line, word_at as spec_word_at};
-ghost use Rattle.xw_session.specs.Reply.{first_words, name_of_light, filling_name as spec_filling_name, cell_of, lettered};
+ghost use Rattle.xw_session.specs.Reply.{first_words, name_of_light, filling_name as spec_filling_name, cell_of, on_open};
 ghost use Rattle.xw_session.specs.Answer.{AnswersQuery, AnswersSearch};
 
 use crate::lookup::light_name;
-use crate::session::Session;
-use crate::session::ending::{Ended, WriteLines, answer_lines, end_answer};
+use crate::session::ending::{Ended, WriteLines, accepted, write_given};
+use crate::session::{Session, cell_in};
 use xw_answers::answer_line::{Token, write_line};
 use xw_answers::lookup::light_named;
 use xw_answers::refusal::CommandRefusal;
@@ -28,7 +28,7 @@ use xw_feas::word_iter::{WordIter, words};
 use xw_fill::listing::{Duplicate, duplicates, unlisted};
 use xw_fill::search::{Filling, fill};
 use xw_fill::suggesting::{Suggestion, suggest};
-use xw_grid::{Direction, Grid, LightName, Lights};
+use xw_grid::{Cell, Grid, LightName, Lights};
 use xw_letters::{Letter, LetterSet};
 use xw_lines::device::{Sink, WriteFailed};
 
@@ -164,11 +164,8 @@ impl<E: Feasible> Session<E> {
         ensures { AnswersQuery W.transcript W.failures self.now (queries.Match pattern.now) result sink.old sink.new }
     {
         match self.engine.bank().matching(pattern) {
-            Ok(words) => {
-                lists::write_words(sink, words)?;
-                end_answer(sink, Ok(()))
-            }
-            Err(fault) => end_answer(sink, Err(CommandRefusal::Engine(Refusal::Word(fault)))),
+            Ok(words) => accepted(lists::write_words(sink, words)),
+            Err(fault) => Ok(Err(CommandRefusal::Engine(Refusal::Word(fault)))),
         }
     }
 
@@ -176,24 +173,21 @@ impl<E: Feasible> Session<E> {
     pub(crate) fn answer_show<W: Sink>(&self, sink: &mut W) -> Result<Ended, WriteFailed>
         ensures { AnswersQuery W.transcript W.failures self.now queries.Show result sink.old sink.new }
     {
-        show::write_grid(sink, self.engine.grid())?;
-        end_answer(sink, Ok(()))
+        accepted(show::write_grid(sink, self.engine.grid()))
     }
 
     /// Answers `lights`: all lights.
     pub(crate) fn answer_lights<W: Sink>(&self, sink: &mut W) -> Result<Ended, WriteFailed>
         ensures { AnswersQuery W.transcript W.failures self.now queries.Lights result sink.old sink.new }
     {
-        lists::write_lights(sink, self.engine.grid(), self.engine.lights())?;
-        end_answer(sink, Ok(()))
+        accepted(lists::write_lights(sink, self.engine.grid(), self.engine.lights()))
     }
 
     /// Answers `circles`: the open circled cells.
     pub(crate) fn answer_circles<W: Sink>(&self, sink: &mut W) -> Result<Ended, WriteFailed>
         ensures { AnswersQuery W.transcript W.failures self.now queries.Circles result sink.old sink.new }
     {
-        lists::write_circles(sink, self.engine.grid(), &self.circles)?;
-        end_answer(sink, Ok(()))
+        accepted(lists::write_circles(sink, self.engine.grid(), &self.circles))
     }
 
     /// Returns the feasible words of a light and their count.
@@ -233,22 +227,22 @@ impl<E: Feasible> Session<E> {
         ensures { AnswersQuery W.transcript W.failures self.now (queries.Words named most) result sink.old sink.new }
     {
         match self.counted_words(named) {
-            Some((count, found)) => {
-                write_counted(sink, count, found, most)?;
-                end_answer(sink, Ok(()))
-            }
-            None => end_answer(sink, Err(CommandRefusal::Engine(Refusal::NoLight))),
+            Some((count, found)) => accepted(write_counted(sink, count, found, most)),
+            None => Ok(Err(CommandRefusal::Engine(Refusal::NoLight))),
         }
     }
 
-    /// Returns the feasible letters of a cell. Returns `OutOfGrid` or `OnBlock` if it has none.
-    fn letters(&self, spot: CellArg) -> Result<LetterSet, Refusal>
-        ensures ok { IfOk result (λ set. lettered self.now (cell_of spot) ≡ Ok (letters_line (letters_in set))) }
-        ensures refused { IfErr result (λ refusal. lettered self.now (cell_of spot) ≡ Err (CommandRefusal.Engine refusal)) }
+    /// Returns the open cell at a row and column with its feasible letters. Returns `OutOfGrid` or `OnBlock` if there is
+    /// none.
+    pub(crate) fn open_cell(&self, spot: CellArg) -> Result<(Cell, LetterSet), Refusal>
+        ensures ok { IfOk result (λ found. (found.0 ≡ cell_of spot)
+            × ((lines : List ℕ) → on_open self.now.engine.grid (cell_of spot) lines ≡ Ok lines)
+            × (letters_in found.1 ≡ feasible_letters self.now.engine (index_of self.now.engine.grid (cell_of spot)))) }
+        ensures refused { (lines : List ℕ) → IfErr result (λ refusal. on_open self.now.engine.grid (cell_of spot) lines ≡ Err (CommandRefusal.Engine refusal)) }
     {
-        let cell = self.cell(spot)?;
+        let cell = cell_in(self.engine.grid(), spot)?;
         let letters = self.engine.letters(cell)?;
-        Ok(letters)
+        Ok((cell, letters))
     }
 
     /// Answers `letters`: the feasible letters of a cell.
@@ -259,12 +253,9 @@ impl<E: Feasible> Session<E> {
     ) -> Result<Ended, WriteFailed>
         ensures { AnswersQuery W.transcript W.failures self.now (queries.Letters spot) result sink.old sink.new }
     {
-        match self.letters(spot) {
-            Ok(letters) => {
-                text::write_letter_set(sink, letters)?;
-                end_answer(sink, Ok(()))
-            }
-            Err(refusal) => end_answer(sink, Err(CommandRefusal::Engine(refusal))),
+        match self.open_cell(spot) {
+            Ok(found) => accepted(text::write_letter_set(sink, found.1)),
+            Err(refusal) => Ok(Err(CommandRefusal::Engine(refusal))),
         }
     }
 
@@ -273,11 +264,13 @@ impl<E: Feasible> Session<E> {
         ensures { AnswersQuery W.transcript W.failures self.now queries.Duplicates result sink.old sink.new }
     {
         match duplicates(self.alloc, &self.engine) {
-            Ok(found) => {
-                write_duplicates(sink, self.engine.grid(), self.engine.lights(), &found)?;
-                end_answer(sink, Ok(()))
-            }
-            Err(refusal) => end_answer(sink, Err(CommandRefusal::Engine(refusal))),
+            Ok(found) => accepted(write_duplicates(
+                sink,
+                self.engine.grid(),
+                self.engine.lights(),
+                &found,
+            )),
+            Err(refusal) => Ok(Err(CommandRefusal::Engine(refusal))),
         }
     }
 
@@ -286,11 +279,13 @@ impl<E: Feasible> Session<E> {
         ensures { AnswersQuery W.transcript W.failures self.now queries.Unlisted result sink.old sink.new }
     {
         match unlisted(self.alloc, &self.engine) {
-            Ok(found) => {
-                lists::write_unlisted(sink, self.engine.grid(), self.engine.lights(), &found)?;
-                end_answer(sink, Ok(()))
-            }
-            Err(refusal) => end_answer(sink, Err(CommandRefusal::Engine(refusal))),
+            Ok(found) => accepted(lists::write_unlisted(
+                sink,
+                self.engine.grid(),
+                self.engine.lights(),
+                &found,
+            )),
+            Err(refusal) => Ok(Err(CommandRefusal::Engine(refusal))),
         }
     }
 
@@ -300,8 +295,7 @@ impl<E: Feasible> Session<E> {
         ensures unchanged { self.new ≡ self.old }
     {
         let suggestion = suggest(&mut self.engine);
-        write_suggestion(sink, &self.engine, suggestion)?;
-        end_answer(sink, Ok(()))
+        accepted(write_suggestion(sink, &self.engine, suggestion))
     }
 }
 
@@ -321,6 +315,6 @@ impl<E: Searchable> Session<E> {
         self.engine.tell(News::Ends);
         self.hints
             .end_autofill_if(matches!(filled, Ok(Filling::Filled)));
-        answer_lines(sink, filled)
+        write_given(sink, filled)
     }
 }

@@ -5,11 +5,11 @@ ghost use Rattle.xw_lines.specs.Sends.{Sends};
 ghost use Rattle.xw_session.specs.Reply.{name_of_light};
 ghost use Rattle.xw_session.specs.Why.{entry_lines, refusal_without_reason as spec_refusal_without_reason};
 ghost use Rattle.xw_session.specs.State.{SessionState};
-ghost use Rattle.xw_session.specs.Answer.{AnswersQuery, why_reply, text_of, ended_by};
+ghost use Rattle.xw_session.specs.Answer.{AnswersQuery, why_reply, lines_in, ended_by};
 
 use crate::lookup::light_name;
 use crate::session::Session;
-use crate::session::ending::{Ended, end_answer};
+use crate::session::ending::{Ended, accepted};
 use std::alloc::Global;
 use xw_answers::refusal::CommandRefusal;
 use xw_answers::text;
@@ -57,21 +57,18 @@ fn refusal_without_reason(refusal: NoReason) -> CommandRefusal
     }
 }
 
-/// Answers a search for a reason.
-fn end_reason<W: Sink>(
+/// Writes the reason that a search found.
+fn write_reason<W: Sink>(
     sink: &mut W,
     grid: &Grid,
     found: Result<Vec<Option<Letter>>, NoReason>,
 ) -> Result<Ended, WriteFailed>
-    ensures sends { (state : SessionState) → Sends W.transcript W.failures sink.old sink.new result (text_of (why_reply grid.now found state)) }
-    ensures step { (state : SessionState) → IfOk result (λ ended. ended ≡ ended_by (why_reply grid.now found state)) }
+    ensures sends { (state : SessionState) → Sends W.transcript W.failures sink.old sink.new result (lines_in (why_reply grid.now found state)) }
+    ensures ends { (state : SessionState) → IfOk result (λ ended. ended ≡ ended_by (why_reply grid.now found state)) }
 {
     match found {
-        Ok(entries) => {
-            write_entries(sink, grid, &entries)?;
-            end_answer(sink, Ok(()))
-        }
-        Err(refusal) => end_answer(sink, Err(refusal_without_reason(refusal))),
+        Ok(entries) => accepted(write_entries(sink, grid, &entries)),
+        Err(refusal) => Ok(Err(refusal_without_reason(refusal))),
     }
 }
 
@@ -105,6 +102,6 @@ impl<E: Feasible> Session<E> {
         ensures unchanged { self.new ≡ self.old }
     {
         let found = reason_for(self.alloc, &mut self.engine, named);
-        end_reason(sink, self.engine.grid(), found)
+        write_reason(sink, self.engine.grid(), found)
     }
 }

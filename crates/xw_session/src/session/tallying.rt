@@ -1,20 +1,18 @@
 //! Answers `tally`.
-ghost use Rattle.std.specs.Prelude.{◌≡◌, Some, Ok, Err, IfOk, IfErr, flat_map, [], ◌∷◌};
+ghost use Rattle.std.specs.Prelude.{◌≡◌, Some, flat_map, [], ◌∷◌};
 ghost use Rattle.xw_letters.specs.LetterSet.{letters_in};
 ghost use Rattle.xw_grid.specs.Light.{lights_of, index_through};
 ghost use Rattle.xw_lines.specs.Sends.{Sends};
 ghost use Rattle.xw_answers.specs.Text.{line_of};
 ghost use Rattle.xw_answers.specs.Token.{token_bytes};
 ghost use Rattle.xw_session.specs.Tally.{distance as spec_distance, words_with as spec_words_with, tally_at as spec_tally_at, number_or_dash as spec_number_or_dash, tally_line};
-ghost use Rattle.xw_session.specs.Reply.{cell_of, tallied as spec_tallied};
 ghost use Rattle.xw_session.specs.Answer.{AnswersQuery};
 
 use crate::session::Session;
-use crate::session::ending::{Ended, end_answer};
+use crate::session::ending::{Ended, accepted};
 use xw_answers::answer_line::{Token, write_line};
 use xw_answers::refusal::CommandRefusal;
 use xw_commands::command::CellArg;
-use xw_feas::edit::Refusal;
 use xw_feas::searchable::Searchable;
 use xw_grid::{Cell, Direction, Lights};
 use xw_letters::{Letter, LetterSet};
@@ -133,16 +131,6 @@ fn write_tallies<E: Searchable, W: Sink>(
 impl<E: Searchable> Session<E> {
     ghost use Rattle.xw_commands.specs.declared.query.Query.TheVariants as queries;
 
-    /// Returns a cell with its feasible letters. Returns `OutOfGrid` or `OnBlock` if it has none.
-    fn tallied(&self, spot: CellArg) -> Result<(Cell, LetterSet), Refusal>
-        ensures ok { IfOk result (λ found. spec_tallied self.now (cell_of spot) ≡ Ok (flat_map (tally_line self.now.engine found.0) (letters_in found.1))) }
-        ensures refused { IfErr result (λ refusal. spec_tallied self.now (cell_of spot) ≡ Err (CommandRefusal.Engine refusal)) }
-    {
-        let cell = self.cell(spot)?;
-        let letters = self.engine.letters(cell)?;
-        Ok((cell, letters))
-    }
-
     /// Answers `tally`: how many feasible words of the lights through a cell have each of its letters there.
     pub(crate) fn answer_tally<W: Sink>(
         &self,
@@ -151,12 +139,9 @@ impl<E: Searchable> Session<E> {
     ) -> Result<Ended, WriteFailed>
         ensures { AnswersQuery W.transcript W.failures self.now (queries.Tally spot) result sink.old sink.new }
     {
-        match self.tallied(spot) {
-            Ok(found) => {
-                write_tallies(sink, &self.engine, found.0, found.1)?;
-                end_answer(sink, Ok(()))
-            }
-            Err(refusal) => end_answer(sink, Err(CommandRefusal::Engine(refusal))),
+        match self.open_cell(spot) {
+            Ok(found) => accepted(write_tallies(sink, &self.engine, found.0, found.1)),
+            Err(refusal) => Ok(Err(CommandRefusal::Engine(refusal))),
         }
     }
 }

@@ -1,13 +1,12 @@
 //! Answers the commands that report on the whole puzzle.
-ghost use Rattle.std.specs.Prelude.{◌≡◌, ◌<◌, length};
-ghost use Rattle.xw_grid.specs.Light.{lights_of};
+ghost use Rattle.std.specs.Prelude.{◌≡◌};
 ghost use Rattle.xw_lines.specs.Sends.{Sends};
-ghost use Rattle.xw_session.specs.Told.{letters_told, cell_lines, count_line, count_lines, text_lines, unless_longer as spec_unless_longer, longest as spec_longest, longest_line, told_lines};
+ghost use Rattle.xw_session.specs.Reports.{letters_told, cell_lines, light_report, text_lines, unless_longer as spec_unless_longer, longest as spec_longest, longest_line, told_lines};
 ghost use Rattle.xw_answers.specs.Stats.{stat_lines};
 ghost use Rattle.xw_session.specs.Answer.{AnswersQuery};
 
 use crate::session::Session;
-use crate::session::ending::{Ended, end_answer};
+use crate::session::ending::{Ended, accepted};
 use xw_answers::{fields, stats, text};
 use xw_commands::query::Report;
 use xw_feas::feasible::Feasible;
@@ -42,27 +41,57 @@ fn write_cells<E: Feasible, W: Sink>(sink: &mut W, engine: &E) -> Result<(), Wri
     Ok(())
 }
 
-/// Writes the light at an index with its number of feasible words.
-fn write_count_at<E: Feasible, W: Sink>(
-    sink: &mut W,
-    engine: &E,
-    index: usize,
-) -> Result<(), WriteFailed>
-    requires { index < length (lights_of (E.state engine.now).grid) }
-    ensures { Sends W.transcript W.failures sink.old sink.new result (count_line (E.state engine.now) index) }
-{
-    let light = engine.lights().at(index);
-    text::write_numbered(sink, light.name, engine.word_count_at(index) as u64)
+/// What a report says of each light.
+pub(crate) trait LightReport {
+    ghost use Rattle.std.specs.Prelude.{ℕ, List, ◌<◌};
+    ghost use Rattle.xw_feas.specs.State.{State};
+    ghost use Rattle.xw_fill.specs.OfState.{light_count};
+    ghost use Rattle.xw_lines.specs.Sends.{Sends};
+
+    ghost line: { State → ℕ → List ℕ };
+
+    /// Writes the line of the light at an index. Writes nothing if the report has no line for it.
+    fn write_light<E: Feasible, W: Sink>(
+        &self,
+        sink: &mut W,
+        engine: &E,
+        light: usize,
+    ) -> Result<(), WriteFailed>
+        requires { light < light_count (E.state engine.now) }
+        ensures { Sends W.transcript W.failures sink.old sink.new result (line (E.state engine.now) light) };
 }
 
-/// Writes each light with its number of feasible words.
-fn write_counts<E: Feasible, W: Sink>(sink: &mut W, engine: &E) -> Result<(), WriteFailed>
-    ensures { Sends W.transcript W.failures sink.old sink.new result (count_lines (E.state engine.now)) }
+/// Writes what a report says of each light.
+pub(crate) fn write_each_light<R: LightReport, E: Feasible, W: Sink>(
+    sink: &mut W,
+    engine: &E,
+    report: &R,
+) -> Result<(), WriteFailed>
+    ensures { Sends W.transcript W.failures sink.old sink.new result (light_report R.line (E.state engine.now)) }
 {
-    for index in 0..engine.lights().len() {
-        write_count_at(sink, engine, index)?;
+    for light in 0..engine.lights().len() {
+        report.write_light(sink, engine, light)?;
     }
     Ok(())
+}
+
+/// Each light has a line with its number of feasible words.
+struct WordCounts;
+
+impl LightReport for WordCounts {
+    ghost use Rattle.xw_session.specs.Reports.{count_line};
+
+    ghost line = { count_line };
+
+    fn write_light<E: Feasible, W: Sink>(
+        &self,
+        sink: &mut W,
+        engine: &E,
+        light: usize,
+    ) -> Result<(), WriteFailed> {
+        let name = engine.lights().at(light).name;
+        text::write_numbered(sink, name, engine.word_count_at(light) as u64)
+    }
 }
 
 /// Returns the second light if it is longer, and otherwise the first.
@@ -124,7 +153,7 @@ impl<E: Feasible> Session<E> {
     {
         match report {
             Report::Cells => write_cells(sink, &self.engine),
-            Report::Counts => write_counts(sink, &self.engine),
+            Report::Counts => write_each_light(sink, &self.engine, &WordCounts),
             Report::Texts => self.write_texts(sink),
             Report::Stats => self.write_stats(sink),
             Report::Longest => write_longest(sink, longest(self.engine.lights())),
@@ -136,7 +165,6 @@ impl<E: Feasible> Session<E> {
     pub(crate) fn tell<W: Sink>(&self, report: Report, sink: &mut W) -> Result<Ended, WriteFailed>
         ensures { AnswersQuery W.transcript W.failures self.now (queries.Tell report) result sink.old sink.new }
     {
-        self.write_told(report, sink)?;
-        end_answer(sink, Ok(()))
+        accepted(self.write_told(report, sink))
     }
 }

@@ -19,14 +19,14 @@ returns g c =
     let now = g.E.Feasible.state found.new.engine in
     let end : SessionState = record start { engine = now } in
     let fits = search_fits filling_line IsAutofilled start (names_of c.args.lights) now found.result fillings.Limit refl found.ensures.known found.ensures.ok found.ensures.refused in
-    subst (λ (s : SessionState). AnswersSearch g.W.Sink.transcript g.W.Sink.failures s (searches.Autofill c.args.limit c.args.seed c.args.lights) c.answer_lines.result end c.args.sink.now c.answer_lines.new.sink) c.self.view_is (
+    subst (λ (s : SessionState). AnswersSearch g.W.Sink.transcript g.W.Sink.failures s (searches.Autofill c.args.limit c.args.seed c.args.lights) c.write_given.result end c.args.sink.now c.write_given.new.sink) c.self.view_is (
       fits.0,
       fits.1,
       record {
         reply = _;
         fits = fits.2;
         effect = lines_effect _ start now found.result found.ensures.unchanged;
-        sends = c.answer_lines.ensures.sends end;
-        step = c.answer_lines.ensures.step end;
+        sends = c.write_given.ensures.sends end;
+        ends = c.write_given.ensures.ends end;
       },
     )

@@ -15,8 +15,7 @@ begun state after change result asked is was = subst (λ (r : Result Asked Comma
 
 pub returns-in-Ok-Nothing : goal.returns-in-Ok-Nothing
 returns-in-Ok-Nothing g c =
-    let done = begun c.args.self.now c.begin.new.self c.args.change c.begin.result (Ok asked_for.Nothing) (cc) c.begin.ensures.begun in
-    edit_answers g.W.Sink.transcript g.W.Sink.failures c.args.self.now c.begin.new.self c.args.change (Ok (tt {0})) _ _ _ done c.end_answer.ensures.sends c.end_answer.ensures.step
+    edit_answers g.W.Sink.transcript g.W.Sink.failures c.args.self.now c.begin.new.self c.args.change (Ok tt) _ (begun c.args.self.now c.begin.new.self c.args.change c.begin.result (Ok asked_for.Nothing) (cc) c.begin.ensures.begun)
 
 pub returns-in-Ok-Edit : goal.returns-in-Ok-Edit
 returns-in-Ok-Edit g c =
@@ -28,8 +27,7 @@ pub returns-in-Ok-Clue : goal.returns-in-Ok-Clue
 returns-in-Ok-Clue g c =
     let clue : Change = changes.Clue c.in-Ok-Clue.named c.in-Ok-Clue.text.now in
     let asks = begun c.args.self.now c.begin.new.self c.args.change c.begin.result (Ok (asked_for.Clue c.in-Ok-Clue.named c.in-Ok-Clue.text)) (cc) c.begin.ensures.begun in
-    let done = subst (λ (s : SessionState). Edits s clue c.set_clue.result c.set_clue.new.self) asks.1 c.set_clue.ensures in
-    rw asks.0 (edit_answers g.W.Sink.transcript g.W.Sink.failures c.args.self.now c.set_clue.new.self clue c.set_clue.result _ _ _ done c.end_answer-in-Ok-Clue.ensures.sends c.end_answer-in-Ok-Clue.ensures.step)
+    rw asks.0 (edit_answers g.W.Sink.transcript g.W.Sink.failures c.args.self.now c.set_clue.new.self clue c.set_clue.result _ (subst (λ (s : SessionState). Edits s clue c.set_clue.result c.set_clue.new.self) asks.1 c.set_clue.ensures))
 
 pub returns-in-Ok-Erase : goal.returns-in-Ok-Erase
 returns-in-Ok-Erase g c =
@@ -40,10 +38,8 @@ pub returns-in-Ok-Size : goal.returns-in-Ok-Size
 returns-in-Ok-Size g c =
     let size : Change = changes.Size c.in-Ok-Size.width c.in-Ok-Size.height in
     let asks = begun c.args.self.now c.begin.new.self c.args.change c.begin.result (Ok (asked_for.Size c.in-Ok-Size.width c.in-Ok-Size.height)) (cc) c.begin.ensures.begun in
-    let done = subst (λ (s : SessionState). Edits s size c.resize.result c.resize.new.self) asks.1 c.resize.ensures in
-    rw asks.0 (edit_answers g.W.Sink.transcript g.W.Sink.failures c.args.self.now c.resize.new.self size c.resize.result _ _ _ done c.end_answer-in-Ok-Size.ensures.sends c.end_answer-in-Ok-Size.ensures.step)
+    rw asks.0 (edit_answers g.W.Sink.transcript g.W.Sink.failures c.args.self.now c.resize.new.self size c.resize.result _ (subst (λ (s : SessionState). Edits s size c.resize.result c.resize.new.self) asks.1 c.resize.ensures))
 
 pub returns-in-Err : goal.returns-in-Err
 returns-in-Err g c =
-    let done = begun c.args.self.now c.begin.new.self c.args.change c.begin.result (Err c.in-Err.refusal) (cc) c.begin.ensures.begun in
-    edit_answers {T = Unit {0}} g.W.Sink.transcript g.W.Sink.failures c.args.self.now c.begin.new.self c.args.change (Err c.in-Err.refusal) _ _ _ done c.end_answer-in-Err.ensures.sends c.end_answer-in-Err.ensures.step
+    edit_answers g.W.Sink.transcript g.W.Sink.failures c.args.self.now c.begin.new.self c.args.change (Err c.in-Err.refusal) _ (begun c.args.self.now c.begin.new.self c.args.change c.begin.result (Err c.in-Err.refusal) (cc) c.begin.ensures.begun)

@@ -1,6 +1,5 @@
 use Rattle.std.proofs.Common.{◌≡◌, ◌∙◌, Some, Ok, Err, ap, sym, subst, refl, arith}
 use Rattle.std.proofs.lemmas.List.Quantifiers.{position-Some}
-use Rattle.std.proofs.lemmas.Result.{err_from_is_err_and}
 use Rattle.xw_grid.specs.Light.{lights_of, no_light, index_named, same_name}
 use Rattle.xw_grid.specs.Puzzle.{texts_view}
 use Rattle.xw_feas.proofs.BoardLemmas.{length-lights}
@@ -11,7 +10,7 @@ use Rattle.xw_session.specs.State.{SessionState}
 use Rattle.xw_session.specs.Choices.{choice_lines}
 use Rattle.xw_session.specs.Answer.{IsAnswer}
 use Rattle.xw_session.specs.Reply.{weighed, name_of_light}
-use Rattle.xw_session.proofs.Answering.{query_answers, query_stops, query_refused}
+use Rattle.xw_session.proofs.Answering.{query_answers, query_refused}
 use Rattle.xw_session.proofs.Choosing.{weighed_by}
 use Rattle.xw_session.proofs.session.Session.answer_choices.Goals as goal
 
@@ -31,24 +30,15 @@ write_weighed-requires g c =
 
 pub returns-in_default-clause-answer : goal.returns-in_default-clause-answer
 returns-in_default-clause-answer g c =
-    query_refused g.W.Sink.transcript g.W.Sink.failures c.args.self.now (queries.Choices c.args.named c.args.most c.args.first.now) (refusals.Engine edits.NoLight) _ _ _ (ap (λ light. weighed c.args.self.now light c.args.most c.args.first.now) (sym c.in_default.ensures)) c.end_answer.ensures.sends c.end_answer.ensures.step
+    query_refused g.W.Sink.transcript g.W.Sink.failures c.args.self.now (queries.Choices c.args.named c.args.most c.args.first.now) (refusals.Engine edits.NoLight) _ (ap (λ light. weighed c.args.self.now light c.args.most c.args.first.now) (sym c.in_default.ensures))
 
-pub returns-in_err-write_weighed-in-Ok-clause-answer : goal.returns-in_err-write_weighed-in-Ok-clause-answer
-returns-in_err-write_weighed-in-Ok-clause-answer g c =
-    let left = c.self.inside in
-    let start : SessionState = record { engine = g.E.Feasible.state left.engine; texts = texts_view left.texts; clues = left.clues; circles = left.circles; is_watched = left.is_watched; begun = left.begun } in
-    let e = err_from_is_err_and c.from_residual.result c.from_residual.ensures.1 in
-    let lines = choice_lines start.engine c.in-Some.light c.in-Ok.from c.args.most in
-    let found : index_named (lights_of start.engine.grid) (name_of_light c.args.named) ≡ Some c.in-Some.light = ap (λ (s : SessionState). index_named (lights_of s.engine.grid) (name_of_light c.args.named)) c.self.view_is ∙ sym c.light_index.ensures ∙ c.in-Some.is in
-    rw (e.1, ← c.self.view_is) (query_stops g.W.Sink.transcript g.W.Sink.failures start (queries.Choices c.args.named c.args.most c.args.first.now) lines _ _ _ (weighed_by start c.in-Some.light c.args.most c.args.first.now (index_named (lights_of start.engine.grid) (name_of_light c.args.named)) (Ok c.in-Ok.from) found (sym c.in-Ok.is ∙ c.first_index.ensures)) c.in_err-write_weighed-in-Ok.ensures.sends)
-
-pub returns-in_ok-write_weighed-in-Ok-clause-answer : goal.returns-in_ok-write_weighed-in-Ok-clause-answer
-returns-in_ok-write_weighed-in-Ok-clause-answer g c =
+pub returns-in-Ok-clause-answer : goal.returns-in-Ok-clause-answer
+returns-in-Ok-clause-answer g c =
     let left = c.self.inside in
     let start : SessionState = record { engine = g.E.Feasible.state left.engine; texts = texts_view left.texts; clues = left.clues; circles = left.circles; is_watched = left.is_watched; begun = left.begun } in
     let lines = choice_lines start.engine c.in-Some.light c.in-Ok.from c.args.most in
     let found : index_named (lights_of start.engine.grid) (name_of_light c.args.named) ≡ Some c.in-Some.light = ap (λ (s : SessionState). index_named (lights_of s.engine.grid) (name_of_light c.args.named)) c.self.view_is ∙ sym c.light_index.ensures ∙ c.in-Some.is in
-    rw (← c.self.view_is) (query_answers g.W.Sink.transcript g.W.Sink.failures start (queries.Choices c.args.named c.args.most c.args.first.now) lines _ _ _ _ (weighed_by start c.in-Some.light c.args.most c.args.first.now (index_named (lights_of start.engine.grid) (name_of_light c.args.named)) (Ok c.in-Ok.from) found (sym c.in-Ok.is ∙ c.first_index.ensures)) c.in_ok-write_weighed-in-Ok.ensures.sends c.end_answer-in-Ok.ensures.sends c.end_answer-in-Ok.ensures.step)
+    rw (c.accepted.ensures, ← c.self.view_is) (query_answers g.W.Sink.transcript g.W.Sink.failures start (queries.Choices c.args.named c.args.most c.args.first.now) lines _ _ _ (weighed_by start c.in-Some.light c.args.most c.args.first.now (index_named (lights_of start.engine.grid) (name_of_light c.args.named)) (Ok c.in-Ok.from) found (sym c.in-Ok.is ∙ c.first_index.ensures)) c.write_weighed.ensures.sends)
 
 pub returns-in-Err-clause-answer : goal.returns-in-Err-clause-answer
 returns-in-Err-clause-answer g c =
@@ -56,10 +46,7 @@ returns-in-Err-clause-answer g c =
     let start : SessionState = record { engine = g.E.Feasible.state left.engine; texts = texts_view left.texts; clues = left.clues; circles = left.circles; is_watched = left.is_watched; begun = left.begun } in
     let found : index_named (lights_of start.engine.grid) (name_of_light c.args.named) ≡ Some c.in-Some.light = ap (λ (s : SessionState). index_named (lights_of s.engine.grid) (name_of_light c.args.named)) c.self.view_is ∙ sym c.light_index.ensures ∙ c.in-Some.is in
     let due = weighed_by start c.in-Some.light c.args.most c.args.first.now (index_named (lights_of start.engine.grid) (name_of_light c.args.named)) (Err c.in-Err.refusal) found (sym c.in-Err.is ∙ c.first_index.ensures) in
-    query_refused g.W.Sink.transcript g.W.Sink.failures c.args.self.now (queries.Choices c.args.named c.args.most c.args.first.now) (refusals.Engine c.in-Err.refusal) _ _ _ (subst (λ (s : SessionState). IsAnswer s (queries.Choices c.args.named c.args.most c.args.first.now) (Err (refusals.Engine c.in-Err.refusal))) c.self.view_is due) c.end_answer-in-Err.ensures.sends c.end_answer-in-Err.ensures.step
+    query_refused g.W.Sink.transcript g.W.Sink.failures c.args.self.now (queries.Choices c.args.named c.args.most c.args.first.now) (refusals.Engine c.in-Err.refusal) _ (subst (λ (s : SessionState). IsAnswer s (queries.Choices c.args.named c.args.most c.args.first.now) (Err (refusals.Engine c.in-Err.refusal))) c.self.view_is due)
 
-pub returns-in_err-write_weighed-in-Ok-clause-unchanged : goal.returns-in_err-write_weighed-in-Ok-clause-unchanged
-returns-in_err-write_weighed-in-Ok-clause-unchanged g c = rw (c.write_weighed.ensures.unchanged, ← c.self.view_is) refl
-
-pub returns-in_ok-write_weighed-in-Ok-clause-unchanged : goal.returns-in_ok-write_weighed-in-Ok-clause-unchanged
-returns-in_ok-write_weighed-in-Ok-clause-unchanged g c = rw (c.write_weighed.ensures.unchanged, ← c.self.view_is) refl
+pub returns-in-Ok-clause-unchanged : goal.returns-in-Ok-clause-unchanged
+returns-in-Ok-clause-unchanged g c = rw (c.write_weighed.ensures.unchanged, ← c.self.view_is) refl

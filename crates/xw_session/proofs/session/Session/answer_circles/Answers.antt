@@ -1,15 +1,8 @@
 use Rattle.std.proofs.Common.{refl}
-use Rattle.std.proofs.lemmas.Result.{err_from_is_err_and}
 use Rattle.xw_commands.specs.declared.query.Query.TheVariants as queries
 use Rattle.xw_answers.specs.Text.{circle_lines}
-use Rattle.xw_session.proofs.Answering.{query_answers, query_stops}
+use Rattle.xw_session.proofs.Answering.{query_answers}
 use Rattle.xw_session.proofs.session.Session.answer_circles.Goals as goal
 
-pub returns-in_err-write_circles : goal.returns-in_err-write_circles
-returns-in_err-write_circles g c =
-    let e = err_from_is_err_and c.from_residual.result c.from_residual.ensures.1 in
-    rw e.1 (query_stops g.W.Sink.transcript g.W.Sink.failures c.args.self.now queries.Circles (circle_lines c.args.self.now.engine.grid c.args.self.now.circles) _ _ _ refl (rw (← c.self.view_is, ← c.grid.ensures) c.in_err-write_circles.ensures))
-
 pub returns : goal.returns
-returns g c =
-    query_answers g.W.Sink.transcript g.W.Sink.failures c.args.self.now queries.Circles (circle_lines c.args.self.now.engine.grid c.args.self.now.circles) _ _ _ _ refl (rw (← c.self.view_is, ← c.grid.ensures) c.in_ok-write_circles.ensures) c.end_answer.ensures.sends c.end_answer.ensures.step
+returns g c = rw c.accepted.ensures (query_answers g.W.Sink.transcript g.W.Sink.failures c.args.self.now queries.Circles (circle_lines c.args.self.now.engine.grid c.args.self.now.circles) _ _ _ refl (rw (← c.self.view_is, ← c.grid.ensures) c.write_circles.ensures))

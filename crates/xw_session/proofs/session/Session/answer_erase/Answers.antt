@@ -3,11 +3,12 @@ use Rattle.xw_grid.specs.Grid.{IsGrid}
 use Rattle.xw_grid.specs.Light.{lights_of}
 use Rattle.xw_feas.specs.State.{after, list_written}
 use Rattle.xw_answers.specs.declared.refusal.CommandRefusal.TheVariants as refusals
+use Rattle.xw_commands.specs.declared.change.Change.TheVariants as changes
 use Rattle.xw_feas.specs.declared.edit.Refusal.TheVariants as edits
 use Rattle.xw_session.specs.State.{SessionState}
 use Rattle.xw_session.specs.Erase.{erased_cells, emptied}
 use Rattle.xw_session.specs.Reply.{moved, erased}
-use Rattle.xw_session.proofs.Answering.{refused_answers}
+use Rattle.xw_session.proofs.Answering.{edit_answers}
 use Rattle.xw_answers.proofs.LightTexts.{found_short}
 use Rattle.xw_session.proofs.session.Session.answer_erase.Goals as goal
 
@@ -33,5 +34,4 @@ returns-in-Some g c =
 
 pub returns-in-None : goal.returns-in-None
 returns-in-None g c =
-    let state = c.args.self.now in
-    (Err (refusals.Engine edits.NoLight), ap (erased state) (sym c.light.ensures ∙ c.in-None.is), refused_answers g.W.Sink.transcript g.W.Sink.failures state (Err (refusals.Engine edits.NoLight)) _ (refusals.Engine edits.NoLight) _ _ _ (inl refl) c.end_answer.ensures.sends c.end_answer.ensures.step)
+    edit_answers g.W.Sink.transcript g.W.Sink.failures c.args.self.now c.args.self.now (changes.Erase c.args.named) (Err (refusals.Engine edits.NoLight)) _ (inl (ap (erased c.args.self.now) (sym c.light.ensures ∙ c.in-None.is)), refl)

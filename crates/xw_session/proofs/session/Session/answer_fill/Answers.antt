@@ -13,14 +13,14 @@ returns g c =
     let start : SessionState = record { engine = g.E.Feasible.state left.engine; texts = texts_view left.texts; clues = left.clues; circles = left.circles; is_watched = left.is_watched; begun = left.begun } in
     let now = c.fill-filled.new.engine in
     let end : SessionState = record start { engine = g.E.Feasible.state now } in
-    subst (λ (s : SessionState). AnswersSearch g.W.Sink.transcript g.W.Sink.failures s (searches.Fill c.args.limit) c.answer_lines.result end c.args.sink.now c.answer_lines.new.sink) c.self.view_is (
+    subst (λ (s : SessionState). AnswersSearch g.W.Sink.transcript g.W.Sink.failures s (searches.Fill c.args.limit) c.write_given.result end c.args.sink.now c.write_given.new.sink) c.self.view_is (
       fill_tried start c.args.limit,
       refl,
       record {
         reply = _;
         fits = fill_fits start (g.E.Feasible.state now) c.args.limit c.fill-filled.result c.fill-filled.ensures.found c.fill-filled.ensures.memory;
         effect = lines_effect _ start (g.E.Feasible.state now) c.fill-filled.result c.fill-filled.ensures.unchanged;
-        sends = c.answer_lines.ensures.sends end;
-        step = c.answer_lines.ensures.step end;
+        sends = c.write_given.ensures.sends end;
+        ends = c.write_given.ensures.ends end;
       },
     )

@@ -1,6 +1,5 @@
 use Rattle.std.proofs.Common.{◌≡◌, List, Ok, Err, ap, subst}
 use Rattle.std.specs.Prelude.{if◌then◌else◌}
-use Rattle.std.proofs.lemmas.Result.{err_from_is_err_and}
 use Rattle.xw_grid.specs.Puzzle.{texts_view}
 use Rattle.xw_fill.specs.NamedFill.{AreLights}
 use Rattle.xw_commands.specs.declared.command.LightArg.{LightArg}
@@ -11,8 +10,7 @@ use Rattle.xw_session.specs.State.{SessionState}
 use Rattle.xw_session.specs.NamedSearch.{names_of}
 use Rattle.xw_session.specs.Grades.{grade_lines}
 use Rattle.xw_session.specs.Reply.{graded}
-use Rattle.xw_session.specs.Answer.{AnswersQuery}
-use Rattle.xw_session.proofs.Answering.{query_answers, query_stops, query_refused}
+use Rattle.xw_session.proofs.Answering.{query_answers, query_refused}
 use Rattle.xw_session.proofs.Grading.{all_there, some_missing}
 use Rattle.xw_session.proofs.session.Session.answer_grades.Goals as goal
 
@@ -23,23 +21,11 @@ returns-then-not-are_lights g c =
     let names = names_of c.args.lights in
     let missing = some_missing start.engine names (subst (λ (lights : List LightArg). AreLights start.engine (names_of lights) → ⊥) c.copy.ensures (c.are_lights.ensures.no c.if-not-are_lights.true)) in
     let refused : graded start names ≡ Err (refusals.Engine edits.NoLight) = ap (λ b. if b then Ok (grade_lines start.engine names) else Err (refusals.Engine edits.NoLight)) missing in
-    subst (λ (s : SessionState). AnswersQuery g.W.Sink.transcript g.W.Sink.failures s (queries.Grades c.args.lights) c.end_answer.result c.args.sink.now c.end_answer.new.sink) c.self.view_is
-    (query_refused g.W.Sink.transcript g.W.Sink.failures start (queries.Grades c.args.lights) (refusals.Engine edits.NoLight) _ _ _ refused c.end_answer.ensures.sends c.end_answer.ensures.step)
+    rw (← c.self.view_is) (query_refused g.W.Sink.transcript g.W.Sink.failures start (queries.Grades c.args.lights) (refusals.Engine edits.NoLight) _ refused)
 
 pub write_grades-requires : goal.write_grades-requires
 write_grades-requires g c =
     subst (λ (lights : List LightArg). AreLights (g.E.Feasible.state c.self.inside.engine) (names_of lights)) c.copy.ensures (c.are_lights.ensures.yes c.if-not-are_lights.false)
-
-pub returns-in_err-write_grades : goal.returns-in_err-write_grades
-returns-in_err-write_grades g c =
-    let e = err_from_is_err_and c.from_residual.result c.from_residual.ensures.1 in
-    let left = c.self.inside in
-    let start : SessionState = record { engine = g.E.Feasible.state left.engine; texts = texts_view left.texts; clues = left.clues; circles = left.circles; is_watched = left.is_watched; begun = left.begun } in
-    let names = names_of c.args.lights in
-    let there = all_there start.engine names (subst (λ (lights : List LightArg). AreLights start.engine (names_of lights)) c.copy.ensures (c.are_lights.ensures.yes c.if-not-are_lights.false)) in
-    let told : graded start names ≡ Ok (grade_lines start.engine names) = ap (λ b. if b then Ok (grade_lines start.engine names) else Err (refusals.Engine edits.NoLight)) there in
-    rw e.1 (subst (λ (s : SessionState). AnswersQuery g.W.Sink.transcript g.W.Sink.failures s (queries.Grades c.args.lights) (Err e.0) c.args.sink.now c.write_grades.new.sink) c.self.view_is
-    (query_stops g.W.Sink.transcript g.W.Sink.failures start (queries.Grades c.args.lights) (grade_lines start.engine names) e.0 _ _ told c.in_err-write_grades.ensures))
 
 pub returns : goal.returns
 returns g c =
@@ -48,5 +34,4 @@ returns g c =
     let names = names_of c.args.lights in
     let there = all_there start.engine names (subst (λ (lights : List LightArg). AreLights start.engine (names_of lights)) c.copy.ensures (c.are_lights.ensures.yes c.if-not-are_lights.false)) in
     let told : graded start names ≡ Ok (grade_lines start.engine names) = ap (λ b. if b then Ok (grade_lines start.engine names) else Err (refusals.Engine edits.NoLight)) there in
-    subst (λ (s : SessionState). AnswersQuery g.W.Sink.transcript g.W.Sink.failures s (queries.Grades c.args.lights) c.end_answer-2.result c.args.sink.now c.end_answer-2.new.sink) c.self.view_is
-    (query_answers g.W.Sink.transcript g.W.Sink.failures start (queries.Grades c.args.lights) (grade_lines start.engine names) _ _ _ _ told c.in_ok-write_grades.ensures c.end_answer-2.ensures.sends c.end_answer-2.ensures.step)
+    rw (c.accepted.ensures, ← c.self.view_is) (query_answers g.W.Sink.transcript g.W.Sink.failures start (queries.Grades c.args.lights) (grade_lines start.engine names) _ _ _ told c.write_grades.ensures)

@@ -14,15 +14,15 @@ returns-clause-answer g c =
     let start : SessionState = record { engine = g.E.Feasible.state left.engine; texts = texts_view left.texts; clues = left.clues; circles = left.circles; is_watched = left.is_watched; begun = left.begun } in
     let grid : c.grid.result.now ≡ start.engine.grid = c.grid.ensures ∙ ap (λ (p : State). p.grid) c.reason_for-found.ensures.unchanged in
     let fits = why_fits start (name_of_light c.args.named) c.grid.result.now c.reason_for-found.result grid c.reason_for-found.ensures.ok c.reason_for-found.ensures.refused in
-    subst (λ (s : SessionState). AnswersQuery g.W.Sink.transcript g.W.Sink.failures s (queries.Why c.args.named) c.end_reason.result c.args.sink.now c.end_reason.new.sink) c.self.view_is (
+    subst (λ (s : SessionState). AnswersQuery g.W.Sink.transcript g.W.Sink.failures s (queries.Why c.args.named) c.write_reason.result c.args.sink.now c.write_reason.new.sink) c.self.view_is (
       asked start fits.0,
       (fits.0, fits.1, refl),
       record {
         reply = _;
         fits = fits.2;
         effect = why_effect start c.grid.result.now c.reason_for-found.result;
-        sends = c.end_reason.ensures.sends start;
-        step = c.end_reason.ensures.step start;
+        sends = c.write_reason.ensures.sends start;
+        ends = c.write_reason.ensures.ends start;
       },
     )
 

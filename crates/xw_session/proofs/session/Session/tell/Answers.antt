@@ -1,15 +1,8 @@
 use Rattle.std.proofs.Common.{refl}
-use Rattle.std.proofs.lemmas.Result.{err_from_is_err_and}
 use Rattle.xw_commands.specs.declared.query.Query.TheVariants as queries
-use Rattle.xw_session.specs.Told.{told_lines}
-use Rattle.xw_session.proofs.Answering.{query_answers, query_stops}
+use Rattle.xw_session.specs.Reports.{told_lines}
+use Rattle.xw_session.proofs.Answering.{query_answers}
 use Rattle.xw_session.proofs.session.Session.tell.Goals as goal
 
-pub returns-in_err-write_told : goal.returns-in_err-write_told
-returns-in_err-write_told g c =
-    let e = err_from_is_err_and c.from_residual.result c.from_residual.ensures.1 in
-    rw e.1 (query_stops g.W.Sink.transcript g.W.Sink.failures c.args.self.now (queries.Tell c.args.report) (told_lines c.args.self.now c.args.report) _ _ _ refl c.in_err-write_told.ensures)
-
 pub returns : goal.returns
-returns g c =
-    query_answers g.W.Sink.transcript g.W.Sink.failures c.args.self.now (queries.Tell c.args.report) (told_lines c.args.self.now c.args.report) _ _ _ _ refl c.in_ok-write_told.ensures c.end_answer.ensures.sends c.end_answer.ensures.step
+returns g c = rw c.accepted.ensures (query_answers g.W.Sink.transcript g.W.Sink.failures c.args.self.now (queries.Tell c.args.report) (told_lines c.args.self.now c.args.report) _ _ _ refl c.write_told.ensures)

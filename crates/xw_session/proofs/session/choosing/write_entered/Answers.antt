@@ -11,7 +11,7 @@ use Rattle.xw_fill.proofs.ChoiceLemmas.{entered_after}
 use Rattle.xw_lines.specs.Sends.{Sends}
 use Rattle.xw_answers.specs.Text.{line_of, pattern_of, light_of}
 use Rattle.xw_session.specs.Choices.{number_or_done, choice_line, choice_lines}
-use Rattle.xw_session.proofs.BaseWords.{named_pattern, entered_pattern}
+use Rattle.xw_answers.proofs.BaseWords.{named_pattern, entered_pattern}
 use Rattle.xw_session.proofs.Choosing.{one_word}
 use Rattle.xw_session.proofs.session.choosing.write_entered.Goals as goal
 

@@ -9,7 +9,7 @@ pub returns-then-is_none : goal.returns-then-is_none
 returns-then-is_none g c =
     let steps = subst (λ (all : List LightArg). YieldsFirst (λ lights. lights) all c.next.result c.next.new.self) c.copy.ensures c.next.ensures.steps in
     let same = none_named (g.E.Feasible.state c.args.engine.now) c.args.lights c.next.new.self c.next.result steps c.if-is_none.ensures in
-    subst (λ (lines : List ℕ). Sends g.W.Sink.transcript g.W.Sink.failures c.args.sink.now c.write_entered.new.sink c.write_entered.result lines) same c.write_entered.ensures
+    subst (λ (lines : List ℕ). Sends g.W.Sink.transcript g.W.Sink.failures c.args.sink.now c.write_each_light.new.sink c.write_each_light.result lines) same c.write_each_light.ensures
 
 pub returns-else-is_none : goal.returns-else-is_none
 returns-else-is_none g c =

@@ -1,5 +1,5 @@
 use Rattle.std.proofs.Common.{◌≡◌, ◌≤◌, drop, length}
-use Rattle.xw_session.specs.Told.{longest}
+use Rattle.xw_session.specs.Reports.{longest}
 use Rattle.xw_session.proofs.session.telling.longest.Given as goal
 
 abbrev pub invariant-loop-index : goal.invariant-loop-index

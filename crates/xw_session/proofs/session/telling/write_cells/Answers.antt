@@ -4,7 +4,7 @@ use Rattle.xw_grid.specs.declared.cell.Cell.{Cell}
 use Rattle.xw_grid.specs.Grid.{Grid, cells, cell_at}
 use Rattle.xw_grid.proofs.GridLemmas.{length-cells}
 use Rattle.xw_lines.specs.Device.{Begins, HasFailed}
-use Rattle.xw_session.specs.Told.{letters_told}
+use Rattle.xw_session.specs.Reports.{letters_told}
 use Rattle.xw_answers.proofs.LightTexts.{cell_in_order}
 use Rattle.xw_lines.proofs.SendsLemmas.{each_sent, each_stops, each_all}
 use Rattle.xw_session.proofs.session.telling.write_cells.Goals as goal

@@ -1,7 +1,7 @@
 use Rattle.std.proofs.Common.{◌≡◌, ◌++◌, take}
 use Rattle.std.specs.Prelude.{flat_map}
 use Rattle.xw_grid.specs.Grid.{cells}
-use Rattle.xw_session.specs.Told.{letters_told}
+use Rattle.xw_session.specs.Reports.{letters_told}
 use Rattle.xw_session.proofs.session.telling.write_cells.Given as goal
 
 abbrev pub invariant-loop-index : goal.invariant-loop-index
