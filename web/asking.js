@@ -135,31 +135,33 @@ const slicesFor = ({ limit = Infinity, progress, signal, stop, every = SPAN, mil
 // Whether another thread has set the flag of a search.
 const isStopped = ({ stop }) => stop !== undefined && Atomics.load(stop, 0) !== 0;
 
-// Runs a slice of a command, and returns what it answers.
+// Runs a slice of a command, and returns what it answers, or the promise of that.
 function slice(xw, slices, options, command) {
   const { seed = 0, lights = [] } = options;
   if (isStopped(options)) slices.end();
-  return slices.run((placements) => ask(xw, command, placements, seed, ...lights));
+  const asked = xw.ask ? xw.ask.bind(xw) : ask.bind(null, xw);
+  return slices.run((placements) => asked(command, placements, seed, ...lights));
 }
 
 // Lets other events come, such as a click on a stop button, and asks whether the search ends. Throws the reason of a signal that is aborted.
-async function isEnded(options, told) {
+async function isEnded(xw, options, told) {
   const { progress, signal } = options;
-  await new Promise((next) => setTimeout(next));
+  // they came while another thread searched, and a page in the background waits long for a timer
+  if (!xw.ask) await new Promise((next) => setTimeout(next));
   signal?.throwIfAborted();
   const isEnd = Boolean(progress && (await progress(told)));
   signal?.throwIfAborted();
   return isEnd || isStopped(options);
 }
 
-// Fills lights, in slices.
+// Fills lights, in slices. The session may be one of another thread, whose `ask` promises its answers.
 export async function autofill(xw, options = {}) {
   expectOptions('autofill', options);
   options.signal?.throwIfAborted();
   const slices = slicesFor(options);
   do {
-    const answer = slice(xw, slices, options, 'autofill');
-    if (answer !== 'limit' || (await isEnded(options, { placements: slices.made, grade: null, bound: 101, rows: null }))) return answer;
+    const answer = await slice(xw, slices, options, 'autofill');
+    if (answer !== 'limit' || (await isEnded(xw, options, { placements: slices.made, grade: null, bound: 101, rows: null }))) return answer;
   } while (!slices.isOver);
   return 'limit';
 }
@@ -207,7 +209,7 @@ async function* climb(xw, told, options) {
       enter(xw, start);
     } else if (told.grade === null) told.answer = answer;
     const isEnd = told.answer === 'nofill' || (told.grade !== null && told.bound <= told.grade + 1);
-    if (isEnd || (await isEnded(options, { placements: slices.made, grade: told.grade, bound: told.bound, rows: told.rows }))) return;
+    if (isEnd || (await isEnded(xw, options, { placements: slices.made, grade: told.grade, bound: told.bound, rows: told.rows }))) return;
   } while (!slices.isOver);
 }
 

@@ -4,7 +4,7 @@
 //   await xw.ask('words', '1 across', 10)  →  { total: 55, words: ['CAB', ..] }
 //   for await (const { grade, rows } of xw.best({ signal }))
 //   xw.close()
-import { expectOptions } from './asking.js';
+import { autofill, expectOptions } from './asking.js';
 import { Fault } from './xw.js';
 
 // A name that bundlers for the web do not follow.
@@ -37,7 +37,7 @@ function errorOf({ name, message, status, answer }) {
   return name === 'Fault' ? new Fault(status, answer, message) : new (ERRORS[name] ?? Error)(message);
 }
 
-// A search of the worker, which has its `progress` and its signal on this side.
+// A search of fills in the worker, which has its `progress` and its signal on this side.
 class Search {
   #post;
   #options;
@@ -133,21 +133,6 @@ export class RemoteXw {
     });
   }
 
-  // Has a command searched in the worker. Returns the number of the search, which is ended by `#leave`.
-  #begin(command, options) {
-    expectOptions(command, options);
-    options.signal?.throwIfAborted();
-    const id = ++this.#last;
-    const search = new Search((message) => this.#worker?.postMessage({ id, ...message }), options);
-    this.#searches.set(id, search);
-    return [id, search];
-  }
-
-  #leave(id) {
-    this.#searches.get(id).end();
-    this.#searches.delete(id);
-  }
-
   ask(command, ...given) {
     return this.#call('ask', command, ...given);
   }
@@ -176,17 +161,16 @@ export class RemoteXw {
     return this.#call('resume', record);
   }
 
-  async autofill(options = {}) {
-    const [id, search] = this.#begin('autofill', options);
-    try {
-      return await search.result(this.#send(id, 'autofill', [search.sent]));
-    } finally {
-      this.#leave(id);
-    }
+  autofill(options = {}) {
+    return autofill(this, options);
   }
 
   async *best(options = {}) {
-    const [id, search] = this.#begin('best', options);
+    expectOptions('best', options);
+    options.signal?.throwIfAborted();
+    const id = ++this.#last;
+    const search = new Search((message) => this.#worker?.postMessage({ id, ...message }), options);
+    this.#searches.set(id, search);
     try {
       await this.#send(id, 'best', [search.sent]);
       for (;;) {
@@ -197,7 +181,8 @@ export class RemoteXw {
     } finally {
       // the best fill stands in the grid once the worker has left the search
       if (!this.closed) await this.#call('leave', id);
-      this.#leave(id);
+      search.end();
+      this.#searches.delete(id);
     }
   }
 

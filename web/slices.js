@@ -29,16 +29,19 @@ export class Slices {
     this.#milliseconds = milliseconds;
   }
 
-  /** Runs a slice, and returns what it found. The time between two slices does not count. */
+  /** Runs a slice, and returns what it found, or promises that if the search does. The time between two slices does not count. */
   run(search) {
     const placements = Math.min(this.#due, this.#limit - this.made);
     const began = performance.now();
+    const end = (found) => {
+      const taken = performance.now() - began;
+      this.made += placements;
+      this.#spent += taken;
+      this.#due = this.#after(placements, taken);
+      return found;
+    };
     const found = search(placements);
-    const taken = performance.now() - began;
-    this.made += placements;
-    this.#spent += taken;
-    this.#due = this.#after(placements, taken);
-    return found;
+    return found instanceof Promise ? found.then(end) : end(found);
   }
 
   // The placements of the slice after one that took so long.

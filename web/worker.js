@@ -2,7 +2,7 @@
 //
 // A message `{ id, call, given }` is answered by `{ id, value }` or `{ id, thrown }`. A search with `progress` sends `{ id, told }` between two slices, and waits
 // for `{ id, isEnd }`. `{ id, isAborted }` ends a search with a signal. Other calls are answered between two slices.
-import { Fault, Xw, ask, autofill, load } from './xw.js';
+import { Fault, Xw, ask, load } from './xw.js';
 
 // A name that bundlers for the web do not follow.
 const NODE_THREADS = 'node:worker_threads';
@@ -46,7 +46,6 @@ const CALLS = {
   text: () => xw.text(),
   record: () => xw.record(),
   resume: (_, record) => xw.resume(record),
-  autofill: (id, search) => autofill(xw, optionsOf(id, search)).finally(() => forget(id)),
   best: (id, search) => void fills.set(id, xw.best(optionsOf(id, search))),
   next: (_, id) => fills.get(id).next(),
   leave: (_, id) => fills.get(id).return().finally(() => forget(id)),

@@ -329,9 +329,9 @@ export interface Search {
 
 /**
  * Fills lights, in slices; other events come between them. The answer is `limit` if the search is ended or its placements are used up. The grid is then as
- * it was.
+ * it was. A session of another thread, such as a `RemoteXw`, is asked for each slice.
  */
-export function autofill(xw: Xw, search?: Search): Promise<Found>;
+export function autofill(xw: Xw | { ask(command: 'autofill', ...given: Arguments['autofill']): Promise<Found> }, search?: Search): Promise<Found>;
 
 /**
  * Looks for the fill whose worst new word has the best grade, and is at least `least`, in slices. However it ends, the best fill so far stands in the grid

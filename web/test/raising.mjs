@@ -53,9 +53,12 @@ class Session {
   }
 
   engine = {
-    call: async (name, { words, lines }) => {
+    call: async (name, { words, lines, given }) => {
       if (name === 'grades') return words.map((word) => this.grades[word] ?? null);
       if (name !== 'autofill') return { refusal: null, lines };
+      this.given.push(given.join(' '));
+      this.sliced();
+      if (this.given.length <= this.barren) return { answer: 'limit' };
       this.#enter(this.first);
       return { answer: 'filled' };
     },
@@ -89,6 +92,13 @@ class Session {
   }
 
   takes() {}
+
+  // what each slice of a search in the session was given, what is done then, and how many of them find nothing
+  given = [];
+  sliced = () => {};
+  barren = 0;
+
+  async restore() {}
 
   inOrder = async (action) => action();
 
@@ -403,6 +413,26 @@ const CASES = {
     same([raiser.isRunning, (await workers.call(2)).at], [true, workers.asked[1].at]);
     workers.asked[2].fail(fault);
     same((await ended).isStopped, false);
+  },
+
+  async 'a fill is searched in slices, until it is found or stopped'() {
+    const { session, filler, shown } = filling({ list: { scored: false } });
+    session.barren = 2;
+    await filler.run(false);
+    // they are quick here, so each has twice as many placements as the one before
+    same([session.row(1), session.given], ['CAT', ['1000 0', '2000 0', '4000 0']]);
+    same(shown.filter(Boolean).map(({ part, placements }) => [Math.round(part * 170000), placements]), [[0, 0], [1000, 1000], [3000, 3000]]);
+    const other = filling();
+    Object.assign(other.session, { barren: Infinity, sliced: () => other.session.given.length === 2 && other.filler.stop() });
+    await other.filler.run(false);
+    same([other.session.row(1), other.session.given.length, said.at(-1)], ['...', 2, 'stopped; the grid is as it was']);
+    // one that is stopped goes on with its seed, and one that has made all its placements takes another one
+    const { session: hard, filler: trying } = other;
+    Object.assign(hard, { given: [], sliced: () => {} });
+    await trying.run(false);
+    const [first, last] = [hard.given[0], hard.given.length];
+    await trying.run(false);
+    same([first, hard.given[last]], ['1000 0', '1000 1']);
   },
 
   async 'the first fill does not wait for its raising, which goes on from it'() {

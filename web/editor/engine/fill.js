@@ -1,5 +1,6 @@
-// Fills: `autofill` in slices, so that one can be stopped. Each slice goes on with what the last one learned. A search that is not done soon goes on in
-// other workers too, each with a seed of its own; the first `filled` or `nofill` ends all. If the words have scores, the fill is raised then.
+// Fills: `autofill` of the package, in slices, so that one can be stopped. A search that is not done soon goes on in other workers too, each with a seed of
+// its own; the first `filled` or `nofill` ends all. If the words have scores, the fill is raised then.
+import { autofill } from '../../xw.js';
 import { gradeFrom, totalOf } from '../model/grades.js';
 import { closeNew } from '../model/kin.js';
 import { letterIn } from '../model/record.js';
@@ -11,9 +12,8 @@ import { statusOf } from './engine.js';
 import { Mender } from './mending.js';
 import { Raiser } from './raising.js';
 
-// The placements of a slice, for the first slices and for later ones, and the slices after which a search gives up.
-const SLICES = [[10, 2000], [Infinity, 5000]];
-const MOST_SLICES = 40;
+// the placements after which a search gives up
+const MOST = 170000;
 // how long a search is alone, in milliseconds
 const ALONE = 300;
 // the seed of one worker lies so far from that of the next
@@ -34,7 +34,8 @@ const NEXT = 'another fill changes the letters in pencil (coloured), and keeps t
 
 const DECIDED = new Set(['filled', 'nofill']);
 
-/** @typedef {{ answer: string, letters?: string[] }} Slice */
+/** @typedef {import('../../xw.js').Arguments['autofill']} Asked */
+/** @typedef {{ answer: import('../../xw.js').Found, letters?: string[] }} Slice */
 /** @typedef {{ names: string[], placements: number, answer: string, letters: string[], isOver: boolean }} Racing */
 /** @typedef {import('../model/board.js').Board} Board */
 /** @typedef {import('../model/board.js').Cell} Cell */
@@ -404,27 +405,33 @@ export class Filler {
     }));
   }
 
-  // Searches slice by slice with one seed until a slice decides, or the race is over; returns the last answer.
+  // Searches in slices with one seed until one decides, or the race is over; returns the last answer.
   /**
    * @param {Racing} race
    * @param {number} seed
-   * @param {(given: (number | string)[]) => Promise<Slice>} search
+   * @param {(given: Asked) => Promise<Slice>} search
    * @param {boolean} isOwn
    */
   async #slices(race, seed, search, isOwn) {
-    for (let slice = 0; slice < MOST_SLICES; slice++) {
-      if (race.isOver || this.#isStopped) return 'limit';
-      const [, most] = SLICES.find(([until]) => slice < until) ?? SLICES[0];
-      if (isOwn) this.#show({ part: slice / MOST_SLICES, placements: race.placements });
-      const { answer, letters = [] } = await search([most, seed, ...race.names]);
-      race.placements += most;
-      if (answer === 'limit') continue;
-      if (!isOwn && DECIDED.has(answer) && !race.isOver) Object.assign(race, { answer, letters, isOver: true });
-      return answer;
-    }
+    const isEnded = () => race.isOver || this.#isStopped;
+    if (isEnded()) return 'limit';
+    const answer = await autofill({
+      ask: async (_, ...given) => {
+        const { answer, letters = [] } = await search(given);
+        race.placements += Number(given[0]);
+        if (!isOwn && DECIDED.has(answer) && !race.isOver) Object.assign(race, { answer, letters, isOver: true });
+        return answer;
+      },
+    }, {
+      limit: MOST, seed, lights: race.names,
+      progress: ({ placements }) => {
+        if (isOwn) this.#show({ part: placements / MOST, placements: race.placements });
+        return isEnded();
+      },
+    });
     // another try takes another way
-    if (isOwn) this.#seed++;
-    return 'limit';
+    if (isOwn && answer === 'limit' && !isEnded()) this.#seed++;
+    return answer;
   }
 
   // Shows the place of a dead end: where it is already; an entry without which there is a fill; or the light that dies first in the search.
@@ -468,7 +475,7 @@ export class Filler {
       if (this.#isStopped) return true;
       const own = light.cells.filter((cell) => !board.through(cell).some((other) => other !== light && entries.includes(other)));
       const cells = own.map((cell) => board.cells[cell].coordinates);
-      if (!cells.length || !(await editor.engine.call('fillsWithout', { cells, most: SLICES[1][1] }))) continue;
+      if (!cells.length || !(await editor.engine.call('fillsWithout', { cells, most: OFFERED }))) continue;
       editor.moveTo(light.cells[0], light.direction);
       refuse(`there is no fill with ${board.spell(light)}, ${titleOf(light)}; without it there is one (Shift Del takes it back)`);
       return true;
