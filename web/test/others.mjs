@@ -16,6 +16,8 @@ const { Board, Dropped, OUTLETS, PATTERNS, Solving, addedComments, changeBeside,
 // the board of the search for grids, which counts in its own way
 const { Board: Blocks, Cost, Frame, wholeLimits } = await pageModules('grids/board', 'grids/cost', 'grids/frame', 'grids/outlets');
 const boardOf = boardsOf(Board);
+// puzzles of examples/puzzles that were made for an outlet
+const SUBMISSIONS = { 'on-the-quiet': 'New York Times, daily' };
 const american = gridFigures(boardOf(...rowsOf(PATTERNS[0])));
 const outlet = (name) => OUTLETS.find((one) => one.name === name);
 const stateOf = (judged, text) => judged.find((one) => one.text.startsWith(text));
@@ -72,6 +74,18 @@ const CASES = {
       cost.of();
       const own = gridFigures(boardOf(...rows));
       same(names.map((name) => own[name]), names.map((name) => cost.figures[name]));
+    }
+  },
+
+  'the finished puzzles for outlets keep their limits'() {
+    for (const [name, wanted] of Object.entries(SUBMISSIONS)) {
+      const { solution, clues } = JSON.parse(readFileSync(new URL(`../../examples/puzzles/${name}.ipuz`, import.meta.url), 'utf8'));
+      const board = boardOf(...solution.map((row) => row.join('')));
+      const judged = judgedBy(outlet(wanted), gridFigures(board), {});
+      same(judged.filter(({ state }) => state === 'missed'), []);
+      // each light has a clue of its own, and no word stands twice
+      const texts = Object.values(clues).flat().map(([, text]) => text);
+      same([texts.length, new Set(texts).size, new Set(board.lights.map((light) => board.spell(light))).size], [board.lights.length, board.lights.length, board.lights.length]);
     }
   },
 

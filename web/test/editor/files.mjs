@@ -374,7 +374,7 @@ export const CASES = {
   async 'the finished puzzles of examples/puzzles'() {
     const folder = new URL('../../../examples/puzzles/', import.meta.url).pathname;
     const names = readdirSync(folder).filter((name) => name.endsWith('.ipuz'));
-    expect(names.length === 4, `the puzzles are ${names}`);
+    expect(names.length === 5, `the puzzles are ${names}`);
     for (const name of names) {
       await openFile(join(folder, name));
       await page.statusIs(/^[a-z-]+.ipuz is open; undo/, 'good');
