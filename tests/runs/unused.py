@@ -89,7 +89,7 @@ xw_fill/proofs/EntryLemmas: list_good_from
 xw_fill/proofs/Frames: AreFrames-last
 xw_fill/proofs/LeastLemmas: worst_none
 xw_fill/proofs/LetterSearch: shaped_start
-xw_fill/proofs/NotedLemmas: noted-kept noted-new
+xw_fill/proofs/EnteredSinceLemmas: noted-kept noted-new
 xw_fill/proofs/ReasonLemmas: good_letter
 xw_fill/proofs/ScanLemmas: differ-length
 xw_fill/proofs/SearchLemmas: alive-words

@@ -25,5 +25,5 @@ pub mod SnapshotLemmas
 pub mod Idle
 pub mod JudgeLemmas
 pub mod Noting
-pub mod ToldLemmas
+pub mod EffectLemmas
 pub mod TryingLemmas

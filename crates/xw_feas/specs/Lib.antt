@@ -25,8 +25,8 @@ pub mod PlacedWord
 pub mod Greatest
 pub mod Layout
 pub mod Pending
-pub mod Position
-pub mod Told
+pub mod EngineState
+pub mod Effect
 pub mod Written
 pub mod Count
 pub mod Placings

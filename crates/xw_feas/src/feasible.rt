@@ -10,14 +10,14 @@ ghost use Rattle.xw_feas.specs.Feasible.{Answers, AreAnswers};
 ghost use Rattle.xw_feas.specs.State.{State, IsAfter, action_of, after, known_placed, known_count};
 ghost use Rattle.xw_feas.specs.Engine.{IsEdited};
 ghost use Rattle.xw_feas.specs.Placings.{placed_after};
-ghost use Rattle.xw_feas.specs.Position.{state_of};
+ghost use Rattle.xw_feas.specs.EngineState.{state_of};
 ghost use Rattle.xw_feas.specs.WellFormed.{IsWellFormed};
 ghost use Rattle.xw_feas.specs.Queries.{count_answer, next_answer, next_found, words_of, AreLetters};
 
 use crate::changed::Changed;
 use crate::edit::{Edit, Found, Refusal};
+use crate::engine_state::EngineState;
 use crate::place::spell_bytes;
-use crate::position::Position;
 use std::alloc::Global;
 use xw_grid::cell::{Cell, LightName};
 use xw_grid::fault::GridFault;
@@ -65,7 +65,7 @@ pub trait Feasible: Drop {
         ensures placed { placed self.new ≡ placed self.old };
 
     /// The grid with its lights, and the dictionary.
-    fn position(&self) -> &Position
+    fn position(&self) -> &EngineState
         ensures { state_of result.now ≡ state self.now };
 
     /// The number of feasible words of a light, by its index.

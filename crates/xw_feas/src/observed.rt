@@ -3,8 +3,8 @@ ghost use Rattle.std.specs.Prelude.{◌≡◌};
 
 use crate::changed::Changed;
 use crate::edit::{Edit, Found, Refusal};
+use crate::engine_state::EngineState;
 use crate::feasible::Feasible;
-use crate::position::Position;
 use crate::progress::{News, Observer, Progress, Task};
 use crate::searchable::Searchable;
 use std::alloc::{AllocError, Global};
@@ -93,7 +93,7 @@ impl<E: Feasible, O: Observer> Feasible for Observed<E, O> {
         self.engine.regrid(grid)
     }
 
-    fn position(&self) -> &Position {
+    fn position(&self) -> &EngineState {
         self.engine.position()
     }
 

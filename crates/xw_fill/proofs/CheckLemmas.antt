@@ -6,7 +6,7 @@ use Rattle.xw_feas.specs.Passes.{Passes}
 use Rattle.xw_fill.specs.Position.{Position}
 use Rattle.xw_fill.specs.Below.{any_below}
 use Rattle.xw_fill.specs.Search.{light_count, is_entered, spell_same, is_repeat}
-use Rattle.xw_fill.specs.Inner.Noted.{is_spelled_again}
+use Rattle.xw_fill.specs.Inner.EnteredSince.{is_spelled_again}
 use Rattle.xw_fill.proofs.BelowLemmas.{any_below-from, any_below-gives}
 use Rattle.xw_fill.proofs.RepeatLemmas.{repeat_again}
 use Rattle.xw_fill.specs.Inner.Progress.{repeats_with, IsRepeatedAt, IsApartAt}

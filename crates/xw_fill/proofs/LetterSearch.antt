@@ -13,7 +13,7 @@ use Rattle.xw_feas.specs.State.{State}
 use Rattle.xw_feas.specs.WellFormed.{IsLaidOut}
 use Rattle.xw_feas.proofs.BoardLemmas.{length-entries, length-open_cells}
 use Rattle.xw_fill.specs.FeasibleLetters.{is_feasible_letter}
-use Rattle.xw_fill.specs.Inner.Noted.{is_spelled_again}
+use Rattle.xw_fill.specs.Inner.EnteredSince.{is_spelled_again}
 use Rattle.xw_fill.specs.Position.{Position, position_of, with_entries, holding, squares_with, DiffersInEntries}
 use Rattle.xw_fill.specs.Search.{light_count, is_entered, spelling, spell_same}
 use Rattle.xw_fill.proofs.Shaped.{IsShaped, shaped}

@@ -7,7 +7,7 @@ pub mod FeasibleLettersLemmas
 pub mod PlacingLemmas
 pub mod SearchLemmas
 pub mod RepeatLemmas
-pub mod NotedLemmas
+pub mod EnteredSinceLemmas
 pub mod LinkLemmas
 pub mod FillLemmas
 pub mod ScanLemmas

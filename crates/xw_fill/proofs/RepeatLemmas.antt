@@ -7,7 +7,7 @@ use Rattle.xw_feas.specs.Board.{light_at, agrees}
 use Rattle.xw_fill.specs.Position.{Position, placed}
 use Rattle.xw_fill.specs.Below.{any_below}
 use Rattle.xw_fill.specs.Search.{light_count, is_entered, spelling, spell_same, is_repeat, first_same, is_dead}
-use Rattle.xw_fill.specs.Inner.Noted.{is_spelled_again, AreEntered, SpellApart}
+use Rattle.xw_fill.specs.Inner.EnteredSince.{is_spelled_again, AreEntered, SpellApart}
 use Rattle.xw_fill.proofs.Shaped.{IsShaped}
 use Rattle.xw_fill.proofs.BelowLemmas.{any_below-from, any_below-gives, any_below-first, first_below-all}
 use Rattle.xw_fill.proofs.PlacingLemmas.{entered-at, spelled-same}

@@ -12,7 +12,7 @@ use Rattle.xw_fill.specs.Words.{spellings_at, words_before, words_left}
 use Rattle.xw_fill.proofs.Shaped.{HasDistinctWords}
 use Rattle.xw_fill.specs.Position.{Position, position_of, placed}
 use Rattle.xw_fill.specs.FeasibleWords.{is_feasible_word, feasible_words}
-use Rattle.xw_fill.specs.Inner.Noted.{noted, AreEntered, StayNoted}
+use Rattle.xw_fill.specs.Inner.EnteredSince.{noted, AreEntered, StayNoted}
 use Rattle.xw_fill.specs.Search.{light_count, is_entered, is_dead, chosen, found_in, due_of, due_in, end_of, end_in, unentered_count}
 use Rattle.xw_fill.specs.Inner.Stack.{first_or, LeadThrough}
 use Rattle.xw_fill.specs.Inner.Tries.{word_of, IsMade}

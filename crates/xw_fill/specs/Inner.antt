@@ -1,5 +1,5 @@
 -- What proofs and inner functions need, and no public contract cites but by `OneSearch.antt`.
-pub mod Noted
+pub mod EnteredSince
 pub mod Linked
 pub mod Tries
 pub mod Trial

@@ -5,10 +5,10 @@
 pub mod allowance;
 pub mod best;
 pub mod choices;
+mod entered_since;
 pub mod laws;
 pub mod listing;
 pub mod named_lights;
-mod noted;
 mod placement;
 mod repeats;
 pub mod scan;

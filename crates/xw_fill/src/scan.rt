@@ -6,7 +6,7 @@ ghost use Rattle.xw_fill.specs.Position.{name_at};
 ghost use Rattle.xw_fill.specs.OfState.{feasible_words, IsNextWord, HasNoMore, is_entered, spelling, spell_same, first_same, lacks_words, light_count, chosen, scanned};
 ghost use Rattle.xw_fill.specs.Inner.OfState.{AreEntered};
 ghost use Rattle.xw_fill.specs.Below.{first_below};
-ghost use Rattle.xw_fill.specs.Inner.Noted.{has_note};
+ghost use Rattle.xw_fill.specs.Inner.EnteredSince.{has_note};
 
 use xw_feas::board::{Board, Cells, has_all_entries};
 use xw_feas::edit::Found;

@@ -6,10 +6,10 @@ ghost use Rattle.xw_fill.specs.Inner.OfState.{AreEntered};
 ghost use Rattle.xw_fill.specs.Inner.Stack.{first_or, LeadThrough};
 ghost use Rattle.xw_fill.specs.Inner.Tries.{CanBeMade, IsMade};
 ghost use Rattle.xw_fill.specs.Inner.Stepping.{HasStepped};
-ghost use Rattle.xw_fill.specs.Inner.Noted.{noted, StayNoted};
+ghost use Rattle.xw_fill.specs.Inner.EnteredSince.{noted, StayNoted};
 ghost use Rattle.xw_fill.specs.Filling.{IsFilling, HasFill, UnlessFilled, unless_repeated};
 
-use crate::noted::{has_new_repeat, note_entered};
+use crate::entered_since::{has_new_repeat, note_entered};
 use crate::repeats::has_repeat;
 use crate::scan::{Scan, light_count, next_word_index, scan_lights};
 use crate::stack::Stack;

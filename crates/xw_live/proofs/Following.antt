@@ -5,16 +5,16 @@ use Rattle.xw_words.specs.Dictionary.{Dictionary, known_words}
 use Rattle.xw_grid.specs.declared.cell.Cell.{Cell}
 use Rattle.xw_grid.specs.declared.lights.Light.{Light}
 use Rattle.xw_grid.specs.EditLaws.{SameShape}
-use Rattle.xw_feas.specs.declared.position.Position.{Position}
-use Rattle.xw_feas.specs.declared.told.Told.{Told}
-use Rattle.xw_feas.specs.declared.told.Told.TheVariants.{Nothing, Cells, List as ToldList, Shape, Word, Least}
+use Rattle.xw_feas.specs.declared.engine_state.EngineState.{EngineState}
+use Rattle.xw_feas.specs.declared.effect.Effect.{Effect}
+use Rattle.xw_feas.specs.declared.effect.Effect.TheVariants.{Nothing, Cells, List as EffectList, Shape, Word, Least}
 use Rattle.xw_feas.specs.Layout.{Layout, layout_of}
-use Rattle.xw_feas.specs.Position.{state_of}
+use Rattle.xw_feas.specs.EngineState.{state_of}
 use Rattle.xw_feas.specs.Shape.{SameCounts}
 use Rattle.xw_feas.specs.State.{State, Action, after}
-use Rattle.xw_feas.specs.Told.{Tells, KeepsAnswers, IsTold, of_cells, told_by}
+use Rattle.xw_feas.specs.Effect.{Tells, KeepsAnswers, IsTold, of_cells, told_by}
 use Rattle.xw_feas.specs.Written.{Fields}
-use Rattle.xw_net.specs.Change.{IsChange}
+use Rattle.xw_net.specs.Delta.{IsChange}
 use Rattle.xw_net.specs.Fit.{lacking, HasRoomBetween}
 use Rattle.xw_net.specs.Net.{sets_of, known_counts, IsSettledOn, IsAlike}
 use Rattle.xw_net.specs.Room.{HasRoom}
@@ -25,24 +25,24 @@ use Rattle.xw_live.specs.Engine.{CanFollow, IsKept, IsNoted}
 use Rattle.xw_live.proofs.Keeping.{kept_from, kept_cells, settled_alike, stood_near, near_same, room_without, room_of_lights}
 
 -- something else than nothing is told
-pub something_told : (before : State) (now : Position) (action : Action) (told : Told) → (told ≡ Nothing → ⊥) → IsTold before now action told → Tells before action (told_by now told)
+pub something_told : (before : State) (now : EngineState) (action : Action) (told : Effect) → (told ≡ Nothing → ⊥) → IsTold before now action told → Tells before action (told_by now told)
 something_told before now action Nothing some is = absurd (some refl)
 something_told before now action Cells some is = is
-something_told before now action (ToldList count) some is = is.1
+something_told before now action (EffectList count) some is = is.1
 something_told before now action (Shape lights) some is = is
 something_told before now action (Word len index) some is = is
 something_told before now action (Least least) some is = is
 
-pub nothing_told : (before : State) (now : Position) (action : Action) (told : Told) → told ≡ Nothing → IsTold before now action told → KeepsAnswers before (state_of now)
+pub nothing_told : (before : State) (now : EngineState) (action : Action) (told : Effect) → told ≡ Nothing → IsTold before now action told → KeepsAnswers before (state_of now)
 nothing_told before now action told none is = subst (IsTold before now action) none is
 
-pub list_noted : (before : State) (now : Position) (action : Action) (told : Told) → IsTold before now action told → IsNoted now.notes told
+pub list_noted : (before : State) (now : EngineState) (action : Action) (told : Effect) → IsTold before now action told → IsNoted now.notes told
 list_noted before now action told is count listed = (subst (IsTold before now action) listed is).0
 
 pub alike_itself : (net : Net) → IsAlike net net
 alike_itself net = record { flags = λ lights. refl; sets = refl; settled = λ layout dictionary is. is; room = λ same lights counts room. room }
 
-module _ (was now : Position) (action : Action) (net : Net) (kept : IsKept (state_of was) net) (made : after (state_of was) action ≡ Ok (state_of now)) where
+module _ (was now : EngineState) (action : Action) (net : Net) (kept : IsKept (state_of was) net) (made : after (state_of was) action ≡ Ok (state_of now)) where
   -- a change that is told describes the edit
   pub change_told : (told change : Fields) → change ≡ told → Tells (state_of was) action told → IsChange (state_of was) (state_of now) action change
   change_told told change same tells = subst (λ (fields : Fields). IsChange (state_of was) (state_of now) action fields) (sym same)

@@ -7,10 +7,10 @@ use Rattle.xw_feas.specs.Feasible.{Answers, AreAnswers}
 use Rattle.xw_feas.specs.Single.{AreAnswers-prop}
 use Rattle.xw_feas.specs.State.{State}
 use Rattle.xw_feas.specs.Written.{Fields}
-use Rattle.xw_feas.specs.declared.noted.Notes.{Notes}
-use Rattle.xw_feas.specs.declared.position.Position.{Position}
-use Rattle.xw_feas.specs.declared.told.Told.{Told}
-use Rattle.xw_feas.specs.declared.told.Told.TheVariants.{List}
+use Rattle.xw_feas.specs.declared.notes.Notes.{Notes}
+use Rattle.xw_feas.specs.declared.engine_state.EngineState.{EngineState}
+use Rattle.xw_feas.specs.declared.effect.Effect.{Effect}
+use Rattle.xw_feas.specs.declared.effect.Effect.TheVariants.{List}
 use Rattle.xw_net.specs.declared.net.Net.{Net}
 use Rattle.xw_net.specs.Fit.{HasRoomBetween}
 use Rattle.xw_net.specs.Net.{flags_of, sets_of, known_counts, IsSettledFor, StoodFor}
@@ -38,12 +38,12 @@ IsKept-prop state net x y = λ i. record {
 }
 
 -- the conditions of `Net::settle` that do not concern the words
-pub record CanFollow (now : Position) (fields : Fields) (net : Net) : Type 0 where
+pub record CanFollow (now : EngineState) (fields : Fields) (net : Net) : Type 0 where
   pub inside : AreInside now.grid fields.cells
   pub cells : length (sets_of net) ≡ length now.grid.squares
   pub stood : StoodFor fields.before fields.word (known_counts now.bank.words) net
   pub room : HasRoomBetween fields.before now.lights (known_counts now.bank.words) net net.spare
 
 -- the notes have as many cells of a list as are told
-abbrev pub IsNoted : Notes → Told → Type 0
+abbrev pub IsNoted : Notes → Effect → Type 0
 IsNoted notes told = (count : ℕ) → told ≡ List count → count ≤ length notes.noted.items

@@ -6,7 +6,7 @@ use Rattle.xw_feas.specs.Engine.{IsEdited}
 use Rattle.xw_feas.specs.Feasible.{Answers}
 use Rattle.xw_feas.specs.Placings.{placed_after}
 use Rattle.xw_feas.specs.State.{State, Action, after}
-use Rattle.xw_feas.specs.Told.{is_symmetry}
+use Rattle.xw_feas.specs.Effect.{is_symmetry}
 use Rattle.xw_feas.specs.declared.edit.Refusal.{Refusal}
 use Rattle.xw_feas.specs.declared.changed.Changed.{Changed}
 use Rattle.xw_live.specs.declared.live.Live.{Live}

@@ -4,7 +4,7 @@ ghost use Rattle.xw_words.specs.Dictionary.{known_words};
 ghost use Rattle.xw_grid.specs.Grid.{Grid as SpecGrid};
 ghost use Rattle.xw_feas.specs.Board.{board_of};
 ghost use Rattle.xw_feas.specs.Feasible.{IsFeasibleWord};
-ghost use Rattle.xw_feas.specs.Position.{state_of as position_state_of};
+ghost use Rattle.xw_feas.specs.EngineState.{state_of as position_state_of};
 ghost use Rattle.xw_live.specs.Levels.{HasSizeOf, IsLastIn, IsLedTo, IsLeft};
 ghost use Rattle.xw_live.specs.declared.levels.Placement.{Placement};
 ghost use Rattle.xw_net.specs.Entered.{IsTriedOn};
@@ -23,7 +23,7 @@ use std::alloc::AllocError;
 use std::snapshot::Snapshot;
 use xw_feas::board::Board;
 use xw_feas::edit::EntryEdit;
-use xw_feas::position::Position;
+use xw_feas::engine_state::EngineState;
 use xw_feas::searchable::Searchable;
 use xw_grid::cell::Cell;
 use xw_grid::grid::Grid;
@@ -49,7 +49,7 @@ pub struct Saved {
 /// Updates the net after the last placement was entered in the grid. If this leaves a watched light without a feasible word,
 /// returns such a light. Unless it returns `Ok(None)`, it takes the placement back.
 fn try_level(
-    position: &mut Position,
+    position: &mut EngineState,
     net: &mut Net,
     levels: &mut Levels,
     watched: &[bool],

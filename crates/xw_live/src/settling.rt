@@ -2,28 +2,28 @@
 ghost use Rattle.std.specs.Prelude.{◌≡◌, ◌≢◌, ◌<◌, ◌≤◌, length, true, false, is_some, slice_index_or, IfSome, IfNone, IfOk, IfErr, OnOk, OnErr, Ok};
 ghost use Rattle.xw_feas.specs.Board.{board_of};
 ghost use Rattle.xw_feas.specs.Pending.{pending_action, IsPending};
-ghost use Rattle.xw_feas.specs.Position.{state_of};
+ghost use Rattle.xw_feas.specs.EngineState.{state_of};
 ghost use Rattle.xw_feas.specs.State.{State, Action, after, IsRefused};
-ghost use Rattle.xw_feas.specs.Told.{told_by, IsTold};
-ghost use Rattle.xw_net.specs.Change.{fields_of, IsChange};
+ghost use Rattle.xw_feas.specs.Effect.{told_by, IsTold};
+ghost use Rattle.xw_net.specs.Delta.{fields_of, IsChange};
 ghost use Rattle.xw_net.specs.Cost.{RoseWithinCost};
 ghost use Rattle.xw_live.specs.Engine.{CanFollow, IsKept, IsNoted};
 ghost use Rattle.xw_net.specs.Net.{IsSettledFor, IsAlike, sets_of};
 
 use std::alloc::Global;
 use xw_feas::edit::Refusal;
+use xw_feas::effect::Effect;
+use xw_feas::engine_state::EngineState;
 use xw_feas::pending::Pending;
-use xw_feas::position::Position;
-use xw_feas::told::Told;
 use xw_letters::letter_set::LetterSet;
-use xw_net::change::Change;
+use xw_net::delta::Delta;
 use xw_net::net::Net;
 use xw_words::counted::Counted;
 use xw_words::rows::Rows;
 
 /// Updates a net to the answers for a grid and a dictionary after a change. Returns the ticks so
 /// far.
-pub fn settle(net: &mut Net, spent: u64, change: &Change<'_>, position: &Position) -> u64
+pub fn settle(net: &mut Net, spent: u64, change: &Delta<'_>, position: &EngineState) -> u64
     requires { CanFollow position.now (fields_of position.now.lights change.now) net.old }
     ensures risen { spent ≤ result }
     ensures kept { (before : State) (action : Action) →
@@ -50,25 +50,25 @@ pub fn keep_letters(before: &mut Vec<LetterSet>, net: &Net)
 }
 
 /// The change that a net is told of; none if no answer changed.
-pub fn change_of<'a>(position: &'a Position, told: &'a Told) -> Option<Change<'a>>
+pub fn change_of<'a>(position: &'a EngineState, told: &'a Effect) -> Option<Delta<'a>>
     requires { IsNoted position.now.notes told.now }
     ensures some { IfSome result (λ change. fields_of position.now.lights change ≡ told_by position.now told.now) }
-    ensures none { IfNone result (told.now ≡ Told.Nothing) }
-    ensures something { IfSome result (λ _. told.now ≢ Told.Nothing) }
+    ensures none { IfNone result (told.now ≡ Effect.Nothing) }
+    ensures something { IfSome result (λ _. told.now ≢ Effect.Nothing) }
 {
     Some(match told {
-        Told::Nothing => return None,
-        Told::Cells => Change::Letters(position.notes.written.as_slice()),
-        Told::List(count) => Change::Letters(&position.notes.noted[..*count]),
-        Told::Shape(before) => Change::Shape {
+        Effect::Nothing => return None,
+        Effect::Cells => Delta::Letters(position.notes.written.as_slice()),
+        Effect::List(count) => Delta::Letters(&position.notes.noted[..*count]),
+        Effect::Shape(before) => Delta::Shape {
             before,
             cells: position.notes.written.as_slice(),
         },
-        Told::Word(len, index) => Change::Word {
+        Effect::Word(len, index) => Delta::Word {
             len: *len,
             index: *index,
         },
-        Told::Least(least) => Change::Words {
+        Effect::Least(least) => Delta::Words {
             turned: &position.notes.turned,
             back: position.bank.least() < *least,
         },
@@ -79,21 +79,21 @@ pub fn change_of<'a>(position: &'a Position, told: &'a Told) -> Option<Change<'a
 /// Returns `Memory` if an allocation fails, and then changes nothing.
 pub fn apply(
     net: &mut Net,
-    position: &mut Position,
+    position: &mut EngineState,
     alloc: Global,
     edit: &Pending<'_>,
-) -> Result<Told, Refusal>
+) -> Result<Effect, Refusal>
     requires kept { IsKept (state_of position.old) net.old }
     requires pending { IsPending (state_of position.old) edit.now }
     ensures made { OnOk result (after (state_of position.old) (pending_action edit.now) ≡ Ok (state_of position.new)) }
     ensures told { IfOk result (λ told. IsTold (state_of position.old) position.new (pending_action edit.now) told) }
     ensures cells { OnOk result (length position.new.grid.squares ≡ length position.old.grid.squares) }
-    ensures follow { IfOk result (λ told. told ≢ Told.Nothing → CanFollow position.new (told_by position.new told) net.new) }
+    ensures follow { IfOk result (λ told. told ≢ Effect.Nothing → CanFollow position.new (told_by position.new told) net.new) }
     ensures refused { IfErr result (λ refusal. IsRefused (state_of position.old) (pending_action edit.now) refusal) }
     ensures same { OnErr result (state_of position.new ≡ state_of position.old) }
     ensures alike { IsAlike net.old net.new }
     ensures spare { OnErr result (net.new.spare ≡ net.old.spare) }
-    ensures waits { IfOk result (λ told. told ≡ Told.Nothing → is_some net.new.spare ≡ false) }
+    ensures waits { IfOk result (λ told. told ≡ Effect.Nothing → is_some net.new.spare ≡ false) }
 {
     match edit {
         Pending::InPlace(edit) => Ok(position.commit(edit)),

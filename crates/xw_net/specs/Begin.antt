@@ -6,8 +6,8 @@ use Rattle.xw_words.specs.Dictionary.{Entry, Dictionary}
 use Rattle.xw_feas.specs.Flags.{set_has}
 use Rattle.xw_feas.specs.Board.{Board, entry, light_at, is_wholly_entered}
 use Rattle.xw_feas.specs.Feasible.{may_stand}
-use Rattle.xw_net.specs.declared.change.Change.{Change}
-use Rattle.xw_net.specs.declared.change.Change.TheVariants.{Letters, Shape, Word, Words}
+use Rattle.xw_net.specs.declared.delta.Delta.{Delta}
+use Rattle.xw_net.specs.declared.delta.Delta.TheVariants.{Letters, Shape, Word, Words}
 use Rattle.xw_net.specs.Base.{base_bits, IsBaseBut, WasBase}
 use Rattle.xw_feas.specs.Known.{spellings, actives}
 use Rattle.xw_feas.specs.Choices.{is_base_at}
@@ -31,7 +31,7 @@ only_filled grid board (listed ∷ []) = if is_fill board (index_of grid listed.
 only_filled grid board (listed ∷ other ∷ rest) = None
 
 -- the index of the cell that an edit of letters filled, if it wrote no other cell
-abbrev pub filled_of : Grid → Board → Change → Option ℕ
+abbrev pub filled_of : Grid → Board → Delta → Option ℕ
 filled_of grid board (Letters cells) = only_filled grid board cells.now
 filled_of grid board (Shape before cells) = None
 filled_of grid board (Word len index) = None

@@ -7,7 +7,7 @@ use Rattle.xw_feas.specs.Flags.{set_has, set_sum}
 use Rattle.xw_net.specs.Marks.{Marks, IsPositionIn, cell_at, slot_at}
 use Rattle.xw_net.specs.Room.{row_at}
 use Rattle.xw_net.specs.Worklist.{is_waiting}
-use Rattle.xw_net.specs.declared.position.Position.{Position}
+use Rattle.xw_net.specs.declared.light_position.LightPosition.{LightPosition}
 use Rattle.xw_net.specs.declared.net.Net.{Net}
 
 -- the bits of a row; none if there is no row
@@ -76,8 +76,8 @@ pub record IsLeft (old new : Net) : Type 0 where
 abbrev pub HasBits : Board → (ℕ → List Entry) → Net → Type 0
 HasBits board entries net = (light : ℕ) → light < length board.lights → length (bits_for net light) ≡ length (entries (length (light_at board light)))
 
--- the fields of a `Position` describe a position of a light of the board
-pub record IsThere (board : Board) (here : Position) : Type 0 where
+-- the fields of a `LightPosition` describe a position of a light of the board
+pub record IsThere (board : Board) (here : LightPosition) : Type 0 where
   pub position : IsPositionIn board here.light here.position
   pub len : here.len ≡ length (light_at board here.light)
   pub cell : here.cell ≡ cell_at board here.light here.position

@@ -10,7 +10,7 @@ use Rattle.xw_net.specs.Nets.{marks_of, word_stands, letter_stands, pending_in, 
 use Rattle.xw_net.specs.Filled.{IsUnstripped, IsFilled}
 use Rattle.xw_net.specs.Spread.{OtherRowsStay}
 use Rattle.xw_net.specs.declared.net.Net.{Net}
-use Rattle.xw_net.specs.declared.position.Position.{Position}
+use Rattle.xw_net.specs.declared.light_position.LightPosition.{LightPosition}
 
 -- the light was queued
 abbrev pub IsQueuedToo : ℕ → Net → Net → Type 0
@@ -91,7 +91,7 @@ module _ (board : Board) where
       pub rest : IsLeft old new
 
     -- the letter has a support if it is in the net
-    abbrev pub IsLetterHeld : Net → Position → ℕ → Type 0
+    abbrev pub IsLetterHeld : Net → LightPosition → ℕ → Type 0
     IsLetterHeld net here letter =
         (dictionary : Dictionary) → IsSetting board entries dictionary → letter_stands net here.cell letter ≡ true → IsHeld board dictionary (marks_of net) here.light here.position letter
 

@@ -3,7 +3,7 @@ ghost use Rattle.std.specs.Prelude.{◌≡◌, ℕ, ◌<◌, ◌≤◌, length};
 ghost use Rattle.xw_net.specs.Room.{counts_of, row_at, HaveRoom, KeepRoom};
 ghost use Rattle.xw_net.specs.Fit.{fitted, AreFitted};
 
-use crate::change::Change;
+use crate::delta::Delta;
 use crate::net::Net;
 use crate::room::size_at;
 use xw_bits::bit_row::BitRow;
@@ -38,7 +38,7 @@ pub(crate) fn fit_rows<R: Rows>(words: &R, lights: &Lights, rows: &mut [BitRow])
 
 impl Net {
     ghost use Rattle.std.specs.Prelude.{◌≡◌, None, vec_len};
-    ghost use Rattle.xw_net.specs.Change.{before_of, word_of};
+    ghost use Rattle.xw_net.specs.Delta.{before_of, word_of};
     ghost use Rattle.xw_net.specs.Update.{MovesTo};
     ghost use Rattle.xw_net.specs.Room.{counts_of, IsWhole, HasRoom};
     ghost use Rattle.xw_net.specs.Fit.{IsAtRest, CanFollow, Follows};
@@ -54,19 +54,19 @@ impl Net {
     }
     /// Follows the lights after an edit. Only a change of shape can have changed them; any other one
     /// drops spare arrays.
-    fn follow<R: Rows>(&mut self, words: &R, change: &Change<'_>, lights: &Lights)
+    fn follow<R: Rows>(&mut self, words: &R, change: &Delta<'_>, lights: &Lights)
         requires { CanFollow (before_of lights.now change.now) lights.now (counts_of (R.entries words.now)) (word_of change.now) self.old }
         ensures { Follows (before_of lights.now change.now) lights.now (counts_of (R.entries words.now)) (word_of change.now) self.old self.new }
     {
         match *change {
-            Change::Letters(_) => self.spare = None,
-            Change::Shape { before, .. } => self.turn_to(words, before, lights),
-            Change::Word { .. } => self.spare = None,
-            Change::Words { .. } => self.spare = None,
+            Delta::Letters(_) => self.spare = None,
+            Delta::Shape { before, .. } => self.turn_to(words, before, lights),
+            Delta::Word { .. } => self.spare = None,
+            Delta::Words { .. } => self.spare = None,
         }
     }
     /// Adapts the net to the lights and the known words after an edit. Only an added word needs a bit in the rows.
-    pub(crate) fn move_to<R: Rows>(&mut self, words: &R, change: &Change<'_>, lights: &Lights)
+    pub(crate) fn move_to<R: Rows>(&mut self, words: &R, change: &Delta<'_>, lights: &Lights)
         requires { CanFollow (before_of lights.now change.now) lights.now (counts_of (R.entries words.now)) (word_of change.now) self.old }
         ensures rest { IsAtRest lights.now (vec_len self.old.letters) self.new }
         ensures whole { IsWhole lights.now (counts_of (R.entries words.now)) self.new }

@@ -4,12 +4,12 @@ ghost use Rattle.xw_grid.specs.declared.lights.Light.{Light};
 ghost use Rattle.xw_feas.specs.Board.{Board as SpecBoard, light_at};
 ghost use Rattle.xw_feas.specs.Flags.{set_has};
 ghost use Rattle.xw_net.specs.Marks.{slot_at, AreSlotsApart, AreBySlot, AreHeld, HasFewCells};
-ghost use Rattle.xw_net.specs.Change.{before_of, fields_of};
+ghost use Rattle.xw_net.specs.Delta.{before_of, fields_of};
 ghost use Rattle.xw_net.specs.Renumber.{same_before};
 ghost use Rattle.xw_net.specs.Inner.Forget.{cut, lose, lost_from as spec_lost_from, lost_at, nowhere, ChangesHeld, KeepsHeld, KeepsFewer, ForgetNone, Forgets};
 
-use crate::change::Change;
-use crate::position::position_of;
+use crate::delta::Delta;
+use crate::light_position::position_of;
 use crate::room::NO_WORD;
 use xw_feas::board::Board;
 use xw_grid::lights::Lights;
@@ -86,27 +86,27 @@ fn is_last<R: Rows>(rows: &R, len: usize, index: usize) -> bool
 
 /// Whether no light has to forget a support: no light is new, and no index of a word may have got
 /// another meaning.
-fn forgets_none<R: Rows>(rows: &R, change: &Change<'_>) -> bool
+fn forgets_none<R: Rows>(rows: &R, change: &Delta<'_>) -> bool
     ensures { (board : SpecBoard) (lights : List Light) → result ≡ true → ForgetNone (fields_of lights change.now) board lights (R.entries rows.now) }
 {
     match *change {
-        Change::Letters(_) => true,
-        Change::Shape { .. } => false,
-        Change::Word { len, index } => !is_last(rows, len, index),
-        Change::Words { .. } => true,
+        Delta::Letters(_) => true,
+        Delta::Shape { .. } => false,
+        Delta::Word { len, index } => !is_last(rows, len, index),
+        Delta::Words { .. } => true,
     }
 }
 
 /// Whether a light has the same cells as one before the edit.
-fn has_stayed(lights: &Lights, change: &Change<'_>, light: usize) -> bool
+fn has_stayed(lights: &Lights, change: &Delta<'_>, light: usize) -> bool
     requires { light < length lights.now }
     ensures { result ≡ is_some (same_before (before_of lights.now change.now) lights.now light) }
 {
     match *change {
-        Change::Letters(_) => true,
-        Change::Shape { before, .. } => lights.same(light, before).is_some(),
-        Change::Word { .. } => true,
-        Change::Words { .. } => true,
+        Delta::Letters(_) => true,
+        Delta::Shape { before, .. } => lights.same(light, before).is_some(),
+        Delta::Word { .. } => true,
+        Delta::Words { .. } => true,
     }
 }
 
@@ -115,7 +115,7 @@ fn lost_of<R: Rows>(
     rows: &R,
     board: &Board<'_>,
     lights: &Lights,
-    change: &Change<'_>,
+    change: &Delta<'_>,
     light: usize,
 ) -> usize
     requires light { light < length board.now.lights }
@@ -137,7 +137,7 @@ pub(crate) fn forget_lights<R: Rows>(
     rows: &R,
     board: &Board<'_>,
     lights: &Lights,
-    change: &Change<'_>,
+    change: &Delta<'_>,
     held: &mut [u32],
     pending: &mut [LetterSet],
 )

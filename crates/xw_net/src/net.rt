@@ -1,5 +1,5 @@
 //! The net, and its stripping: removing words and letters without support.
-use crate::position::{Position, position_of, side};
+use crate::light_position::{LightPosition, position_of, side};
 use crate::room::{NOWHERE, Spare};
 use crate::support::{find_support, next_lost, strike_row};
 use crate::worklist::Worklist;
@@ -146,7 +146,7 @@ impl Net {
     }
 
     /// Removes a letter from a cell, and makes it pending for the crossing light.
-    pub(crate) fn drop_letter(&mut self, board: &Board<'_>, here: Position, letter: Letter)
+    pub(crate) fn drop_letter(&mut self, board: &Board<'_>, here: LightPosition, letter: Letter)
         requires shaped { IsShaped board.now self.old }
         requires there { IsThere board.now here }
         requires stood { letter_stands self.old here.cell letter ≡ true }
@@ -194,7 +194,7 @@ impl Net {
     pub(crate) fn drop_letters(
         &mut self,
         board: &Board<'_>,
-        here: Position,
+        here: LightPosition,
         gone: LetterSet,
         is_urgent: bool,
     )
@@ -223,7 +223,7 @@ impl Net {
         &mut self,
         rows: &mut R,
         board: &Board<'_>,
-        here: Position,
+        here: LightPosition,
         letter: Letter,
     )
         requires letter { IsLetter letter }

@@ -7,8 +7,8 @@ ghost use Rattle.xw_words.specs.Dictionary.{known_words};
 ghost use Rattle.xw_feas.specs.Flags.{set_has};
 ghost use Rattle.xw_net.specs.Inner.Passed.{AreLettersOf};
 
+use crate::light_position::position_of;
 use crate::net::Net;
-use crate::position::position_of;
 use xw_bits::bit_row::BitRow;
 use xw_feas::board::Board;
 use xw_letters::letter::Letter;

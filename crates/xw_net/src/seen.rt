@@ -4,7 +4,7 @@ ghost use Rattle.std.specs.Prelude.{◌≡◌, ◌⊎◌, ℕ, ◌+◌, ◌-◌,
 ghost use Rattle.xw_net.specs.Seen.{AreFound, HasWord, IsSeenAt};
 ghost use Rattle.xw_net.specs.Support.{supports};
 
-use crate::position::Position;
+use crate::light_position::LightPosition;
 use crate::support::{first_support, next_lost};
 use xw_bits::bit_row::BitRow;
 use xw_letters::letter::Letter;
@@ -15,7 +15,7 @@ use xw_words::rows::Rows;
 fn look_for<R: Rows>(
     rows: &mut R,
     row: &BitRow,
-    here: Position,
+    here: LightPosition,
     number: u32,
     seen: &mut [u32],
 ) -> bool
@@ -45,7 +45,7 @@ fn look_for<R: Rows>(
 pub(crate) fn found_letters<R: Rows>(
     rows: &mut R,
     row: &BitRow,
-    here: Position,
+    here: LightPosition,
     alive: LetterSet,
     seen: &mut [u32],
 ) -> LetterSet

@@ -1,6 +1,6 @@
 //! Updates a net after an edit.
 use crate::begin::prepare;
-use crate::change::Change;
+use crate::delta::Delta;
 use crate::forget::forget_lights;
 use crate::net::Net;
 use crate::touch::{filled_in, touch};
@@ -15,7 +15,7 @@ impl Net {
     ghost use Rattle.xw_feas.specs.Board.{board_of};
     ghost use Rattle.xw_net.specs.Brought.{CostsAtMost};
     ghost use Rattle.xw_net.specs.Begin.{is_read, filled_of};
-    ghost use Rattle.xw_net.specs.Change.{before_of, cells_of, word_of, fields_of};
+    ghost use Rattle.xw_net.specs.Delta.{before_of, cells_of, word_of, fields_of};
     ghost use Rattle.xw_net.specs.Filled.{AreLong};
     ghost use Rattle.xw_net.specs.Fit.{HasRoomBetween};
     ghost use Rattle.xw_net.specs.Net.{StoodFor};
@@ -33,7 +33,7 @@ impl Net {
         grid: &Grid,
         board: &Board<'_>,
         lights: &Lights,
-        change: &Change<'_>,
+        change: &Delta<'_>,
     )
         requires cells { length grid.now.squares ≡ length board.now.open_cells }
         requires inside { AreInside grid.now (cells_of change.now) }
@@ -77,7 +77,7 @@ impl Net {
         grid: &Grid,
         board: &Board<'_>,
         lights: &Lights,
-        change: &Change<'_>,
+        change: &Delta<'_>,
     )
         requires { CanBegin grid.now board.now lights.now (R.entries rows.old) (fields_of lights.now change.now) self.old }
         ensures entries { R.entries rows.new ≡ R.entries rows.old }
@@ -103,7 +103,7 @@ impl Net {
         grid: &Grid,
         board: &Board<'_>,
         lights: &Lights,
-        change: &Change<'_>,
+        change: &Delta<'_>,
     )
         requires { CanBegin grid.now board.now lights.now (R.entries rows.old) (fields_of lights.now change.now) self.old }
         ensures entries { R.entries rows.new ≡ R.entries rows.old }
@@ -126,7 +126,7 @@ impl Net {
     pub fn revive<R: Rows>(
         &mut self,
         rows: &mut R,
-        change: &Change<'_>,
+        change: &Delta<'_>,
         grid: &Grid,
         lights: &Lights,
     )
@@ -155,7 +155,7 @@ impl Net {
     pub fn strip<R: Rows>(
         &mut self,
         rows: &mut R,
-        _change: &Change<'_>,
+        _change: &Delta<'_>,
         grid: &Grid,
         lights: &Lights,
     )
@@ -177,7 +177,7 @@ impl Net {
     pub fn settle<R: Rows>(
         &mut self,
         rows: &mut R,
-        change: &Change<'_>,
+        change: &Delta<'_>,
         grid: &Grid,
         lights: &Lights,
     )

@@ -9,8 +9,8 @@ ghost use Rattle.xw_net.specs.Room.{KeepRoom};
 ghost use Rattle.xw_net.specs.Spread.{RestartsLight, OtherSlotsStay, positions_from, either_position, is_barren as spec_is_barren, barren_positions, bits_in, AreAsLong, HasAll, IsThrough, IsSpread, SpreadsOn, ReachesFrom, Reaches, Brings, lit, IsLit, IsListed, none_waits, OtherRowsStay, IsAsLong};
 ghost use Rattle.xw_net.specs.Worklist.{is_marked, HasSeeds, Grows, MarksAll, MarksOnly, HasLights};
 
+use crate::light_position::position_of;
 use crate::net::Net;
-use crate::position::position_of;
 use crate::sparse::copy_row;
 use crate::worklist::Worklist;
 use xw_bits::bit_row::BitRow;

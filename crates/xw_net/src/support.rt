@@ -6,7 +6,7 @@ ghost use Rattle.xw_net.specs.Inner.Lost.{IsInRow, IsLost, AreInRow};
 ghost use Rattle.xw_net.specs.Region.{chunks_of};
 ghost use Rattle.xw_net.specs.Support.{holds, supports, letter_count, Finds, StrikesRow, NoneSupports};
 
-use crate::position::Position;
+use crate::light_position::LightPosition;
 use crate::room::NO_WORD;
 use xw_bits::bit_row::BitRow;
 use xw_letters::letter::Letter;
@@ -141,7 +141,7 @@ fn search_start(row: &BitRow, held: usize, is_new: bool) -> usize
 pub(crate) fn find_support<R: Rows>(
     rows: &mut R,
     row: &BitRow,
-    here: Position,
+    here: LightPosition,
     letter: Letter,
     held: &mut [u32],
     restart: &mut [LetterSet],

@@ -3,8 +3,8 @@ ghost use Rattle.std.specs.Prelude.{◌≡◌, ◌-◌, ◌*◌, ◌^◌, ℕ, �
 
 use crate::begin::index_in;
 use crate::level::{Level, Pool, give_back, keep_row};
+use crate::light_position::position_of;
 use crate::net::Net;
-use crate::position::position_of;
 use crate::room::{NO_WORD, NOWHERE, make_held};
 use crate::seen::found_letters;
 use std::alloc::{AllocError, Global};

@@ -9,7 +9,7 @@ ghost use Rattle.xw_feas.specs.Choices.{IsExact};
 ghost use Rattle.xw_feas.specs.Feasible.{AreAnswers};
 ghost use Rattle.xw_feas.specs.Flags.{flag_at, set_has};
 ghost use Rattle.xw_feas.specs.Pending.{pending_action, IsPending};
-ghost use Rattle.xw_feas.specs.Position.{state_of as position_state_of};
+ghost use Rattle.xw_feas.specs.EngineState.{state_of as position_state_of};
 ghost use Rattle.xw_feas.specs.Single.{IsExact-prop};
 ghost use Rattle.xw_feas.specs.Standing.{HasRows};
 ghost use Rattle.xw_feas.specs.State.{action_of, after, IsRefused};
@@ -23,10 +23,10 @@ use xw_feas::board::{Board, has_all_entries};
 use xw_feas::changed::{Changed, make_grid_sets};
 use xw_feas::count::Count;
 use xw_feas::edit::{Edit, Found, Refusal};
+use xw_feas::engine_state::EngineState;
 use xw_feas::feasible::Feasible;
-use xw_feas::noted::make_noted;
+use xw_feas::notes::make_noted;
 use xw_feas::pending::Pending;
-use xw_feas::position::Position;
 use xw_grid::fault::GridFault;
 use xw_grid::grid::Grid;
 use xw_grid::lights::Lights;
@@ -35,7 +35,7 @@ use xw_words::bank::Bank;
 
 /// Computes the feasible words and letters of a position, whatever the arrays held before.
 pub(crate) fn settle_position(
-    position: &Position,
+    position: &EngineState,
     words: &mut Vec<Flags>,
     letters: &mut Vec<LetterSet>,
 )
@@ -54,7 +54,7 @@ pub(crate) fn settle_position(
 
 /// Copies the letters to `before`, and then computes the feasible words and letters.
 fn settle_anew(
-    position: &Position,
+    position: &EngineState,
     words: &mut Vec<Flags>,
     letters: &mut Vec<LetterSet>,
     before: &mut Vec<LetterSet>,
@@ -75,7 +75,7 @@ fn settle_anew(
 /// allocation changes nothing. The letters tell the prover the number of cells.
 fn make(
     alloc: Global,
-    position: &mut Position,
+    position: &mut EngineState,
     words: &mut Vec<Flags>,
     letters: &Vec<LetterSet>,
     edit: &Pending<'_>,
@@ -116,7 +116,7 @@ fn make(
 #[derive(Drop)]
 pub struct Plain {
     pub(crate) alloc: Global,
-    pub(crate) position: Position,
+    pub(crate) position: EngineState,
     pub(crate) words: Vec<Flags>,
     pub(crate) letters: Vec<LetterSet>,
     before: Vec<LetterSet>,
@@ -139,7 +139,7 @@ impl Plain {
     {
         let letters = make_grid_sets(alloc, &grid)?;
         let before = make_grid_sets(alloc, &grid)?;
-        let position = Position::new(alloc, grid, bank)?;
+        let position = EngineState::new(alloc, grid, bank)?;
         let words = make_grid_rows(alloc, &position.grid, &position.lights, &position.bank)?;
         Ok(Plain::settled(alloc, position, words, letters, before))
     }
@@ -148,7 +148,7 @@ impl Plain {
     /// matter.
     fn settled(
         alloc: Global,
-        position: Position,
+        position: EngineState,
         mut words: Vec<Flags>,
         mut letters: Vec<LetterSet>,
         before: Vec<LetterSet>,
@@ -255,7 +255,7 @@ impl Feasible for Plain {
         Ok(())
     }
 
-    fn position(&self) -> &Position {
+    fn position(&self) -> &EngineState {
         &self.position
     }
 

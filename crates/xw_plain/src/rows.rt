@@ -7,7 +7,7 @@ ghost use Rattle.xw_feas.specs.Rows.{HasWordRows, row_len};
 use crate::flags::Flags;
 use std::alloc::{AllocError, Global};
 use xw_feas::board::Board;
-use xw_feas::position::Position;
+use xw_feas::engine_state::EngineState;
 use xw_grid::fault::GridFault;
 use xw_grid::grid::Grid;
 use xw_grid::lights::Lights;
@@ -66,7 +66,7 @@ pub fn make_grid_rows(
 /// if an allocation fails.
 pub fn make_grown_rows(
     alloc: Global,
-    position: &Position,
+    position: &EngineState,
     count: usize,
 ) -> Result<Vec<Flags>, WordFault>
     ensures ok { IfOk result (λ rows. HasWordRows (board_of position.now.grid) position.now.bank.words (Some count) rows.items) }

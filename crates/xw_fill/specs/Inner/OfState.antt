@@ -2,7 +2,7 @@
 use Rattle.std.specs.Prelude.{ℕ, Bool, List, Option}
 use Rattle.xw_feas.specs.State.{State}
 use Rattle.xw_fill.specs.Position.{position_of}
-use Rattle.xw_fill.specs.Inner.Noted
+use Rattle.xw_fill.specs.Inner.EnteredSince
 use Rattle.xw_fill.specs.Inner.Linked
 use Rattle.xw_fill.specs.Inner.Progress
 use Rattle.xw_fill.specs.Inner.Climbing
@@ -11,16 +11,16 @@ use Rattle.xw_fill.specs.declared.named_lights.plan.Plan.{Plan}
 -- ---- notes of wholly entered lights
 
 abbrev pub is_spelled_again : State → ℕ → Bool
-is_spelled_again state = Noted.is_spelled_again (position_of state)
+is_spelled_again state = EnteredSince.is_spelled_again (position_of state)
 
 abbrev pub AreEntered : State → (ℕ → Bool) → Type 0
-AreEntered state = Noted.AreEntered (position_of state)
+AreEntered state = EnteredSince.AreEntered (position_of state)
 
 abbrev pub AreOnlyEntered : State → (ℕ → Bool) → Type 0
-AreOnlyEntered state = Noted.AreOnlyEntered (position_of state)
+AreOnlyEntered state = EnteredSince.AreOnlyEntered (position_of state)
 
 abbrev pub SpellApart : State → (ℕ → Bool) → Type 0
-SpellApart state = Noted.SpellApart (position_of state)
+SpellApart state = EnteredSince.SpellApart (position_of state)
 
 -- ---- lights of one length
 

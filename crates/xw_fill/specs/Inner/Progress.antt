@@ -9,7 +9,7 @@ use Rattle.xw_feas.specs.WellFormed.{HasLetterEntries}
 use Rattle.xw_fill.specs.Position.{Position, position_of, with_entries, holding, DiffersInEntries}
 use Rattle.xw_feas.specs.Passes.{Passes}
 use Rattle.xw_fill.specs.FeasibleLetters.{is_feasible_letter}
-use Rattle.xw_fill.specs.Inner.Noted.{is_spelled_again}
+use Rattle.xw_fill.specs.Inner.EnteredSince.{is_spelled_again}
 use Rattle.xw_fill.specs.Search.{light_count, is_entered, spelling, lacks_words}
 use Rattle.xw_fill.specs.Fill.{IsActive}
 use Rattle.xw_fill.specs.NamedFill.{flags, is_in_named, entry_in, Keeps, IsFillOf}

@@ -3,7 +3,7 @@ use Rattle.std.specs.Prelude.{◌≡◌, ℕ, suc, true, List, [], ◌∷◌, �
 use Rattle.xw_feas.specs.State.{State}
 use Rattle.xw_fill.specs.OfState.{is_dead, outlook}
 use Rattle.xw_fill.specs.Inner.OfState.{AreEntered}
-use Rattle.xw_fill.specs.Inner.Noted.{noted}
+use Rattle.xw_fill.specs.Inner.EnteredSince.{noted}
 use Rattle.xw_fill.specs.Inner.Tries.{IsMade}
 use Rattle.xw_fill.specs.declared.search.Next.{Next}
 use Rattle.xw_fill.specs.declared.tries.Try.{Try}

@@ -44,15 +44,15 @@ pub enum Goal {
 /// The entries of a fill, cell by cell, and the grades of its new words, light by light, with `NO_BOUND` for each other
 /// light. Both are empty if there is none. Nothing is promised of them, so a search checks them.
 #[derive(Drop)]
-pub struct Noted {
+pub struct EnteredSince {
     pub entries: Vec<Option<Letter>>,
     grades: Vec<u8>,
 }
 
-impl Noted {
+impl EnteredSince {
     /// No fill.
-    fn new(alloc: Global) -> Noted {
-        Noted {
+    fn new(alloc: Global) -> EnteredSince {
+        EnteredSince {
             entries: Vec::new(alloc),
             grades: Vec::new(alloc),
         }
@@ -121,7 +121,7 @@ impl Noted {
 
 /// How much a light counts in the draw of the first light of a part. For the worst word only lights with the worst grade
 /// count; for the mean each new word does, the more the lower its grade.
-fn weight_of(noted: &Noted, light: usize, goal: Goal, worst: u8) -> u64 {
+fn weight_of(noted: &EnteredSince, light: usize, goal: Goal, worst: u8) -> u64 {
     match (noted.new_grade(light), goal) {
         (Some(grade), Goal::Worst) => u64::from(grade <= worst),
         (Some(grade), Goal::Mean) => u64::from(NO_BOUND.saturating_sub(grade)),
@@ -140,8 +140,8 @@ fn weight_of(noted: &Noted, light: usize, goal: Goal, worst: u8) -> u64 {
 /// - `failures`: how many parts for the mean there were since the last better fill.
 #[derive(Drop)]
 pub struct Parts {
-    pub best: Noted,
-    pub current: Noted,
+    pub best: EnteredSince,
+    pub current: EnteredSince,
     pub entries: Vec<Option<Letter>>,
     pub grade: u8,
     pub effort: Effort,
@@ -166,8 +166,8 @@ impl Parts {
     pub fn new(alloc: Global, lights: usize, seed: u64, graded: bool) -> Result<Parts, AllocError> {
         let effort = Effort::new(alloc, lights, seed, graded)?;
         Ok(Parts {
-            best: Noted::new(alloc),
-            current: Noted::new(alloc),
+            best: EnteredSince::new(alloc),
+            current: EnteredSince::new(alloc),
             entries: Vec::new(alloc),
             grade: 0,
             effort,
@@ -215,7 +215,7 @@ impl Parts {
 
     /// The fill of which a part is emptied: for the worst word, the one that the last part led to, unless it is worse
     /// than the best one.
-    fn base(&self, goal: Goal) -> &Noted {
+    fn base(&self, goal: Goal) -> &EnteredSince {
         let is_current = goal == Goal::Worst
             && !self.current.entries.is_empty()
             && self.current.worst() >= self.best.worst();

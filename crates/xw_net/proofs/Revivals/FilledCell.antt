@@ -10,12 +10,12 @@ use Rattle.xw_grid.specs.Light.{lights_of, cells_of, no_light}
 use Rattle.xw_feas.specs.Board.{Board, board_of, entry, light_at}
 use Rattle.xw_feas.specs.State.{State, Action}
 use Rattle.xw_feas.proofs.BoardLemmas.{length-lights, light_at-board}
-use Rattle.xw_net.specs.declared.change.Change.{Change}
-use Rattle.xw_net.specs.declared.change.Change.TheVariants.{Letters, Shape, Word, Words}
+use Rattle.xw_net.specs.declared.delta.Delta.{Delta}
+use Rattle.xw_net.specs.declared.delta.Delta.TheVariants.{Letters, Shape, Word, Words}
 use Rattle.xw_net.specs.declared.net.Net.{Net}
 use Rattle.xw_net.specs.Base.{base_bits, WasRow}
 use Rattle.xw_net.specs.Begin.{is_fill, only_filled, filled_of}
-use Rattle.xw_net.specs.Change.{Fields, IsChange, IsIndexOf, fields_of, indices_listed}
+use Rattle.xw_net.specs.Delta.{Fields, IsChange, IsIndexOf, fields_of, indices_listed}
 use Rattle.xw_net.specs.Filled.{IsFilled}
 use Rattle.xw_net.specs.Marks.{known}
 use Rattle.xw_net.specs.Opened.{IsMoved}
@@ -61,7 +61,7 @@ one_filled grid board (listed ∷ []) cell found = split (is_fill board (index_o
     some_same a b h = cc
   split false fills is = let never : None ≡ Some cell = is in cc
 
-pub fills_one : (grid : Grid) (board : Board) (lights : List Light) (change : Change) (cell : ℕ) → lights ≡ lights_of grid → filled_of grid board change ≡ Some cell → FillsOne grid (fields_of lights change) cell
+pub fills_one : (grid : Grid) (board : Board) (lights : List Light) (change : Delta) (cell : ℕ) → lights ≡ lights_of grid → filled_of grid board change ≡ Some cell → FillsOne grid (fields_of lights change) cell
 fills_one grid board lights (Letters cells) cell are found =
     let one = one_filled grid board cells.now cell found in
     record { listed = one.listed; cells = one.cells; at = one.at; empty = one.empty; lights = are; word = refl; turned = λ len. refl }
@@ -81,7 +81,7 @@ module _ (before now : State) (action : Action) (change : Fields) (is : IsChange
 
   was_empty : entry (board_of before.grid) cell ≡ None
   was_empty =
-      let written : Contains (map (Rattle.xw_net.specs.Change.with_entry_of before.grid) (cells_written before.grid action)) one.listed = subst (λ cells. Contains cells one.listed) is.cells listed_here in
+      let written : Contains (map (Rattle.xw_net.specs.Delta.with_entry_of before.grid) (cells_written before.grid action)) one.listed = subst (λ cells. Contains cells one.listed) is.cells listed_here in
       ap (entry (board_of before.grid)) (sym index_before)
       ∙ sym (entry_of_board before.grid one.listed.0 (inside one.listed listed_here))
       ∙ sym (entries_of before.grid (cells_written before.grid action) written.0 one.listed written.1 written.2)

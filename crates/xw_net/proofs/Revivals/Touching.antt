@@ -7,7 +7,7 @@ use Rattle.xw_grid.specs.Grid.{Grid}
 use Rattle.xw_feas.specs.Board.{Board}
 use Rattle.xw_feas.specs.Flags.{set_has}
 use Rattle.xw_net.specs.Begin.{IsNewLight, EditsCells}
-use Rattle.xw_net.specs.Change.{Fields}
+use Rattle.xw_net.specs.Delta.{Fields}
 use Rattle.xw_net.specs.Gone.{IsFreed, Raises}
 use Rattle.xw_net.specs.Opened.{HasTurnedWords, IsRegained, Touches}
 use Rattle.xw_net.specs.Opened.IsTouched.{by_light, by_cell, by_grade}

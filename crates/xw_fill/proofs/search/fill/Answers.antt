@@ -2,7 +2,7 @@ use Rattle.std.proofs.Common.{◌≡◌, vec_len, length, sym, ap, ◌∙◌, su
 use Rattle.std.proofs.lemmas.List.{with_items_is}
 use Rattle.xw_feas.specs.State.{State}
 use Rattle.xw_fill.specs.Filling.{IsFilling, HasFill}
-use Rattle.xw_fill.specs.Inner.Noted.{noted}
+use Rattle.xw_fill.specs.Inner.EnteredSince.{noted}
 use Rattle.xw_fill.specs.Inner.OfState.{AreEntered}
 use Rattle.xw_fill.specs.OfState.{light_count, outlook}
 use Rattle.xw_fill.specs.Position.{position_of}

@@ -2,7 +2,7 @@ use Rattle.std.proofs.Common.{◌≡◌, suc, refl, ◌+◌, ◌≤◌, sym, len
 use Rattle.std.specs.Option.{option_to_list}
 use Rattle.xw_fill.specs.Position.{position_of}
 use Rattle.xw_fill.specs.Filling.{IsFilling}
-use Rattle.xw_fill.specs.Inner.Noted.{noted, AreEntered, StayNoted}
+use Rattle.xw_fill.specs.Inner.EnteredSince.{noted, AreEntered, StayNoted}
 use Rattle.xw_fill.specs.Inner.Stack.{first_or}
 use Rattle.xw_fill.specs.Inner.Stepping.{HasStepped}
 use Rattle.xw_fill.specs.Inner.Tries.{IsMade}

@@ -1,11 +1,11 @@
 use Rattle.std.proofs.Common.{◌<◌, suc, sym, ◌∙◌, ap, subst}
 use Rattle.xw_fill.specs.Position.{position_of}
 use Rattle.xw_fill.specs.Search.{light_count, is_entered}
-use Rattle.xw_fill.specs.Inner.Noted.{noted, AreEntered, SpellApart, StayNoted}
+use Rattle.xw_fill.specs.Inner.EnteredSince.{noted, AreEntered, SpellApart, StayNoted}
 use Rattle.xw_fill.specs.Inner.Tries.{word_of}
 use Rattle.xw_fill.proofs.LetterSearch.{position_at}
 use Rattle.xw_fill.proofs.Shaped.{shaped}
-use Rattle.xw_fill.proofs.NotedLemmas.{apart-stay}
+use Rattle.xw_fill.proofs.EnteredSinceLemmas.{apart-stay}
 use Rattle.xw_fill.proofs.RepeatLemmas.{placed-apart}
 use Rattle.xw_fill.proofs.ScanLemmas.{outlook-blocked, outlook-open}
 use Rattle.xw_fill.proofs.SearchLemmas.{placed-entered}

@@ -3,13 +3,13 @@ use Rattle.std.specs.Prelude.{Ok, Some, ◌+◌, if◌then◌else◌}
 use Rattle.xw_words.specs.Dictionary.{Dictionary, known_words}
 use Rattle.xw_grid.specs.declared.lights.Light.{Light}
 use Rattle.xw_grid.specs.Grid.{Grid}
-use Rattle.xw_feas.specs.declared.told.Told.{Told}
+use Rattle.xw_feas.specs.declared.effect.Effect.{Effect}
 use Rattle.xw_feas.specs.Pending.{in_place_action, shape_action}
-use Rattle.xw_feas.specs.Position.{state_of}
+use Rattle.xw_feas.specs.EngineState.{state_of}
 use Rattle.xw_feas.specs.Rows.{grows}
 use Rattle.xw_feas.specs.Shape.{GrowsAt}
 use Rattle.xw_feas.specs.State.{State, after, word_added}
-use Rattle.xw_feas.specs.Told.{told_by, IsTold}
+use Rattle.xw_feas.specs.Effect.{told_by, IsTold}
 use Rattle.xw_net.specs.Fit.{lacking, HasRoomBetween}
 use Rattle.xw_net.specs.Net.{known_counts}
 use Rattle.xw_net.specs.Room.{HasRoom}
@@ -71,7 +71,7 @@ returns-in_ok-reserve-in-New-2-clause-follow c = λ some.
     (room_in_place c.reserve-in-New.new.self.lights _ net net.spare waits c.in_ok-reserve-in-New-2.ensures.room)) in
     can_follow was now action c.args.net.now c.requires.kept made (told_by now c.append.result) net (something_told (state_of was) now action c.append.result some told) c.reserve-in-New-2.ensures.same
     (ap (λ (grid : Grid). length grid.squares) (c.append.ensures.grid ∙ c.reserve-in-New.ensures.grid))
-    (subst (λ (told : Told). (len : ℕ) → (known_counts c.args.position.now.bank.words len ≤ known_counts c.append.new.self.bank.words len) × (known_counts c.append.new.self.bank.words len ≤ known_counts c.args.position.now.bank.words len + lacking (told_by c.append.new.self told).word len)) (sym c.append.ensures.result)
+    (subst (λ (told : Effect). (len : ℕ) → (known_counts c.args.position.now.bank.words len ≤ known_counts c.append.new.self.bank.words len) × (known_counts c.append.new.self.bank.words len ≤ known_counts c.args.position.now.bank.words len + lacking (told_by c.append.new.self told).word len)) (sym c.append.ensures.result)
     (near_grown was.bank.words now.bank.words (length c.in-New.word.now) c.in-New.index grown))
     (room_without was.lights now.lights (known_counts now.bank.words) net net.spare waits (c.append.ensures.lights ∙ c.reserve-in-New.ensures.lights)
     (subst (λ counts. HasRoom c.append.new.self.lights counts c.reserve-in-New-2.new.self) (λ i len. sym (grown len) i) room))

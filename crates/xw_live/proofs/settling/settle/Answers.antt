@@ -5,7 +5,7 @@ use Rattle.std.proofs.Math.Logic.{∥∥₁_elim}
 use mathlib.Core.Logic.{∥∥₁_prop}
 use Rattle.xw_words.specs.Dictionary.{Dictionary, known_words}
 use Rattle.xw_feas.specs.State.{State}
-use Rattle.xw_net.specs.Change.{before_of, word_of}
+use Rattle.xw_net.specs.Delta.{before_of, word_of}
 use Rattle.xw_net.specs.Net.{StoodFor, known_counts, sets_of}
 use Rattle.xw_net.specs.Fit.{HasRoomBetween}
 use Rattle.xw_live.proofs.Keeping.{kept_from}

@@ -1,6 +1,6 @@
 use Rattle.std.proofs.Common.{◌≡◌, None, Some, length, sym, subst, ◌∙◌, arith}
 use Rattle.xw_feas.specs.Board.{light_at}
-use Rattle.xw_net.specs.Change.{fields_of}
+use Rattle.xw_net.specs.Delta.{fields_of}
 use Rattle.xw_net.specs.Inner.Forget.{nowhere, lost_at}
 use Rattle.xw_net.proofs.Revivals.Forgetting.{lost_same, lost_none, not_true}
 use Rattle.xw_net.proofs.forget.forgets_none.Goals as goal

@@ -1,6 +1,6 @@
 use Rattle.std.proofs.Common.{◌≡◌, true, refl, sym, subst}
 use Rattle.std.specs.Prelude.{is_some}
-use Rattle.xw_net.specs.Change.{before_of}
+use Rattle.xw_net.specs.Delta.{before_of}
 use Rattle.xw_net.specs.Renumber.{same_before}
 use Rattle.xw_net.proofs.Edits.SameLights.{some_old}
 use Rattle.xw_net.proofs.forget.has_stayed.Goals as goal

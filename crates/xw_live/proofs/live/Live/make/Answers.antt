@@ -1,13 +1,13 @@
 use Rattle.std.proofs.Common.{◌≡◌, length, sym, ◌∙◌, ap, subst}
 use Rattle.std.specs.Prelude.{is_some}
 use Rattle.std.proofs.lemmas.Bool.{false≢true}
-use Rattle.xw_feas.specs.declared.told.Told.TheVariants.{Nothing}
+use Rattle.xw_feas.specs.declared.effect.Effect.TheVariants.{Nothing}
 use Rattle.xw_feas.specs.Pending.{pending_action}
-use Rattle.xw_feas.specs.Position.{state_of as position_state_of}
+use Rattle.xw_feas.specs.EngineState.{state_of as position_state_of}
 use Rattle.xw_feas.specs.State.{State}
-use Rattle.xw_feas.specs.Told.{Tells, told_by}
+use Rattle.xw_feas.specs.Effect.{Tells, told_by}
 use Rattle.xw_feas.specs.Written.{Fields}
-use Rattle.xw_net.specs.Change.{IsChange, fields_of}
+use Rattle.xw_net.specs.Delta.{IsChange, fields_of}
 use Rattle.xw_live.specs.Engine.{CanFollow, IsKept}
 use Rattle.xw_live.specs.Live.{state_of}
 use Rattle.xw_live.proofs.Following.{list_noted, something_told, nothing_told, change_told, kept_unchanged, same_cells_kept}

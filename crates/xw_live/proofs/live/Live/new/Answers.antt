@@ -1,7 +1,7 @@
 use Rattle.std.proofs.Common.{◌≡◌, length, sym, ◌∙◌, ap}
 use Rattle.xw_grid.specs.Grid.{Grid}
 use Rattle.xw_feas.specs.State.{State}
-use Rattle.xw_feas.specs.Position.{state_of}
+use Rattle.xw_feas.specs.EngineState.{state_of}
 use Rattle.xw_live.specs.Engine.{IsKept}
 use Rattle.xw_live.proofs.Keeping.{kept_from, kept_cells}
 use Rattle.xw_live.proofs.Placements.{levels_none, none_sized}

@@ -1,7 +1,7 @@
 use Rattle.std.proofs.Common.{sym}
-use Rattle.xw_feas.specs.Position.{state_of as position_state_of}
+use Rattle.xw_feas.specs.EngineState.{state_of as position_state_of}
 use Rattle.xw_feas.specs.State.{known_placed}
-use Rattle.xw_net.specs.Change.{IsChange}
+use Rattle.xw_net.specs.Delta.{IsChange}
 use Rattle.xw_live.specs.Engine.{IsKept}
 use Rattle.xw_live.specs.Live.{state_of}
 use Rattle.xw_live.proofs.Following.{entries_follow, entries_change, entries_cells}

@@ -2,7 +2,7 @@ use Rattle.std.proofs.Common.{sym, ◌∙◌, subst}
 use Rattle.xw_feas.specs.State.{State}
 use Rattle.xw_live.specs.Engine.{IsKept}
 use Rattle.xw_live.proofs.Keeping.{kept_from, kept_cells}
-use Rattle.xw_feas.specs.Position.{state_of}
+use Rattle.xw_feas.specs.EngineState.{state_of}
 use Rattle.xw_live.proofs.Placements.{levels_none, none_sized}
 use Rattle.xw_live.proofs.live.Live.take_grid.Goals as goal
 

@@ -1,7 +1,7 @@
 use Rattle.std.proofs.Common.{◌≡◌, length, refl, sym, ap, ◌∙◌, subst}
 use Rattle.xw_words.specs.Dictionary.{Dictionary, with_least}
 use Rattle.xw_feas.specs.State.{State}
-use Rattle.xw_feas.specs.Position.{state_of as position_state_of}
+use Rattle.xw_feas.specs.EngineState.{state_of as position_state_of}
 use Rattle.xw_net.specs.Net.{sets_of}
 use Rattle.xw_net.specs.declared.net.Net.{Net}
 use Rattle.xw_live.specs.Engine.{IsKept}

@@ -3,7 +3,7 @@ use Rattle.std.specs.Prelude.{Ok, IfOk, IfSome, ◌<◌}
 use Rattle.xw_grid.specs.declared.lights.Light.{Light}
 use Rattle.xw_words.specs.Dictionary.{Dictionary, known_words}
 use Rattle.xw_feas.specs.Board.{Board, board_of}
-use Rattle.xw_feas.specs.Position.{state_of as position_state_of}
+use Rattle.xw_feas.specs.EngineState.{state_of as position_state_of}
 use Rattle.xw_feas.specs.State.{State, after, letter_set}
 use Rattle.xw_feas.specs.Trying.{MayTryLetter, IsTried, levels_after}
 use Rattle.xw_net.specs.Entered.{IsTriedOn}

@@ -1,7 +1,7 @@
 use Rattle.std.proofs.Common.{sym, ◌∙◌, subst}
 use Rattle.xw_words.specs.Dictionary.{Dictionary}
 use Rattle.xw_feas.specs.Board.{board_of}
-use Rattle.xw_feas.specs.Position.{state_of}
+use Rattle.xw_feas.specs.EngineState.{state_of}
 use Rattle.xw_feas.specs.Standing.{HasRows}
 use Rattle.xw_feas.proofs.BoardLemmas.{length-open_cells}
 use Rattle.xw_feas.proofs.ShapeLemmas.{HasRows-shape}

@@ -2,7 +2,7 @@ use Rattle.std.proofs.Common.{◌≡◌, length, sym, ap, ◌∙◌, subst}
 use Rattle.xw_words.specs.Dictionary.{with_least}
 use Rattle.xw_grid.specs.EditLaws.{SameShape}
 use Rattle.xw_feas.specs.Board.{board_of}
-use Rattle.xw_feas.specs.Position.{state_of}
+use Rattle.xw_feas.specs.EngineState.{state_of}
 use Rattle.xw_feas.specs.Standing.{HasRows}
 use Rattle.xw_feas.specs.State.{State}
 use Rattle.xw_feas.proofs.BoardLemmas.{length-open_cells}

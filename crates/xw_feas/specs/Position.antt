@@ -1,6 +1,0 @@
--- The grid and the dictionary of a position.
-use Rattle.xw_feas.specs.State.{State}
-use Rattle.xw_feas.specs.declared.position.Position.{Position}
-
-abbrev pub state_of : Position → State
-state_of position = record { grid = position.grid; words = position.bank.words }
