@@ -140,7 +140,11 @@ const CASES = {
       same(told.length, 2);
       ok(told[0][0].placements < told[1][0].placements && told.every(([, show]) => show.length === 6));
       const wrong = new Error('progress is wrong');
-      for (const options of [{ progress: () => Promise.reject(wrong) }, { progress() { throw wrong; } }]) await rejects(collected(xw.best(options)), wrong);
+      for (const options of [{ progress: () => Promise.reject(wrong) }, { progress() { throw wrong; } }]) {
+        // a grid that the last search left full would be found at once, before any progress
+        await xw.ask('size', 6, 6);
+        await rejects(collected(xw.best(options)), wrong);
+      }
       same((await xw.line('show')).ok, true);
     }),
   'a signal ends a search': () =>
