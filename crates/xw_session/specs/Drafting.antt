@@ -20,7 +20,7 @@ IsMade old action (Err refusal) new = IsOfGrid action × (grid_after old action 
 
 -- whether the query reports on the whole puzzle
 abbrev pub is_report : Query → Bool
-is_report (queries.Tell report) = true
+is_report (queries.Tell _) = true
 is_report other = false
 
 -- The first `taken` lines of a text, which come after `before` lines of a file, may be executed one after another, with
