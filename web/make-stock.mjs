@@ -6,8 +6,8 @@
 import { readFileSync, writeFileSync } from 'node:fs';
 import { pageModules } from './test/page-modules.mjs';
 
-const { OUTLETS, Pool, Search, gridFrom, pack, randoms, shuffled, threesOf, wholeLimits } = await pageModules(
-  'grids/grid', 'grids/outlets', 'grids/pool', 'grids/search', 'grids/british', 'grids/compact', 'model/random',
+const { OUTLETS, Search, areAlike, gridFrom, pack, randoms, shuffled, threesOf, wholeLimits } = await pageModules(
+  'grids/grid', 'grids/outlets', 'grids/search', 'grids/british', 'grids/compact', 'model/random',
 );
 const OUT = new URL('./editor/grids/stock-packed.js', import.meta.url);
 const EACH = 100;
@@ -83,13 +83,11 @@ function found(wanted, seed) {
 
 // A hundred patterns of a form, of which none is like another.
 function patternsOf(name) {
-  const [all, taken] = [[], new Pool()];
+  const all = [];
   for (const [at, wanted] of FORMS[name]().entries()) {
     if (all.length === EACH) break;
-    const own = new Pool();
-    own.add(found(wanted, at + 1));
-    taken.add(own.take(1));
-    all.push(...taken.take(1));
+    const [cheapest] = found(wanted, at + 1).sort((one, other) => one.cost - other.cost);
+    if (cheapest && !all.some((other) => areAlike(cheapest, other))) all.push(cheapest);
     if (process.stdout.isTTY) process.stdout.write(`\r${name}: ${all.length} of ${at + 1} searches `);
   }
   return all;

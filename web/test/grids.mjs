@@ -195,23 +195,27 @@ const CASES = {
     open({ sources: [{ bytes: Buffer.from('ab;90\ncd;80\nac;70\nbd;60\n') }], personal: '', least: 0, threes: 0, record: '' });
     const making = new Making();
     const look = making.look({ lines: ['size 2 2'] });
-    expect(!look.unmatched.length && !look.dead.length && look.fewest === 2, `of the empty grid it is said: ${JSON.stringify(look)}`);
+    expect(!look.unmatched.length && !look.dead.length, `of the empty grid it is said: ${JSON.stringify(look)}`);
     const fill = making.fill({ lines: ['size 2 2'], placements: 100, isScored: true });
-    expect(fill.answer === 'filled' && [...fill.scores].sort().join() === '60,70,80,90', `of its fill it is said: ${JSON.stringify(fill)}`);
+    expect(fill.answer === 'filled' && fill.bound > 60 && fill.bound <= 71 && [...fill.scores].sort().join() === '60,70,80,90', `of its fill it is said: ${JSON.stringify(fill)}`);
     expect(making.fill({ lines: ['size 2 2'], placements: 100, isScored: false }).answer === 'filled', 'without scores it does not fill');
     // an entry is none of the words that a fill enters
     const around = making.fill({ lines: ['size 2 2', 'set 1 1 A', 'set 1 2 B'], placements: 100, isScored: true });
     expect(around.answer === 'filled' && [...around.scores].sort().join() === '60,70,80', `of a fill around AB it is said: ${JSON.stringify(around)}`);
     // AC and CD fill it without the other two, if they may stand twice, as feasible words may; without AC there is no fill
-    expect(making.bound({ lines: ['size 2 2'] }).bound === 71, `no fill is said to be at ${making.bound({ lines: ['size 2 2'] }).bound}`);
+    const bound = making.bound({ lines: ['size 2 2'] });
+    expect(bound.bound === 71 && bound.fewest === 2 && Math.abs(bound.logs - Math.log(2.01)) < 1e-9, `before it is filled it is said: ${JSON.stringify(bound)}`);
     expect(making.bound({ lines: ['size 2 2', 'set 2 2 X'] }).bound === 0, 'a dead grid has a bound');
     const dead = making.look({ lines: ['size 2 2', 'set 2 2 X'] });
-    expect(dead.unmatched.join() === '.X,.X' && dead.fewest === 0 && [...new Set(dead.dead)].sort().join() === '1 2,2 1,2 2', `of a dead grid it is said: ${JSON.stringify(dead)}`);
+    expect(dead.unmatched.join() === '.X,.X' && [...new Set(dead.dead)].sort().join() === '1 2,2 1,2 2', `of a dead grid it is said: ${JSON.stringify(dead)}`);
     expect(making.fill({ lines: ['size 2 2', 'set 2 2 X'], placements: 100, isScored: true }).answer === 'nofill', 'a dead grid fills');
+    // lines of a grid after those of another begin anew
+    making.bound({ lines: ['size 3 3', 'block 2 2', 'sym half', 'set 1 1 A'] });
+    expect(making.bound({ lines: ['size 2 2'] }).bound === 71, 'the grid before is not left');
     // a call makes one board at least, and tells all that were made
     expect(making.begin({ wanted: { entries: [], seeds: [], width: 9, height: 9, style: 'american', sym: 'half', limits: limitsAt(DAILY, 9, 9) }, seed: 1, weak: 0 }), 'there is no empty placing');
     const [first, second] = [0, 0].map((milliseconds) => making.more({ milliseconds }));
-    expect(first.tried === 1 && second.tried === 2 && !second.grids.length && second.faults.get('dead') === 2, `of 2 boards without words it is said: ${[...second.faults].join('; ')}`);
+    expect(first.tried === 1 && second.tried === 2 && !second.grids.length && !second.unfilled.length && second.faults.get('dead') === 2, `of 2 boards without words it is said: ${[...second.faults].join('; ')}`);
   },
 
   'cells that could be blocks'() {

@@ -17,7 +17,7 @@ const { Board, Dropped, OUTLETS, PATTERNS, Solving, addedComments, changeBeside,
 const { Board: Blocks, Cost, Frame, wholeLimits } = await pageModules('grids/board', 'grids/cost', 'grids/frame', 'grids/outlets');
 const boardOf = boardsOf(Board);
 // puzzles of examples/puzzles that were made for an outlet
-const SUBMISSIONS = { 'on-the-quiet': 'New York Times, daily', 'passing-style': 'New York Times, themeless' };
+const SUBMISSIONS = { 'on-the-quiet': 'New York Times, daily', 'passing-style': 'New York Times, themeless', 'help-wanted': 'New York Times, Sunday' };
 const american = gridFigures(boardOf(...rowsOf(PATTERNS[0])));
 const outlet = (name) => OUTLETS.find((one) => one.name === name);
 const stateOf = (judged, text) => judged.find((one) => one.text.startsWith(text));

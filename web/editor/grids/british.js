@@ -273,6 +273,9 @@ export class BritishSearch {
     return faults.length ? this.#miss(faults, grid) : grid;
   }
 
+  // Each grid is made on its own.
+  judge() {}
+
   /** @param {Grid} grid */
   #deadIn(grid) {
     const codes = (/** @type {string} */ pattern) => Array.from(pattern, (letter) => (letter === '.' ? -1 : letter.charCodeAt(0) - 65));

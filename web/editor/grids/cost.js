@@ -10,8 +10,8 @@ import { Ease } from './ease.js';
 export const PRICES = {
   // each word, block and so on over its limit, and each cell by which a light is too long
   words: 7, blocks: 7, threes: 6, cheaters: 7, lumps: 7, long: 6,
-  // a light that no word matches
-  dead: 20,
+  // a light that no word matches, and one that weak words match alone
+  dead: 20, poor: 15,
   // what is not connected, and each cell of it
   apart: 20, cut: 0.1,
   // within the limits: each light of three, each cheater, and each word that there could still be
@@ -61,7 +61,7 @@ export class Cost {
     if (cost > bound) return cost;
     this.#ease.measure();
     figures.dead = this.#ease.dead;
-    cost += figures.dead * PRICES.dead + this.#ease.lack * PRICES.lack;
+    cost += figures.dead * PRICES.dead + this.#ease.poor * PRICES.poor + this.#ease.lack * PRICES.lack;
     if (cost > bound) return cost;
     const { width, height } = this.#board.frame;
     figures.cut = width * height - figures.blocks - this.#reached();

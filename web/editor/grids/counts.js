@@ -4,8 +4,9 @@ import { ones } from './bits.js';
 /** @typedef {{ count(pattern: ArrayLike<number>): number }} Counts patterns are codes of letters, A being 0, and -1 for any letter */
 
 const A = 'A'.charCodeAt(0);
-// what a word that is not good counts as: a light that only weak words fit costs nearly as much as one without any
+// what a word that is not good counts as, and all of them at most where there is no good one
 const REST = 0.05;
+const MOST_REST = 0.9;
 
 export class WordCounts {
   /** @type {Map<number, { count: number, bits: Uint32Array[] }>} */
@@ -50,7 +51,7 @@ function common(sets) {
   return count;
 }
 
-// The count of good words, and of the others at a lower rate.
+// The count of good words, and of the others at a lower rate: under one where there is no good one.
 export class GradedCounts {
   /**
    * @param {string[]} words in capitals
@@ -63,6 +64,7 @@ export class GradedCounts {
 
   /** @param {ArrayLike<number>} pattern */
   count(pattern) {
-    return this.good.count(pattern) + REST * this.rest.count(pattern);
+    const [good, rest] = [this.good.count(pattern), REST * this.rest.count(pattern)];
+    return good ? good + rest : Math.min(rest, MOST_REST);
   }
 }

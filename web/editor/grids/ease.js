@@ -11,8 +11,8 @@ const NONE = -9;
 export const LEAST_COUNT = 0.04;
 const UNKNOWN = 1000;
 
-// What the lights of a line give to its cells, and how many of them have no word.
-/** @typedef {{ each: Float64Array, dead: number }} Given */
+// What the lights of a line give to its cells, how many of them have no word, and how many have no good one.
+/** @typedef {{ each: Float64Array, dead: number, poor: number }} Given */
 
 export class Ease {
   /** @type {import('./board.js').Board} */
@@ -27,8 +27,9 @@ export class Ease {
   // the places of entries that need no word, by the same numbers
   /** @type {Set<number>} */
   #entered = new Set();
-  // how many lights have no word, and how much ease the cells lack in all
+  // how many lights have no word, how many have weak ones only, and how much ease the cells lack in all
   dead = 0;
+  poor = 0;
   lack = 0;
 
   /**
@@ -41,7 +42,7 @@ export class Ease {
     const { frame } = board;
     this.#given = [[frame.height, frame.width], [frame.width, frame.height]].map(([count, length]) => {
       /** @returns {Given[]} */
-      const blank = () => Array.from({ length: count }, () => ({ each: new Float64Array(length), dead: 0 }));
+      const blank = () => Array.from({ length: count }, () => ({ each: new Float64Array(length), dead: 0, poor: 0 }));
       return { of: new Int32Array(count), kept: blank(), spare: blank(), now: blank() };
     });
     this.#depth = Math.max(frame.width, frame.height) + 1;
@@ -67,25 +68,27 @@ export class Ease {
 
   // Sees how easy the board is.
   measure() {
-    this.dead = this.#give(0) + this.#give(1);
+    this.dead = 0;
+    this.poor = 0;
+    this.#give(0);
+    this.#give(1);
     this.lack = this.#lackOfCells();
   }
 
-  // Sees what the lights of a direction give now, and returns how many have no word. Lines that are as they were at `keep` give the same.
+  // Sees what the lights of a direction give now. Lines that are as they were at `keep` give the same.
   /** @param {number} isDown */
   #give(isDown) {
     const lines = this.#board.lines[isDown];
     const { of, kept, spare, now } = this.#given[isDown];
-    let dead = 0;
     for (let line = 0; line < lines.length; line++) {
       now[line] = kept[line];
       if (lines[line] !== of[line]) {
         now[line] = spare[line];
         this.#giveLine(isDown, line, spare[line]);
       }
-      dead += now[line].dead;
+      this.dead += now[line].dead;
+      this.poor += now[line].poor;
     }
-    return dead;
   }
 
   // Keeps what was measured, as that of the board as it stands.
@@ -112,6 +115,7 @@ export class Ease {
     const [start, step, count] = isDown ? [frame.cell(0, line), frame.stride, frame.height] : [frame.cell(line, 0), 1, frame.width];
     const { each } = given;
     given.dead = 0;
+    given.poor = 0;
     for (let at = 0, length = 0, bits = lines[isDown][line] >> 1; at <= count; at++, bits >>= 1) {
       if (!(bits & 1)) {
         length++;
@@ -121,6 +125,7 @@ export class Ease {
       if (!length) continue;
       const log = this.#logOf(isDown, start + (at - length) * step, step, length);
       if (log === NONE) given.dead++;
+      else if (log < 0) given.poor++;
       for (let one = at - length; one < at; one++) each[one] = letters[start + one * step] < 0 ? log : ENOUGH;
       length = 0;
     }

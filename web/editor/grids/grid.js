@@ -1,4 +1,8 @@
-// What a new grid is, what a setter wants of it, and how it gets into a record.
+// What a new grid is, what a setter wants of it, which ones are alike, and how it gets into a record.
+
+// the cells by which grids differ, in a grid of 225 cells
+const APART = 12;
+const USUAL_SIZE = 225;
 
 /** @typedef {'american' | 'british' | 'barred'} Style */
 /** @typedef {import('./symmetry.js').Symmetry} Symmetry */
@@ -79,20 +83,31 @@ export function crossingPatterns({ lights, letters }) {
  * @param {Grid} one
  * @param {Grid} other
  */
-export function difference(one, other) {
+function difference(one, other) {
   const without = (/** @type {Set<number>} */ some, /** @type {Set<number>} */ others) => [...some].filter((each) => !others.has(each)).length;
   return without(one.blocks, other.blocks) + without(other.blocks, one.blocks) + without(one.bars, other.bars) + without(other.bars, one.bars);
 }
 
+// Whether two grids differ in few cells. A small grid has few that are not like it.
+/**
+ * @param {Grid} one
+ * @param {Grid} other
+ */
+export function areAlike(one, other) {
+  const size = Math.min(one.width * one.height, USUAL_SIZE);
+  return difference(one, other) < Math.max(1, Math.floor((APART * size) / USUAL_SIZE));
+}
+
 export const threesOf = (/** @type {Grid} */ { lights }) => lights.filter(({ length }) => length === 3).length;
 
-// The record of a grid.
+// The lines of a grid in a record.
 /** @param {Grid} grid */
-export function recordOfGrid({ width, height, sym, blocks, bars, letters }) {
+export function linesOf({ width, height, sym, blocks, bars, letters }) {
   const at = (/** @type {number} */ cell) => `${Math.floor(cell / width) + 1} ${(cell % width) + 1}`;
-  const lines = [
+  return [
     `size ${width} ${height}`, ...[...bars].map((edge) => `bar ${at(edge >> 1)} ${edge & 1 ? 'below' : 'right'}`), ...[...blocks].map((cell) => `block ${at(cell)}`),
     `sym ${sym}`, ...[...letters].map(([cell, letter]) => `set ${at(cell)} ${letter}`),
   ];
-  return `${lines.join('\n')}\n`;
 }
+
+export const recordOfGrid = (/** @type {Grid} */ grid) => `${linesOf(grid).join('\n')}\n`;

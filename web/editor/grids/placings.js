@@ -1,8 +1,7 @@
 // The places of entries that a search for American grids tries: the most promising ones, those that are like them, and which one is next.
 import { Crossings } from './crossings.js';
-import { difference } from './grid.js';
+import { areAlike } from './grid.js';
 import { Places } from './places.js';
-import { apart } from './pool.js';
 
 // what the forced blocks of a placing cost
 const FORCED = { cheater: 3, lump: 8 };
@@ -10,6 +9,8 @@ const FORCED = { cheater: 3, lump: 8 };
 const CHANCE = 30;
 // what each board that is nothing new adds to the cost of its placing, until one is
 const VAIN = 1;
+// by how much a grid lowers it for each grade that its fills may reach
+const REACHED = 1;
 // the most placings, how many others are made after a board that is no grid, and of how many of the most promising ones
 const MOST = 400;
 const NEAR = 4;
@@ -95,10 +96,19 @@ export class Placings {
   tell(placing, cost, grid) {
     placing.tries++;
     placing.mean += (cost - placing.mean) / placing.tries;
-    const isNew = grid && placing.grids.every((other) => difference(grid, other) >= apart(grid));
+    const isNew = grid && !placing.grids.some((other) => areAlike(grid, other));
     if (isNew) placing.grids = [...placing.grids, grid].slice(-MOST_COMPARED);
     placing.vain = isNew ? 0 : placing.vain + 1;
     if (!grid && placing.groups.length) this.#widen();
+  }
+
+  // Takes over the least grade at which a grid that was found around a placing has no fill, 0 if it has none at all.
+  /**
+   * @param {Tried} placing
+   * @param {number} bound
+   */
+  judge(placing, bound) {
+    placing.mean -= (REACHED * bound) / placing.tries;
   }
 
   // Looks for placings that are like the most promising ones.

@@ -21,9 +21,11 @@ export class Search {
   #board;
   #cost;
   #placings;
-  // the grids that were told
+  // the grids that were told, and the placing that each is around
   /** @type {Set<string>} */
   #keys = new Set();
+  /** @type {WeakMap<import('./grid.js').Grid, import('./placings.js').Tried>} */
+  #around = new WeakMap();
   // how many boards were made, and how many of them have each fault
   tried = 0;
   /** @type {Map<string, number>} */
@@ -59,7 +61,18 @@ export class Search {
     const cost = placing.score + this.#anneal(this.#begun(placing.places));
     const grid = this.#asGrid(cost);
     this.#placings.tell(placing, cost, grid);
+    if (grid) this.#around.set(grid, placing);
     return grid;
+  }
+
+  // Takes over the least grade at which a grid that was made has no fill: there are more boards around placings that leave good fills.
+  /**
+   * @param {import('./grid.js').Grid} grid
+   * @param {number} bound
+   */
+  judge(grid, bound) {
+    const placing = this.#around.get(grid);
+    if (placing) this.#placings.judge(placing, bound);
   }
 
   // The board as a grid, unless it has faults or was told before.

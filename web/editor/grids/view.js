@@ -1,30 +1,21 @@
 // The dialog of new grids, with theme entries or without: they are found in workers within limits, and each is judged by an engine before it is chosen.
-import { byFigures, figuresOf, figuresText } from '../model/grades.js';
-import { bodyOf, parseRecord, wordsOf } from '../model/record.js';
+import { figuresOf, figuresText } from '../model/grades.js';
+import { parseRecord, wordsOf } from '../model/record.js';
 import { termed } from '../model/terms.js';
 import { openDialog } from '../views/dialogs.js';
 import { sketchOf } from '../views/library.js';
 import { unforeseen } from '../views/messages.js';
-import { checkWanted, recordOfGrid, threesOf } from './grid.js';
+import { checkWanted, linesOf, recordOfGrid, threesOf } from './grid.js';
 import { LimitsView } from './limits-view.js';
-import { Pool } from './pool.js';
+import { MOST_SHOWN, Trials } from './trials.js';
 
 const MOST_ENTRIES = 8;
-// how many grids are shown, and how many of those that were found are kept at each step: the best ones
-const MOST_SHOWN = 12;
-const MOST_KEPT = 200;
 // the most boards with faults that are shown while there is no grid
 const MOST_MISSES = 3;
 // the most workers that make grids
 const MOST_WORKERS = 4;
-// how many calls of so many milliseconds a round of a search has at most, until there are enough grids, and how many of these are looked at
-const CALLS = 4;
-const MILLISECONDS = 400;
-const ENOUGH = 240;
-const MOST_LOOKED = 40;
-// of these so many are filled, those whose lights have the most words, by searches of so many placements
-const MOST_FILLED = 24;
-const PLACEMENTS = 3000;
+// how many milliseconds a worker looks for grids before it fills some
+const MILLISECONDS = 300;
 // the seeds of one search lie so far from those of the next
 const SEEDS = 100003;
 
@@ -43,12 +34,11 @@ const FAULTS = {
  * @typedef {{ dialog: HTMLDialogElement, limits: import('./limits-view.js').Elements } & Record<'entries' | 'seeds', HTMLTextAreaElement> &
  *   Record<'show' | 'stop', HTMLButtonElement> & Record<'lengths' | 'told' | 'grids', HTMLElement>} Elements
  */
-/** @typedef {{ unmatched: string[], dead: string[], fewest: number, logs: number }} Look */
-/** @typedef {{ card: HTMLElement, figures: ReturnType<typeof figuresOf>, isFilled: boolean, logs: number }} Judged */
+/** @typedef {import('./trials.js').Trial} Trial */
 /**
- * A search: the grids that are found and wait, those that were looked at, the best of those that are judged, with their number, the first ones that have no
- * fill, with their number, and what each worker tells of its boards.
- * @typedef {{ turn: number, wanted: import('./grid.js').Wanted, pool: Pool, looked: { grid: Grid, look: Look }[], judged: Judged[], count: number, unfilled: Grid[], lost: number, told: { tried: number, faults: Map<string, number>, nearest: Miss | null }[] }} Searching
+ * A search: the grids that are tried, with the cards of those that are judged, the first ones that have no fill, with their number, and what each worker tells
+ * of its boards.
+ * @typedef {{ turn: number, wanted: import('./grid.js').Wanted, trials: Trials, cards: WeakMap<Trial, HTMLElement>, unfilled: Grid[], lost: number, told: { tried: number, faults: Map<string, number>, nearest: Miss | null }[] }} Searching
  */
 
 export class GridsView {
@@ -162,11 +152,11 @@ export class GridsView {
     this.#end(`Stopped. ${textContent}`);
   }
 
-  // Looks for grids until it is stopped, in rounds: all workers search, look at the cheapest grids, and then fill some of these.
+  // Looks for grids until it is stopped: each worker fills the next one that is to be filled, and looks for others if there is none.
   /** @param {number} turn */
   async #search(turn) {
     /** @type {Searching} */
-    const search = { turn, wanted: this.#wanted, pool: new Pool(), looked: [], judged: [], count: 0, unfilled: [], lost: 0, told: [] };
+    const search = { turn, wanted: this.#wanted, trials: new Trials(), cards: new WeakMap(), unfilled: [], lost: 0, told: [] };
     this.#isBusy = true;
     this.#say('looking for grids …');
     const workers = await Promise.all(this.#workers());
@@ -174,63 +164,43 @@ export class GridsView {
     this.#seed++;
     const begun = await Promise.all(workers.map((worker, at) => worker.call('beginGrids', { wanted: search.wanted, seed: seeds[at], weak: this.#weak })));
     if (this.#isOn(turn) && !begun.includes(true)) return this.#end('The entries cannot stand together within these limits: try another size or symmetry, or fewer entries.');
-    const inAll = (/** @type {(search: Searching, worker: Engine, at: number) => Promise<void>} */ action) => Promise.all(workers.map((worker, at) => action.call(this, search, worker, at)));
-    while (this.#isOn(turn)) {
-      await inAll(this.#find);
-      const grids = search.pool.take(MOST_LOOKED);
-      await inAll((_, worker) => this.#look(search, worker, grids));
-      search.looked = search.looked.sort((a, b) => b.look.logs - a.look.logs).slice(0, MOST_KEPT);
-      await inAll(this.#fill);
-      if (!search.judged.length) await this.#showMisses(search, workers[0]);
-    }
+    await Promise.all(workers.map(async (worker, at) => {
+      while (this.#isOn(turn)) {
+        const next = search.trials.next();
+        await (next ? this.#fill(search, worker, next) : this.#find(search, worker, at));
+      }
+    }));
     return undefined;
   }
 
-  // Looks for grids in a worker, one round, with one call at least.
+  // Looks for grids in a worker for some time.
   /**
    * @param {Searching} search
    * @param {Engine} worker
    * @param {number} at
    */
   async #find(search, worker, at) {
-    for (let call = 0; call < CALLS && this.#isOn(search.turn) && (!call || search.pool.size < ENOUGH); call++) {
-      const { grids, ...told } = await worker.call('moreGrids', { milliseconds: MILLISECONDS });
-      search.pool.add(grids);
-      search.told[at] = told;
-      if (this.#isOn(search.turn)) this.#say(this.#summary(search));
-    }
+    const { grids, unfilled, ...told } = await worker.call('moreGrids', { milliseconds: MILLISECONDS });
+    for (const { grid, look } of grids) search.trials.add(grid, look);
+    search.told[at] = told;
+    for (const grid of unfilled) this.#lose(search, grid);
+    if (!this.#isOn(search.turn)) return;
+    this.#say(this.#summary(search));
+    if (!at && !search.trials.count) await this.#showMisses(search, worker);
   }
 
-  // Has a worker look at grids: those of which each light has a word are kept, and the others have no fill.
+  // Has a worker fill a grid, and shows the best ones.
   /**
    * @param {Searching} search
    * @param {Engine} worker
-   * @param {Grid[]} grids
+   * @param {{ trial: Trial, placements: number }} next
    */
-  async #look(search, worker, grids) {
-    while (this.#isOn(search.turn)) {
-      const grid = grids.shift();
-      if (!grid) return;
-      const look = await worker.call('lookAtGrid', { lines: linesOf(grid) });
-      if (look.fewest) search.looked.push({ grid, look });
-      else this.#lose(search, grid);
-    }
-  }
-
-  // Has a worker fill the grids whose lights have the most words, and shows them.
-  /**
-   * @param {Searching} search
-   * @param {Engine} worker
-   */
-  async #fill(search, worker) {
-    for (let count = 0; count < MOST_FILLED / this.#count && this.#isOn(search.turn); count++) {
-      const next = search.looked.shift();
-      if (!next) return;
-      const { grid, look } = next;
-      const { answer, scores } = await worker.call('fillGrid', { lines: linesOf(grid), placements: PLACEMENTS, isScored: this.#editor.list.scored });
-      if (answer === 'nofill') this.#lose(search, grid);
-      else if (this.#isOn(search.turn)) this.#add(search, grid, look, answer === 'filled', scores);
-    }
+  async #fill(search, worker, { trial, placements }) {
+    const { scored: isScored, weak } = this.#editor.list;
+    const { answer, bound, scores } = await worker.call('fillGrid', { lines: linesOf(trial.grid), placements, isScored });
+    search.trials.tell(trial, { answer, bound, figures: figuresOf(scores, weak) });
+    if (answer === 'nofill') this.#lose(search, trial.grid);
+    else if (this.#isOn(search.turn)) this.#showBest(search, trial);
   }
 
   // Notes a grid within the limits that has no fill.
@@ -243,27 +213,22 @@ export class GridsView {
     if (search.unfilled.length < MOST_MISSES) search.unfilled.push(grid);
   }
 
-  // Shows a judged grid at its place among the others.
+  // Shows the best grids, of which one was judged anew.
   /**
    * @param {Searching} search
-   * @param {Grid} grid
-   * @param {Look} look
-   * @param {boolean} isFilled
-   * @param {(number | null)[]} scores
+   * @param {Trial} trial
    */
-  #add(search, grid, look, isFilled, scores) {
-    const figures = figuresOf(scores, this.#editor.list.weak);
-    const fills = figures ? `it fills: ${figuresText(figures)}` : 'it fills';
-    const verdict = isFilled ? { textContent: fills, className: 'here' } : { textContent: `${look.fewest.toLocaleString('en')} ${look.fewest === 1 ? 'word' : 'words'} for the tightest light` };
-    const card = this.#card(search.wanted, grid, verdict);
-    search.judged.push({ card, figures, isFilled, logs: look.logs });
-    search.judged = search.judged.sort(byWorth).slice(0, MOST_KEPT);
-    search.count++;
-    this.#best = search.judged.slice(0, MOST_SHOWN).map(({ card }) => card);
+  #showBest({ wanted, trials, cards }, trial) {
+    const { best } = trials;
+    const card = this.#card(wanted, trial.grid, verdictOn(trial));
+    // what is pointed at stays, and says what is known of it now
+    cards.get(trial)?.replaceChildren(...card.childNodes);
+    if (!cards.has(trial)) cards.set(trial, card);
+    this.#best = best.flatMap((one) => cards.get(one) ?? []);
     const { grids } = this.#elements;
     // while the pointer is over a grid, others come after those that are shown
     if (!grids.querySelector('.pattern:hover:not(:has(.bad))')) this.#arrange();
-    else if (grids.children.length < MOST_SHOWN) grids.append(card);
+    else grids.append(...this.#best.filter((one) => !one.isConnected).slice(0, Math.max(0, MOST_SHOWN - grids.children.length)));
   }
 
   // Shows the best grids in their order. One that has the focus keeps it.
@@ -285,11 +250,13 @@ export class GridsView {
   async #showMisses(search, worker) {
     const unfilled = search.unfilled.map((grid) => ({ grid, faults: ['nofill'] }));
     const misses = [...unfilled, ...search.told.flatMap(({ nearest }) => nearest ?? [])].slice(0, MOST_MISSES);
-    /** @type {Look[]} */
-    const looks = [];
-    for (const { grid } of misses) looks.push(await worker.call('lookAtGrid', { lines: linesOf(grid) }));
-    if (!this.#isOn(search.turn)) return;
-    this.#elements.grids.replaceChildren(...misses.map((miss, at) => this.#card(search.wanted, miss.grid, missOf(miss, looks[at]), looks[at].dead)));
+    const cards = [];
+    for (const miss of misses) {
+      const look = await worker.call('lookAtGrid', { lines: linesOf(miss.grid) });
+      cards.push(this.#card(search.wanted, miss.grid, missOf(miss, look), look.dead));
+    }
+    // another worker may have judged a grid meanwhile
+    if (this.#isOn(search.turn) && !search.trials.count) this.#elements.grids.replaceChildren(...cards);
   }
 
   // `dead` has the cells of lights without a word, which are marked.
@@ -315,7 +282,7 @@ export class GridsView {
 
   // How many grids are judged, how many boards keep the limits, and what keeps most of the others from that.
   /** @param {Searching} search */
-  #summary({ count, lost, told }) {
+  #summary({ trials: { count }, lost, told }) {
     const tried = told.reduce((sum, one) => sum + (one?.tried ?? 0), 0);
     /** @type {Map<string, number>} */
     const faults = new Map();
@@ -346,15 +313,17 @@ export class GridsView {
   }
 }
 
-const linesOf = (/** @type {Grid} */ grid) => bodyOf(recordOfGrid(grid));
-
-// Orders judged grids: those that fill come first, the best words first; of others those whose lights have the most words.
-const byWorth = (/** @type {Judged} */ one, /** @type {Judged} */ other) => Number(other.isFilled) - Number(one.isFilled) || byFigures(one, other) || other.logs - one.logs;
+// What is said of a judged grid.
+/** @param {Trial} trial */
+function verdictOn({ look: { fewest }, isFilled, figures }) {
+  if (isFilled) return { textContent: figures ? `it fills: ${figuresText(figures)}` : 'it fills', className: 'here' };
+  return { textContent: `${fewest.toLocaleString('en')} ${fewest === 1 ? 'word' : 'words'} for the tightest light` };
+}
 
 // What is said of a board that is no grid.
 /**
  * @param {Miss} miss
- * @param {Look} look
+ * @param {{ unmatched: string[] }} look
  */
 function missOf({ faults }, { unmatched }) {
   const { length } = unmatched;
