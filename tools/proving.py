@@ -151,9 +151,14 @@ class Build:
             told.write_text(version)
         for crate in self.crates:
             done = MADE / f"{crate}.done"
-            if not is_newer(done, [crate]) or done.read_text().split() != uses()[crate] or {*under(crate)} & {*self.due}:
+            if not is_newer(done, [crate]) or done.read_text().split() != uses()[crate] or self.is_overtaken(crate):
                 done.unlink(missing_ok=True)
                 self.due.append(crate)
+
+    def is_overtaken(self, crate):
+        """Whether a crate below is due, or was proved after this one, as by a check of a crate between them."""
+        began = lambda name: (MADE / f"{name}.done").stat().st_mtime_ns
+        return any(it in self.due or began(it) > began(crate) for it in under(crate))
 
     # ---- the schedule and the progress
 

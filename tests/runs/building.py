@@ -87,6 +87,10 @@ def proves_what_changed(room, program):
     (room / "top/crates.txt").touch()
     ended = call(room, "program", capture_output=True)
     compare("a list that is touched", lines_without_times(ended.stderr), [BEGIN, "xw: built in TIME"])
+    (room / "top/crates/low/src").touch()
+    call(room, "check", "xw", capture_output=True, check=True)
+    ended = call(room, "program", capture_output=True)
+    compare("a crate below that a check proved", lines_without_times(ended.stderr), [BEGIN, "xw: xw proved, 2 of 2; TIME", "xw: built in TIME"])
 
 
 BEGIN = "xw: building; the first time this takes some minutes, since every crate is proved"
