@@ -68,7 +68,10 @@ LEFT = """
 xw_answers/proofs/Escapes: same_judged
 xw_answers/proofs/Recording: one_line put_line_parts spot_parts
 xw_arguments/proofs/Rows: found_by called no_convert no_check
-xw_cli/proofs/Steps: replays explained_so_far resumed unresumed left_told left_untold left_nowhere
+xw_best/proofs/ClimbLemmas: restarted work_kept work_made work_done
+xw_best/proofs/LeastLemmas: worst_none
+xw_cli/proofs/Steps: replays resumed unresumed
+xw_cli_files/proofs/Steps: explained_so_far left_told left_untold left_nowhere
 xw_desk/proofs/Checks: not_read
 xw_desk/proofs/Writing: reasoned unreasoned
 xw_feas/proofs/EditsLemmas: block_refused refusal_made
@@ -83,15 +86,9 @@ xw_files/proofs/TextLemmas/Lines: trim_front-blank
 xw_files/proofs/TextLemmas/Numbers: number_small
 xw_files/proofs/TextLemmas/Whole: field_shows
 xw_files/proofs/TextLemmas/Writes: rows_start row_fits
-xw_fill/proofs/CheckLemmas: repeated_at
-xw_fill/proofs/ClimbLemmas: restarted work_kept work_made work_done
 xw_fill/proofs/EntryLemmas: list_good_from
-xw_fill/proofs/Frames: AreFrames-last
-xw_fill/proofs/LeastLemmas: worst_none
-xw_fill/proofs/LetterSearch: shaped_start
 xw_fill/proofs/EnteredSinceLemmas: noted-kept noted-new
 xw_fill/proofs/ReasonLemmas: good_letter
-xw_fill/proofs/ScanLemmas: differ-length
 xw_fill/proofs/SearchLemmas: alive-words
 xw_fill/proofs/SuggestingLemmas: none_past
 xw_fill/proofs/WordsLemmas: next_not_entered
@@ -105,6 +102,10 @@ xw_lines/proofs/Turns: speaks-map
 xw_net/proofs/Edits/ChangeFacts: word_brings_none
 xw_plain/proofs/FlagsLemmas: KeepsBelow-start
 xw_plain/proofs/Strip: StripsUnsupported-start KeepsLettersBelow-start
+xw_search/proofs/CheckLemmas: repeated_at
+xw_search/proofs/Frames: AreFrames-last
+xw_search/proofs/LetterSearch: shaped_start
+xw_search/proofs/LightLemmas: differ-length
 xw_session_laws/proofs/JournalFiles: kept_behind
 xw_words/proofs/ColumnLemmas: column_pushed no_column_of
 xw_words/proofs/DictionaryLemmas: matching_steps

@@ -19,7 +19,8 @@ use Rattle.xw_desk.specs.Desk.{Moment}
 use Rattle.xw_desk.specs.Files.{IfNamed, IsUnread}
 use Rattle.xw_cli.specs.Answered.{AnswersInput, EndsWithLf, HasBefore, LeavesLast}
 use Rattle.xw_cli.specs.SessionFiles.{file_of}
-use Rattle.xw_cli.specs.Performed.{HasBoth, HasPuzzle, HasWords, IsOpened, IsUnopened}
+use Rattle.xw_cli.specs.Performed.{HasBoth, HasPuzzle, IsOpened, IsUnopened}
+use Rattle.xw_cli_files.specs.WordLists.{HasWords}
 
 -- the moment with this input and this output
 abbrev pub with_streams : {I O : Type 0} → (I → List ℕ) → (I → Bool) → (I → ℕ) → (O → List ℕ) → (O → ℕ) → (O → Bool) → Moment → I → O → Moment

@@ -1,5 +1,5 @@
 -- How the input of a call is answered.
-use Rattle.std.specs.Prelude.{◌≡◌, ◌≢◌, ◌⊎◌, ℕ, ◌-◌, ◌^◌, ◌≤◌, Bool, IsTrue, List, [], ◌++◌, length, Option, Some, None}
+use Rattle.std.specs.Prelude.{◌≡◌, ◌≢◌, ◌⊎◌, ℕ, ◌-◌, ◌^◌, ◌≤◌, IsTrue, List, [], ◌++◌, length, Option, Some, None}
 use Rattle.xw_lines.specs.Cut.{ended_lines, last_piece, lines_of}
 use Rattle.xw_lines.specs.Device.{HasFailed, saturated}
 use Rattle.xw_lines.specs.Run.{Speaks, StopsIn}

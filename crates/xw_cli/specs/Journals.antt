@@ -13,8 +13,10 @@ use Rattle.xw_desk.specs.declared.failure.Failure.TheVariants as failures
 use Rattle.xw_desk.specs.Desk.{Asks, Moment, ReportsIf}
 use Rattle.xw_desk.specs.Files.{IsLineFault}
 use Rattle.xw_cli.specs.declared.session_files.Refusals.{Refusals}
-use Rattle.xw_cli.specs.SessionFiles.{Replays, cut_line, file_of, unmarked}
+use Rattle.xw_cli.specs.SessionFiles.{Replays, file_of, unmarked}
+use Rattle.xw_cli_files.specs.ReplayReports.{cut_line}
 use Rattle.xw_desk.specs.Failures.{IsFaultOf}
+use Rattle.xw_cli_files.specs.JournalFiles.{IsNotOpened, IsNotFound}
 
 -- What a journal begins with, from the bytes that its file has. If these are at most a part of the first line, it
 -- begins with the first line; if they have the first line, with the bytes up to the last line that counts; if they are
@@ -54,12 +56,6 @@ pub record HasReplayed (name : List ℕ) (is_synced : Bool) (start : SessionStat
   pub mid : Moment
   pub is_begun : IsBegun name bytes is_synced start refused state old mid
   pub cut : ReportsIf (drops (unmarked bytes)) (cut_line name) mid new
-
--- The journal with this name was not opened.
-pub record IsNotOpened (name : List ℕ) (failure : Failure) (old new : Moment) : Type 0 where
-  pub fault : DiskFault
-  pub told : IsFaultOf fault name failure
-  pub asks : Asks (open_ name (Err fault)) old new
 
 -- why a file without the first line begins no journal: its last line, the one after all line feeds, is cut, or it has only
 -- comments, as run cases show
@@ -111,12 +107,6 @@ pub record IsNotEnded (name : List ℕ) (state : SessionState) (failure : Failur
   pub fault : DiskFault
   pub told : IsFaultOf fault name failure
   pub asks : Asks (end name (file_of state) (Err fault)) old new
-
--- The disk said why the name no longer leads to the journal, and nothing else was asked.
-pub record IsNotFound (name : List ℕ) (failure : Failure) (old new : Moment) : Type 0 where
-  pub fault : DiskFault
-  pub told : IsFaultOf fault name failure
-  pub asks : Asks (find name (Err fault)) old new
 
 -- The name led to the journal, and then an allocation or the disk failed.
 pub record IsFoundInVain (name : List ℕ) (state : SessionState) (failure : Failure) (old new : Moment) : Type 0 where

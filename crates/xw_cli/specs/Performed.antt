@@ -1,7 +1,7 @@
 -- What a call does, and which failures may end it.
 use Rattle.std.specs.Prelude.{◌≡◌, ◌⊎◌, ◌||◌, ℕ, nat_lt, Bool, true, false, List, [], Option, Some, None, Result, Ok, Err, IfErr, IsErr, MatchResult, codes, is_some, map}
 use Rattle.std.specs.Borrow.{Bor}
-use Rattle.xw_words.specs.Dictionary.{Dictionary, no_words}
+use Rattle.xw_words.specs.Dictionary.{Dictionary}
 use Rattle.xw_grid.specs.Puzzle.{PuzzleShown}
 use Rattle.xw_files.specs.declared.kind.Kind.{Kind}
 use Rattle.xw_journal.specs.Journal.{AnswersJournaled, JournaledState, StopsAtJournal}
@@ -26,48 +26,20 @@ use Rattle.xw_desk.specs.Apart.{AreInUse, AreUnwritable, AreWritable, IsNotApart
 use Rattle.xw_desk.specs.Checked.{IsCheckOf}
 use Rattle.xw_desk.specs.Desk.{Asks, Moment, ReportsIf}
 use Rattle.xw_desk.specs.Explained.{IsReported, IsTold}
-use Rattle.xw_desk.specs.Files.{IfNamed, IsFound, IsTextTold, IsUnread}
+use Rattle.xw_desk.specs.Files.{IfNamed, IsFound, IsUnread}
 use Rattle.xw_desk.specs.ExitStatus.{run_ended}
 use Rattle.xw_desk.specs.Failures.{IsCannotWrite, IsReplaced}
 use Rattle.xw_cli.specs.Answered.{AnswersInput, HasBefore}
 use Rattle.xw_cli.specs.Journals.{HasReplayed, IsEnded, IsUnended, IsUnreplayed}
 use Rattle.xw_cli.specs.declared.session_files.Refusals.{Refusals}
 use Rattle.xw_cli.specs.Unended.{KeepsBefore}
-use Rattle.xw_cli.specs.Put.{is_kept, of_session, IsNotPutOver, IsPutOver}
-use Rattle.xw_cli.specs.Saved.{IsNotOver, IsOver, Leaves}
-use Rattle.xw_cli.specs.SessionFiles.{IsLoaded, IsResumed, IsUnloaded, file_of}
-
--- ---- convert
-
--- The first file was read, and the second was replaced by the puzzle that the bytes of the first mean. At last it is
--- reported that the puzzle was written as text.
-pub record IsConverted (from_name to_name : List ℕ) (old new : Moment) : Type 0 where
-  pub kind : Kind
-  pub puzzle : PuzzleShown
-  pub mid : Moment
-  pub found : IsFound from_name kind puzzle old mid
-  pub written : Moment
-  pub writes : IsPutOver to_name puzzle mid written
-  pub text : IsTextTold to_name written new
-
--- The first file was read, and its puzzle was not written to the second.
-pub record IsNotWritten (from_name to_name : List ℕ) (failure : Failure) (old new : Moment) : Type 0 where
-  pub kind : Kind
-  pub puzzle : PuzzleShown
-  pub mid : Moment
-  pub found : IsFound from_name kind puzzle old mid
-  pub unwritten : IsNotPutOver to_name puzzle failure mid new
-
--- why the puzzle of a file is not written to another
-abbrev pub IsUnconverted : List ℕ → List ℕ → Failure → Moment → Moment → Type 0
-IsUnconverted from_name to_name failure old new = IsUnread from_name failure old new ⊎ IsNotWritten from_name to_name failure old new
+use Rattle.xw_cli_files.specs.Put.{is_kept, of_session, IsNotPutOver, IsPutOver}
+use Rattle.xw_cli_files.specs.Saved.{IsNotOver, IsOver, Leaves}
+use Rattle.xw_cli.specs.SessionFiles.{IsResumed, file_of}
+use Rattle.xw_cli_files.specs.WordLists.{HasWords, HasNoWords}
+use Rattle.xw_cli_files.specs.Converted.{IsConverted, IsUnconverted}
 
 -- ---- the start of a session
-
--- the dictionary that a session begins with: an empty one, or the one that the bytes of the named file list
-abbrev pub HasWords : Option (Bor (List ℕ)) → Dictionary → Moment → Moment → Type 0
-HasWords None words old new = (words ≡ no_words) × (new ≡ old)
-HasWords (Some file) words old new = IsLoaded file.now words old new
 
 -- the puzzle that a session begins with: an empty one, or the one that the bytes of the named file mean
 abbrev pub HasPuzzle : Option (Bor (List ℕ)) → PuzzleShown → Moment → Moment → Type 0
@@ -100,11 +72,6 @@ pub record IsUnbuilt (files : SessionFiles) (failure : Failure) (old new : Momen
   pub puzzle : PuzzleShown
   pub has_both : HasBoth files words puzzle old new
   pub memory : failure ≡ failures.Memory
-
--- why the dictionary of a session is not made
-abbrev pub HasNoWords : Option (Bor (List ℕ)) → Failure → Moment → Moment → Type 0
-HasNoWords None failure old new = (failure ≡ failures.Memory) × (new ≡ old)
-HasNoWords (Some file) failure old new = IsUnloaded file.now failure old new
 
 -- why a session is not opened
 abbrev pub IsUnopened : SessionFiles → Failure → Moment → Moment → Type 0

@@ -5,10 +5,11 @@ ghost use Rattle.xw_cli.specs.Performed.{IsJournalEnd, IsJournalRun, RunsOrFails
 
 use crate::answer::greet;
 use crate::input::answer_input;
-use crate::journal::{close_journal, resume_journal};
+use crate::journal::resume_journal;
 use crate::session_files::Refusals;
 use crate::unended::end_answered;
 use xw_arguments::SessionFiles;
+use xw_cli_files::journal_file::close_journal;
 use xw_desk::desk::Desk;
 use xw_desk::failure::{ExitStatus, Failure, run_status};
 use xw_desk::outlet::Outlet;

@@ -1,23 +1,20 @@
 //! Ends a session: saves it, ends its journal, and writes its puzzle.
-ghost use Rattle.std.specs.Prelude.{◌≡◌, nat_lt, IfErr, MatchResult, OnOk, Ok, Err};
+ghost use Rattle.std.specs.Prelude.{nat_lt, IfErr, OnOk};
 ghost use Rattle.xw_session.specs.Opening.{puzzle_of};
 ghost use Rattle.xw_desk.specs.Apart.{IsNotApart};
-ghost use Rattle.xw_disk.specs.Disk.{leave};
-ghost use Rattle.xw_desk.specs.Desk.{Asks};
 ghost use Rattle.xw_cli.specs.Performed.{Closes, Ends, EndsJournal, IsNotPut, IsNotSaved, IsPut, IsSaved, StillPuts};
-ghost use Rattle.xw_cli.specs.Put.{is_kept as spec_is_kept, of_session as spec_of_session, unkept_failure, unkept_location, IsNotPutOver, IsPutOver};
-ghost use Rattle.xw_cli.specs.Saved.{IsNotOver, IsOver, KeepsAs, Leaves, UnkeptAs};
+ghost use Rattle.xw_cli_files.specs.Put.{IsNotPutOver, IsPutOver};
 
 use crate::journal::end_journal;
-use crate::put::put_puzzle;
-use crate::session_files::{Refusals, keep_old, standing_of, tell_left};
+use crate::session_files::Refusals;
 use xw_arguments::SessionFiles;
-use xw_desk::apart::{keep_apart, keep_session_apart};
+use xw_cli_files::put::{is_kept, of_session, put_puzzle};
+use xw_cli_files::saved::{leave_unsaved, replace_saved};
+use xw_desk::apart::keep_apart;
 use xw_desk::desk::Desk;
 use xw_desk::failure::{ExitStatus, Failure};
-use xw_desk::location::Location;
 use xw_desk::outlet::Outlet;
-use xw_disk::{Disk, DiskFault, Standing};
+use xw_disk::Disk;
 use xw_feas::feasible::Feasible;
 use xw_journal::file::saved;
 use xw_lines::{Sink, Source};
@@ -120,87 +117,6 @@ fn write_saved<'a, F: Feasible, D: Disk, I: Source, O: Outlet, E: Sink>(
     }
 }
 
-/// Replaces a file by these bytes of a session, unless it is another file of the call. What the file has is kept first
-/// if it would be lost.
-fn replace_saved<'a, D: Disk, I: Source, O: Outlet, E: Sink>(
-    desk: &mut Desk<D, I, O, E>,
-    file: &'a str,
-    named: SessionFiles<'a>,
-    is_loss: bool,
-    bytes: &[u8],
-) -> Result<(), Failure<'a>>
-    ensures ok { OnOk result (IsOver file.entry.now is_loss bytes.now desk.old desk.new) }
-    ensures err { IfErr result (λ failure. IsNotOver named.entry file.entry.now is_loss bytes.now failure desk.old desk.new) }
-{
-    keep_session_apart(&desk.disk, named)?;
-    let standing = standing_of(desk, file);
-    keep_as(desk, file, named.to_file, standing, is_loss, bytes)?;
-    desk.write_file(file, bytes)
-}
-
-/// Keeps a file under another name if these bytes are written over it and its own would be lost: it is not the one that was resumed, it has changed since,
-/// or a line of it was refused.
-fn keep_as<'a, D: Disk, I: Source, O: Outlet, E: Sink>(
-    desk: &mut Desk<D, I, O, E>,
-    file: &'a str,
-    apart: Option<&str>,
-    standing: Standing,
-    is_loss: bool,
-    written: &[u8],
-) -> Result<(), Failure<'a>>
-    ensures ok { OnOk result (KeepsAs standing is_loss file.entry.now written.now desk.old desk.new) }
-    ensures err { IfErr result (λ failure. UnkeptAs standing is_loss file.entry.now failure desk.old desk.new) }
-{
-    match standing {
-        Standing::Nothing => Ok(()),
-        Standing::Other => keep_old(desk, file, apart, false, written),
-        Standing::AsRead => {
-            if is_loss {
-                keep_old(desk, file, apart, true, written)
-            } else {
-                Ok(())
-            }
-        }
-    }
-}
-
-/// Leaves the bytes of a session that a file did not get in another file, and reports its name. Leaves nothing if an
-/// allocation failed. Returns the failure to report.
-fn leave_unsaved<'a, D: Disk, I: Source, O: Outlet, E: Sink>(
-    desk: &mut Desk<D, I, O, E>,
-    file: &'a str,
-    apart: Option<&str>,
-    bytes: &[u8],
-    failure: Failure<'a>,
-) -> Failure<'a>
-    ensures { Leaves file.entry.now bytes.now failure.entry result desk.old desk.new }
-{
-    if let Failure::Memory = failure {
-        return failure;
-    }
-    let Ok(place) = leave_bytes(desk, file, apart, bytes) else {
-        return failure;
-    };
-    match tell_left(desk, file, place.as_str()) {
-        Ok(()) => failure,
-        Err(memory) => memory,
-    }
-}
-
-/// Leaves bytes that a file did not get in another file, and returns its name.
-fn leave_bytes<D: Disk, I: Source, O: Outlet, E: Sink>(
-    desk: &mut Desk<D, I, O, E>,
-    file: &str,
-    apart: Option<&str>,
-    bytes: &[u8],
-) -> Result<String, DiskFault>
-    ensures { MatchResult result
-        (λ place. Asks (leave file.now bytes.now (Ok place.bytes.items)) desk.old desk.new)
-        (λ fault. Asks (leave file.now bytes.now (Err fault)) desk.old desk.new) }
-{
-    desk.disk.leave(file, apart, bytes)
-}
-
 /// Writes the puzzle of a session that ended to a file if one is given. Fails if the files of the call were not apart, or
 /// if two have become one since the session began.
 fn write_puzzle_if<'a, F: Feasible, D: Disk, I: Source, O: Outlet, E: Sink>(
@@ -221,48 +137,6 @@ fn write_puzzle_if<'a, F: Feasible, D: Disk, I: Source, O: Outlet, E: Sink>(
     match put(desk, file, named.save_file, session) {
         Ok(()) => Ok(()),
         Err(failure) => Err(of_session(failure, is_kept(named))),
-    }
-}
-
-/// Returns whether a file of the call keeps the session.
-fn is_kept(named: SessionFiles<'_>) -> bool
-    ensures { result ≡ spec_is_kept named.entry }
-{
-    named.save_file.is_some() || named.journal_file.is_some()
-}
-
-/// Returns the failure of the puzzle of a session. An empty cell is told in other words if no file keeps the session.
-fn of_session<'a>(failure: Failure<'a>, is_kept: bool) -> Failure<'a>
-    ensures { result ≡ spec_of_session is_kept failure.entry }
-{
-    if is_kept { failure } else { unkept(failure) }
-}
-
-/// Returns the failure of the puzzle of a session that no file keeps.
-fn unkept<'a>(failure: Failure<'a>) -> Failure<'a>
-    ensures { result ≡ unkept_failure failure.entry }
-{
-    match failure {
-        Failure::Located {
-            file,
-            name,
-            location,
-        } => Failure::Located {
-            file,
-            name,
-            location: unkept_at(location),
-        },
-        _ => failure,
-    }
-}
-
-/// Returns the location of a fault in the puzzle of a session that no file keeps.
-fn unkept_at(location: Location) -> Location
-    ensures { result ≡ unkept_location location }
-{
-    match location {
-        Location::Cell(cell) => Location::Unkept(cell),
-        _ => location,
     }
 }
 

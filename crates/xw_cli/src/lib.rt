@@ -3,18 +3,14 @@
 
 mod answer;
 mod answer_journaled;
-mod convert;
 mod edit_session;
 mod end;
 mod input;
 mod journal;
-mod lists;
-mod lost;
 mod mark;
 mod open;
 mod perform;
 mod progress;
-mod put;
 mod saving;
 mod session_files;
 pub mod start;

@@ -4,11 +4,11 @@ ghost use Rattle.xw_grid.specs.Puzzle.{PuzzleShown};
 ghost use Rattle.xw_session.specs.Opening.{empty_puzzle, opened_on};
 ghost use Rattle.xw_desk.specs.declared.failure.Failure.TheVariants.{Memory};
 ghost use Rattle.xw_desk.specs.Files.{IsUnread};
-ghost use Rattle.xw_cli.specs.Performed.{HasNoWords, HasPuzzle, HasWords, IsOpened, IsUnopened};
+ghost use Rattle.xw_cli.specs.Performed.{HasPuzzle, IsOpened, IsUnopened};
 
-use crate::session_files::read_dictionary;
 use std::alloc::Global;
 use xw_arguments::SessionFiles;
+use xw_cli_files::word_list::dictionary;
 use xw_desk::desk::Desk;
 use xw_desk::failure::Failure;
 use xw_desk::outlet::Outlet;
@@ -48,20 +48,6 @@ fn open<'a, F: Feasible, D: Disk, I: Source, O: Outlet, E: Sink>(
     match named.from_file {
         Some(file) => open_puzzle(desk, bank, file),
         None => open_empty(desk.alloc, bank),
-    }
-}
-
-/// Loads the word list if one is given, and otherwise returns an empty dictionary.
-fn dictionary<'a, D: Disk, I: Source, O: Outlet, E: Sink>(
-    desk: &mut Desk<D, I, O, E>,
-    named: Option<&'a str>,
-) -> Result<Bank, Failure<'a>>
-    ensures ok { IfOk result (λ bank. HasWords named.entry bank.words desk.old desk.new) }
-    ensures err { IfErr result (λ failure. HasNoWords named.entry failure desk.old desk.new) }
-{
-    match named {
-        Some(file) => read_dictionary(desk, file),
-        None => Bank::new(desk.alloc).map_err(|_| Failure::Memory),
     }
 }
 

@@ -2,9 +2,9 @@
 ghost use Rattle.std.specs.Prelude.{◌≡◌, ◌||◌};
 ghost use Rattle.xw_cli.specs.Performed.{IsPerformed, Performs};
 
-use crate::convert::convert;
 use crate::edit_session::edit_session;
 use xw_arguments::Call;
+use xw_cli_files::convert::convert;
 use xw_desk::desk::Desk;
 use xw_desk::failure::{ExitStatus, Failure};
 use xw_desk::outlet::Outlet;

@@ -1,18 +1,16 @@
 //! What follows a last line of the input that has no LF: it may have been cut, so the session before it is kept.
-ghost use Rattle.std.specs.Prelude.{◌≡◌, IsOkUnless, OnErr, OnOk, option_map};
-ghost use Rattle.xw_desk.specs.declared.failure.Failure.TheVariants.{Memory};
-ghost use Rattle.xw_desk.specs.Desk.{Reports};
+ghost use Rattle.std.specs.Prelude.{◌≡◌, option_map};
 ghost use Rattle.xw_cli.specs.Performed.{EndsAfter};
-ghost use Rattle.xw_cli.specs.Unended.{KeepsBefore, KeepsBeside, before_line, record_file, unended_lines};
+ghost use Rattle.xw_cli.specs.Unended.{KeepsBefore, record_file, unended_lines};
 
 use crate::end::end_session;
-use crate::session_files::{Refusals, keep_bytes};
+use crate::session_files::Refusals;
 use xw_arguments::SessionFiles;
+use xw_cli_files::before::keep_beside;
 use xw_desk::desk::Desk;
 use xw_desk::failure::{ExitStatus, Failure};
 use xw_desk::outlet::Outlet;
 use xw_disk::Disk;
-use xw_disk::replacing::kept_name;
 use xw_feas::feasible::Feasible;
 use xw_journal::file::saved;
 use xw_lines::{Sink, Source};
@@ -79,38 +77,4 @@ fn record_file<'a>(named: SessionFiles<'a>) -> Option<&'a str>
         Some(file) => Some(file),
         None => named.journal_file,
     }
-}
-
-/// Keeps these bytes beside a file, if one is named, and reports it.
-fn keep_beside<'a, D: Disk, I: Source, O: Outlet, E: Sink>(
-    desk: &mut Desk<D, I, O, E>,
-    file: Option<&'a str>,
-    apart: Option<&str>,
-    bytes: &[u8],
-) -> Result<(), Failure<'a>>
-    ensures { KeepsBeside file.entry bytes.now result desk.old desk.new }
-{
-    let Some(file) = file else {
-        return Ok(());
-    };
-    let number = keep_bytes(desk, file, apart, bytes)?;
-    tell_before(desk, file, number)
-}
-
-/// Reports that the session before the last line is kept under the name with this number.
-fn tell_before<'a, D: Disk, I: Source, O: Outlet, E: Sink>(
-    desk: &mut Desk<D, I, O, E>,
-    file: &'a str,
-    number: u32,
-) -> Result<(), Failure<'a>>
-    ensures told { OnOk result (Reports (before_line file.entry.now number) desk.old desk.new) }
-    ensures memory { IsOkUnless result Memory }
-    ensures untold { OnErr result (desk.new ≡ desk.old) }
-{
-    let name = kept_name(desk.alloc, file, number)?;
-    let text = format!(in desk.alloc;
-        "xw: {file}: the session before the last line is kept as {name}\n"
-    )?;
-    desk.report(text.as_bytes());
-    Ok(())
 }

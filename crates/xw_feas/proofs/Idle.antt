@@ -1,7 +1,7 @@
 -- Edits that no answer depends on.
-use Rattle.std.proofs.Common.{◌≡◌, ℕ, zero, suc, Bool, true, false, cond, not, List, [], ◌∷◌, set, Some, None, refl, sym, ◌∙◌, ap}
-use Rattle.std.specs.Prelude.{Option, Ok, Err, slice_get, is_some}
-use Rattle.std.proofs.lemmas.Bool.{false≢true}
+use Rattle.std.proofs.Common.{◌≡◌, ℕ, zero, suc, Bool, true, false, cond, not, List, [], ◌∷◌, set, eqb, Some, None, refl, sym, ◌∙◌, ap}
+use Rattle.std.specs.Prelude.{Option, Ok, Err, slice_get}
+use Rattle.std.proofs.lemmas.Bool.{eqb-true}
 use Rattle.xw_grid.specs.declared.cell.Cell.{Cell}
 use Rattle.xw_grid.specs.declared.cell.Square.{Square}
 use Rattle.xw_grid.specs.declared.cell.Square.TheVariants.{Block, Open}
@@ -10,18 +10,21 @@ use Rattle.xw_grid.specs.declared.fault.GridFault.TheVariants as grids
 use Rattle.xw_grid.specs.Grid.{Grid, is_inside, is_block, is_block_square, entry, letter_in, index_of, square_at}
 use Rattle.xw_grid.specs.Edit.{set_entry, with_entry, set_symmetry}
 use Rattle.xw_feas.specs.Board.{board_of}
-use Rattle.xw_feas.specs.State.{letter_set, cell_cleared, symmetry_chosen}
+use Rattle.xw_feas.specs.Shape.{fault_at}
+use Rattle.xw_feas.specs.State.{symmetry_chosen}
+use Rattle.xw_feas.specs.Written.{same_entry as same_letter, is_changed}
 use Rattle.xw_feas.specs.Layout.{IsIdle, layout_of}
 use Rattle.xw_feas.proofs.JudgeLemmas.{by_fault-Ok}
+use Rattle.xw_feas.proofs.WriteLemmas.{entry_taken}
 
--- writing the element that is there changes nothing
+-- setting an element to what it is changes nothing
 set_itself : {X : Type 0} (xs : List X) (index : ℕ) (x : X) → ((y : X) → slice_get xs index ≡ Some y → x ≡ y) → set xs index x ≡ xs
 set_itself [] index x same = refl
 set_itself (y ∷ ys) zero x same = ap (λ z. z ∷ ys) (same y refl)
 set_itself (y ∷ ys) (suc index) x same = ap (λ zs. y ∷ zs) (set_itself ys index x same)
 
-same_entry : (grid new : Grid) (cell : Cell) (letter : Option ℕ) → entry grid cell ≡ letter → set_entry grid cell letter ≡ Ok new → new ≡ grid
-same_entry grid new cell letter holds ok = by_tests (is_inside grid cell) (is_block grid cell) refl refl ok where
+entry_stays : (grid new : Grid) (cell : Cell) (letter : Option ℕ) → entry grid cell ≡ letter → set_entry grid cell letter ≡ Ok new → new ≡ grid
+entry_stays grid new cell letter holds ok = by_tests (is_inside grid cell) (is_block grid cell) refl refl ok where
   by_square : (square : Square) → is_block_square (Some square) ≡ false → letter_in (Some square) ≡ letter → Open letter ≡ square
   by_square Block block h = cc
   by_square (Open other) block h = ap Open (sym h)
@@ -35,16 +38,6 @@ same_entry grid new cell letter holds ok = by_tests (is_inside grid cell) (is_bl
       sym made ∙ ap (λ (squares : List Square). record grid { squares = squares }) (set_itself grid.squares (index_of grid cell) (Open letter) (λ square found.
       by_square square (ap is_block_square (sym (at ∙ found)) ∙ is) (ap letter_in (sym (at ∙ found)) ∙ holds)))
 
-pub set_is_idle : (grid : Grid) (cell : Cell) (letter : ℕ) → entry grid cell ≡ Some letter → IsIdle grid (letter_set cell letter)
-set_is_idle grid cell letter holds new ok =
-    let same = same_entry grid new cell (Some letter) holds (by_fault-Ok (set_entry grid cell (Some letter)) new ok) in
-    ap layout_of same
-
-pub clear_is_idle : (grid : Grid) (cell : Cell) → entry grid cell ≡ None → IsIdle grid (cell_cleared cell)
-clear_is_idle grid cell holds new ok =
-    let same = same_entry grid new cell None holds (by_fault-Ok (set_entry grid cell None) new ok) in
-    ap layout_of same
-
 pub symmetry_is_idle : (grid : Grid) (kind : Symmetry) → IsIdle grid (symmetry_chosen kind)
 unfolding board_of
 symmetry_is_idle grid kind new ok = by_test _ (by_fault-Ok (set_symmetry grid kind) new ok) where
@@ -54,7 +47,20 @@ symmetry_is_idle grid kind new ok = by_test _ (by_fault-Ok (set_symmetry grid ki
       let made : record grid { symmetry = kind } ≡ new = cc in
       sym (ap layout_of made)
 
-pub none_there : {X : Type 0} (found : Option X) (none : Bool) → is_some found ≡ not none → none ≡ true → found ≡ None
-none_there None none is h = refl
-none_there (Some x) true is h = absurd (false≢true (sym is))
-none_there (Some x) false is h = absurd (false≢true h)
+-- an entry that does not differ is the same
+unchanged : (letter entered : Option ℕ) → not (same_letter letter entered) ≡ false → entered ≡ letter
+unchanged None None h = refl
+unchanged None (Some other) h = cc
+unchanged (Some letter) None h = cc
+unchanged (Some letter) (Some other) h = ap Some (sym (eqb-true letter other (is_true (eqb letter other) h))) where
+  is_true : (b : Bool) → not b ≡ false → b ≡ true
+  is_true true h = refl
+  is_true false h = cc
+
+pub not_false : (b : Bool) → not b ≡ true → b ≡ false
+not_false true h = cc
+not_false false h = refl
+
+-- writing the entry that is there changes nothing
+pub entered_stays : (grid : Grid) (cell : Cell) (letter : Option ℕ) → fault_at grid cell ≡ None → is_changed grid (cell, letter) ≡ false → with_entry grid cell letter ≡ grid
+entered_stays grid cell letter none same = entry_stays grid (with_entry grid cell letter) cell letter (unchanged letter (entry grid cell) same) (entry_taken grid cell letter none)

@@ -1,13 +1,14 @@
 -- Lights by name: no two lights of a grid have the same name.
-use Rattle.std.proofs.Common.{◌≡◌, ℕ, ◌<◌, true, length, get_or, eqb, refl, sym, ap, ◌∙◌, arith, inl, inr, Some}
+use Rattle.std.proofs.Common.{◌≡◌, ℕ, ◌<◌, true, List, length, get_or, eqb, refl, sym, ap, ◌∙◌, arith, inl, inr, Some}
 use Rattle.std.proofs.lemmas.Bool.{cases_order, cases_eq, cases_Bool, and_parts, eq-eqb, ne_eqb, false≢true}
+use Rattle.std.proofs.lemmas.List.Quantifiers.{position-Some}
 use Rattle.xw_text.proofs.Position.{position_is_some}
 use Rattle.xw_grid.specs.declared.cell.LightName.{LightName}
 use Rattle.xw_grid.specs.declared.cell.Direction.{Direction}
 use Rattle.xw_grid.specs.declared.cell.Direction.TheVariants.{Across, Down}
 use Rattle.xw_grid.specs.declared.lights.Light.{Light}
 use Rattle.xw_grid.specs.Grid.{Grid}
-use Rattle.xw_grid.specs.Light.{lights_of, same_name, same_direction, index_named}
+use Rattle.xw_grid.specs.Light.{lights_of, same_name, same_direction, index_named, no_light}
 use Rattle.xw_grid.specs.LightLaws.{IsBefore}
 use Rattle.xw_grid.proofs.OrderLemmas.{lights_are_ordered}
 use Rattle.xw_grid.proofs.LightTableLemmas.{direction_is}
@@ -49,3 +50,10 @@ found_by_name grid index d below =
       | inr differ ↦ differ
     ])
     (same_name_itself name)
+
+-- a light that was found by a name has that name
+pub named_within : (lights : List Light) (name : LightName) (index : ℕ) → index_named lights name ≡ Some index → index < length lights
+named_within lights name index found = (position-Some (λ (light : Light). same_name light.name name) lights index no_light found).0
+
+pub named_is : (lights : List Light) (name : LightName) (index : ℕ) → index_named lights name ≡ Some index → (get_or lights index no_light).name ≡ name
+named_is lights name index found = names_same (get_or lights index no_light).name name (position-Some (λ (light : Light). same_name light.name name) lights index no_light found).1

@@ -78,14 +78,6 @@ saved_counts old new can len =
     ∙ ap length (row-with_least 0 old.words len)
     ∙ length-limited (capped 0) (known_words old.words len)
 
--- with the same least grade the dictionaries are equal
-pub saved_words : (old new : State) → IsWellFormed old → IsWellFormed new → CanSave old new → old.words.least ≡ new.words.least → new.words ≡ old.words
-saved_words old new old_formed new_formed can same =
-    sym (with_least-same new new_formed)
-    ∙ can.words new.words.least
-    ∙ ap (λ least. with_least least old.words) (sym same)
-    ∙ with_least-same old old_formed
-
 -- the dictionary of a saved state, from that of a state that it can be exchanged with
 pub saved_again : (saved now : State) (least : ℕ) → IsWellFormed saved → least ≡ saved.words.least → CanSave saved now → with_least least now.words ≡ saved.words
 saved_again saved now least formed same can = can.words least ∙ ap (λ n. with_least n saved.words) same ∙ with_least-same saved formed

@@ -1,6 +1,5 @@
--- A letter that may be tried is entered.
+-- A letter that may be tried can be written.
 use Rattle.std.proofs.Common.{◌≡◌, ℕ, true, false, cond, not, ◌&&◌, Option, Some, None, refl, sym, ◌∙◌, ap}
-use Rattle.std.specs.Prelude.{Result, Ok, Err, OnOk, IfErr, is_ok}
 use Rattle.std.proofs.Math.Logic.{∥∥₁_elim}
 use Rattle.std.proofs.lemmas.Bool.{and_parts, false≢true}
 use mathlib.Core.Bool.{Bool-set}
@@ -9,14 +8,13 @@ use Rattle.xw_grid.specs.declared.cell.Square.TheVariants.{Block, Open}
 use Rattle.xw_grid.specs.declared.cell.Cell.{Cell}
 use Rattle.xw_grid.specs.declared.fault.GridFault.{GridFault}
 use Rattle.xw_grid.specs.declared.fault.GridFault.TheVariants.{OutOfGrid, OnBlock}
-use Rattle.xw_grid.specs.Edit.{set_entry, with_entry}
 use Rattle.xw_grid.specs.Grid.{Grid, IsGrid, is_block, is_block_square, is_open, is_open_square, square_at, index_of}
 use Rattle.xw_grid.proofs.GridLemmas.{cell_at-index_of, index_of-lt}
 use Rattle.xw_letters.specs.Letter.{is_capital}
 use Rattle.xw_feas.specs.Board.{board_of, allows, entry, is_open as board_is_open}
-use Rattle.xw_feas.specs.State.{State, after, letter_set, with_grid, by_fault}
+use Rattle.xw_feas.specs.Shape.{fault_at}
+use Rattle.xw_feas.specs.State.{State}
 use Rattle.xw_feas.specs.Trying.{MayTryLetter}
-use Rattle.xw_feas.specs.declared.edit.Refusal.{Refusal}
 use Rattle.xw_feas.proofs.ChangesLemmas.{open_index}
 
 open_not_block : (grid : Grid) (cell : Cell) → is_open grid cell ≡ true → is_block grid cell ≡ false
@@ -37,15 +35,8 @@ no_block state cell letter is may =
     let opens = (and_parts (board_is_open board index) (is_capital letter) (and_parts (board_is_open board index && is_capital letter) (allows (entry board index) letter) stands).0).0 in
     open_not_block grid cell (ap (is_open grid) (sym (cell_at-index_of grid cell may.inside)) ∙ open_index grid index is (index_of-lt grid cell may.inside) ∙ opens))
 
-accepted : (state : State) (cell : Cell) (letter : ℕ) → IsGrid state.grid → MayTryLetter state cell letter → (next : State) × (after state (letter_set cell letter) ≡ Ok next)
-accepted state cell letter is may =
-    let grid = state.grid in
-    let set : set_entry grid cell (Some letter) ≡ Ok (with_entry grid cell (Some letter)) =
-    ap (λ b. cond {A = Result Grid GridFault} (not b) (Err OutOfGrid) (cond (is_block grid cell) (Err OnBlock) (Ok (with_entry grid cell (Some letter))))) may.inside
-    ∙ ap (λ b. cond {A = Result Grid GridFault} b (Err OnBlock) (Ok (with_entry grid cell (Some letter)))) (no_block state cell letter is may) in
-    (record state { grid = with_entry grid cell (Some letter) }, ap (λ r. with_grid state (by_fault r)) set)
-
--- so it is entered
-pub letter_made : (before now : State) (cell : Cell) (letter : ℕ) (result : Result (Unit {0}) Refusal) → IsGrid before.grid → MayTryLetter before cell letter → OnOk result (after before (letter_set cell letter) ≡ Ok now) → IfErr result (λ refusal. after before (letter_set cell letter) ≡ Err refusal) → after before (letter_set cell letter) ≡ Ok now
-letter_made before now cell letter (Ok done) is may made refused = made
-letter_made before now cell letter (Err refusal) is may made refused = absurd (false≢true (ap is_ok (sym refused ∙ (accepted before cell letter is may).1)))
+-- so a letter can be written there
+pub tried_takes : (state : State) (cell : Cell) (letter : ℕ) → IsGrid state.grid → MayTryLetter state cell letter → fault_at state.grid cell ≡ None
+tried_takes state cell letter is may =
+    ap (λ b. cond {A = Option GridFault} (not b) (Some OutOfGrid) (cond (is_block state.grid cell) (Some OnBlock) None)) may.inside
+    ∙ ap (λ b. cond {A = Option GridFault} b (Some OnBlock) None) (no_block state cell letter is may)

@@ -1,6 +1,6 @@
 -- Lemmas about writing lists of cells.
 use Rattle.std.proofs.Common.{◌≡◌, ℕ, zero, suc, ◌+◌, ◌<◌, Bool, true, false, cond, not, List, [], ◌∷◌, ◌++◌, drop, length, get_or, set, Some, None, refl, sym, ◌∙◌, ap, arith}
-use Rattle.std.specs.Prelude.{Option, Result, Ok, Err, IsOk, All, slice_get}
+use Rattle.std.specs.Prelude.{Option, Result, Ok, Err, slice_get}
 use Rattle.std.proofs.lemmas.List.{drop_more}
 use Rattle.xw_grid.specs.declared.cell.Cell.{Cell}
 use Rattle.xw_grid.specs.declared.cell.Square.{Square}
@@ -9,29 +9,39 @@ use Rattle.xw_grid.specs.declared.fault.GridFault.{GridFault}
 use Rattle.xw_grid.specs.declared.fault.GridFault.TheVariants.{OutOfGrid, OnBlock}
 use Rattle.xw_grid.specs.Grid.{Grid, IsGrid, is_inside, is_open, is_block, is_block_square, index_of}
 use Rattle.xw_grid.specs.Edit.{set_entry, with_entry}
+use Rattle.xw_feas.specs.declared.edit.Refusal.TheVariants as refusals
 use Rattle.xw_feas.specs.Shape.{fault_at}
-use Rattle.xw_feas.specs.State.{State, after, then_write, write_list, with_grid, by_fault, list_written}
+use Rattle.xw_feas.specs.State.{State, after, entered, then_write, write_list, with_grid, by_fault}
 use Rattle.xw_grid.proofs.ChangeLemmas.{open_from_no_block}
 
 -- ---- one cell
 
 -- the result of writing an entry, by the fault of the cell
-abbrev entered : Grid → Cell → Option ℕ → Option GridFault → Result Grid GridFault
-entered grid cell letter None = Ok (with_entry grid cell letter)
-entered grid cell letter (Some fault) = Err fault
+abbrev entry_by : Grid → Cell → Option ℕ → Option GridFault → Result Grid GridFault
+entry_by grid cell letter None = Ok (with_entry grid cell letter)
+entry_by grid cell letter (Some fault) = Err fault
 
-entry_by_fault : (grid : Grid) (cell : Cell) (letter : Option ℕ) → set_entry grid cell letter ≡ entered grid cell letter (fault_at grid cell)
+entry_by_fault : (grid : Grid) (cell : Cell) (letter : Option ℕ) → set_entry grid cell letter ≡ entry_by grid cell letter (fault_at grid cell)
 entry_by_fault grid cell letter = by_tests (is_inside grid cell) (is_block grid cell) where
-  by_tests : (inside block : Bool) → cond {A = Result Grid GridFault} (not inside) (Err OutOfGrid) (cond {A = Result Grid GridFault} block (Err OnBlock) (Ok (with_entry grid cell letter))) ≡ entered grid cell letter (cond {A = Option GridFault} (not inside) (Some OutOfGrid) (cond {A = Option GridFault} block (Some OnBlock) None))
+  by_tests : (inside block : Bool) → cond {A = Result Grid GridFault} (not inside) (Err OutOfGrid) (cond {A = Result Grid GridFault} block (Err OnBlock) (Ok (with_entry grid cell letter))) ≡ entry_by grid cell letter (cond {A = Option GridFault} (not inside) (Some OutOfGrid) (cond {A = Option GridFault} block (Some OnBlock) None))
   by_tests false block = refl
   by_tests true true = refl
   by_tests true false = refl
 
 pub entry_taken : (grid : Grid) (cell : Cell) (letter : Option ℕ) → fault_at grid cell ≡ None → set_entry grid cell letter ≡ Ok (with_entry grid cell letter)
-entry_taken grid cell letter none = entry_by_fault grid cell letter ∙ ap (entered grid cell letter) none
+entry_taken grid cell letter none = entry_by_fault grid cell letter ∙ ap (entry_by grid cell letter) none
 
 entry_refused : (grid : Grid) (cell : Cell) (letter : Option ℕ) (fault : GridFault) → fault_at grid cell ≡ Some fault → set_entry grid cell letter ≡ Err fault
-entry_refused grid cell letter fault found = entry_by_fault grid cell letter ∙ ap (entered grid cell letter) found
+entry_refused grid cell letter fault found = entry_by_fault grid cell letter ∙ ap (entry_by grid cell letter) found
+
+-- the same as an edit of a state
+pub entered_made : (state : State) (cell : Cell) (letter : Option ℕ) → fault_at state.grid cell ≡ None → after state (entered cell letter) ≡ Ok (record state { grid = with_entry state.grid cell letter })
+entered_made state cell (Some letter) none = ap (λ result. with_grid state (by_fault result)) (entry_taken state.grid cell (Some letter) none)
+entered_made state cell None none = ap (λ result. with_grid state (by_fault result)) (entry_taken state.grid cell None none)
+
+pub entered_refused : (state : State) (cell : Cell) (letter : Option ℕ) (fault : GridFault) → fault_at state.grid cell ≡ Some fault → after state (entered cell letter) ≡ Err (refusals.Grid fault)
+entered_refused state cell (Some letter) fault found = ap (λ result. with_grid state (by_fault result)) (entry_refused state.grid cell (Some letter) fault found)
+entered_refused state cell None fault found = ap (λ result. with_grid state (by_fault result)) (entry_refused state.grid cell None fault found)
 
 -- a cell that can be written is inside the grid and not a block
 taking : (grid : Grid) (cell : Cell) → fault_at grid cell ≡ None → (is_inside grid cell ≡ true) × (is_block grid cell ≡ false)
@@ -97,16 +107,3 @@ write_list-push (first ∷ list) grid written = by_first (set_entry grid first.0
       → then_write (write_list (list ++ written ∷ [])) result ≡ then_write (λ g. set_entry g written.0 written.1) (then_write (write_list list) result)
   by_first (Ok now) later = later now
   by_first (Err fault) later = refl
-
--- a list whose cells can be written is written
-pub list_taken : (state : State) (list : List (Cell × Option ℕ)) → All (λ (written : Cell × Option ℕ). fault_at state.grid written.0 ≡ None) list → IsOk (after state (list_written list))
-list_taken state list all = by_result (write_list list state.grid) (taken list state.grid (λ k written below. all k written below)) where
-  taken : (list : List (Cell × Option ℕ)) (grid : Grid) → ((k : ℕ) (d : Cell × Option ℕ) → k < length list → fault_at grid (get_or list k d).0 ≡ None) → IsOk (write_list list grid)
-  taken [] grid all = refl
-  taken (written ∷ list) grid all =
-      let none : fault_at grid written.0 ≡ None = all 0 written (omega arith) in
-      rw (entry_taken grid written.0 written.1 none) (taken list (with_entry grid written.0 written.1) (λ k d below. fault_kept grid written.0 written.1 none (get_or list k d).0 ∙ all (suc k) d (omega (arith, below))))
-
-  by_result : (result : Result Grid GridFault) → IsOk result → IsOk (with_grid state (by_fault result))
-  by_result (Ok grid) ok = refl
-  by_result (Err fault) ok = cc

@@ -1,7 +1,7 @@
-//! What a position tells of an edit.
+//! What an edit changed.
 use xw_grid::lights::Lights;
 
-/// What an edit changed. The cells that it wrote, and the lengths that it turned, are in the notes of the position.
+/// What the last edit of a position changed. `Notes` has the cells that it wrote and the lengths that it turned.
 #[derive(Drop)]
 pub enum Effect {
     /// Nothing that an answer depends on.
@@ -14,19 +14,7 @@ pub enum Effect {
     Shape(Lights),
     /// It added or struck a word, given by its length and its index.
     Word(usize, usize),
-    /// It chose a least grade, which made words active or left them out in the lengths of `Notes::turned`. This was
-    /// the least grade before it.
-    Least(u8),
-}
-
-impl Effect {
-    ghost use Rattle.std.specs.Prelude.{◌≡◌};
-    ghost use Rattle.xw_feas.specs.Effect.{is_list};
-
-    /// Whether the cells of a list are told.
-    pub(crate) fn is_list(&self) -> bool
-        ensures { result ≡ is_list self.now }
-    {
-        matches!(*self, Effect::List(_))
-    }
+    /// It chose a least grade, which made words active or left them out in the lengths of `Notes::turned`. The grade may have
+    /// made some active only if it is below the one before.
+    Least(bool),
 }

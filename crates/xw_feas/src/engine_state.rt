@@ -1,26 +1,28 @@
 //! A grid with its lights and a dictionary. An edit is judged, which changes nothing; once there is
-//! room for what is pending, it is made, which cannot fail, and tells what it changed.
-ghost use Rattle.std.specs.Prelude.{◌≡◌, ◌<◌, length, true, IfOk, IfErr, OnOk, OnErr, IsOk, IsOkUnless, Ok, Err};
+//! room for what is pending, it is made, which cannot fail, and what it changed is noted.
+ghost use Rattle.std.specs.Prelude.{◌≡◌, ◌<◌, ℕ, All, Option, None, length, true, IfOk, OnOk, IsOk, IsOkUnless, Ok};
+ghost use Rattle.xw_words.specs.declared.bank.Added.TheVariants.{Returned};
 ghost use Rattle.xw_words.specs.Bank.{has_room};
-ghost use Rattle.xw_words.specs.Dictionary.{IsDictionary, IsNew, add_answer, strike_answer, with_least};
-ghost use Rattle.xw_grid.specs.Edit.{set_symmetry as spec_set_symmetry};
+ghost use Rattle.xw_words.specs.Dictionary.{IsDictionary, IsNew, known_words, add_answer, strike_answer, with_least};
+ghost use Rattle.xw_grid.specs.declared.cell.Cell.{Cell as SpecCell};
+ghost use Rattle.xw_grid.specs.Edit.{set_symmetry};
 ghost use Rattle.xw_grid.specs.EditLaws.{SameShape};
-ghost use Rattle.xw_grid.specs.Grid.{IsGrid};
 ghost use Rattle.xw_grid.specs.Light.{lights_of};
-ghost use Rattle.xw_feas.specs.Pending.{in_place_action, shape_action, IsInPlace, IsJudged};
-ghost use Rattle.xw_feas.specs.Shape.{SameCounts, GrowsAt, IsReturned, IsAddRefused};
+ghost use Rattle.xw_feas.specs.Pending.{in_place_action, shape_action, CanPlace, IsInPlace, IsJudged};
+ghost use Rattle.xw_feas.specs.Shape.{fault_at, GrowsAt};
 ghost use Rattle.xw_feas.specs.Single.{IsWellFormed-prop};
-ghost use Rattle.xw_feas.specs.State.{Action, after, grid_after, action_of, add_word, entry_action, symmetry_chosen, word_added, word_struck, list_written, known_count, known_placed};
+ghost use Rattle.xw_feas.specs.State.{after, grid_after, action_of, add_word, light_of, entered, word_placed, symmetry_chosen, word_added, word_struck, list_written, least_chosen, known_count, known_placed};
 ghost use Rattle.xw_feas.specs.WellFormed.{IsWellFormed};
 
-use crate::edit::{Edit, EntryEdit, Refusal};
+use crate::edit::{Edit, Refusal};
 use crate::effect::Effect;
-use crate::notes::{Notes, make_noted};
+use crate::notes::{Notes, is_changed, make_noted};
 use crate::pending::{InPlace, Pending, ShapeEdit};
-use crate::place::{judge_place, place, place_known};
-use crate::write::{judge_cell, judge_list, write};
+use crate::place::{enter_word, judge_place, place_known};
+use crate::turned::turned_lengths;
+use crate::write::{enter_list, judge_cell, judge_list};
 use std::alloc::Global;
-use xw_grid::cell::{Cell, Symmetry};
+use xw_grid::cell::{Cell, LightName, Symmetry};
 use xw_grid::fault::GridFault;
 use xw_grid::grid::Grid;
 use xw_grid::lights::Lights;
@@ -43,7 +45,7 @@ pub struct EngineState {
 
 impl EngineState {
     ghost use Rattle.xw_feas.specs.EngineState.{state_of};
-    ghost use Rattle.xw_feas.specs.Effect.{IsTold};
+    ghost use Rattle.xw_feas.specs.Effect.{fields_by, IsCommitted, IsTold, Tells};
 
     /// The position of a grid and a dictionary. Returns `Memory` if an allocation fails.
     #[tactic(auto, using(crate::proofs::WellFormedLemmas::state_formed))]
@@ -63,14 +65,14 @@ impl EngineState {
         })
     }
 
-    /// Which kind of edit this is, or the rule's refusal.
+    /// Which kind of edit this is, with what was looked up for it, or the rule's refusal.
     pub fn judge<'a>(&self, edit: &Edit<'a>) -> Result<Pending<'a>, Refusal>
         ensures { IsJudged (state_of self.now) (action_of edit.now) result }
     {
         match *edit {
-            Edit::Set(cell, letter) => self.judge_entries(&EntryEdit::Set(cell, letter)),
-            Edit::Clear(cell) => self.judge_entries(&EntryEdit::Clear(cell)),
-            Edit::Place(name, word) => self.judge_entries(&EntryEdit::Place(name, word)),
+            Edit::Set(cell, letter) => self.judge_entry(cell, Some(letter)),
+            Edit::Clear(cell) => self.judge_entry(cell, None),
+            Edit::Place(name, word) => self.judge_place(name, word),
             Edit::Write(list) => self.judge_list(list),
             Edit::Block(cell) => self.judge_shape(ShapeEdit::Block(cell)),
             Edit::Bar(cell, side) => self.judge_shape(ShapeEdit::Bar(cell, side)),
@@ -81,23 +83,19 @@ impl EngineState {
         }
     }
 
-    fn judge_entries<'a>(&self, edit: &EntryEdit<'a>) -> Result<Pending<'a>, Refusal>
-        ensures { IsJudged (state_of self.now) (entry_action edit.now) result }
+    #[tactic(auto, using(crate::proofs::WriteLemmas::entered_refused))]
+    fn judge_entry<'a>(&self, cell: Cell, letter: Option<Letter>) -> Result<Pending<'a>, Refusal>
+        ensures { IsJudged (state_of self.now) (entered cell letter) result }
     {
-        match *edit {
-            EntryEdit::Set(cell, letter) => {
-                judge_cell(&self.grid, cell)?;
-                Ok(Pending::InPlace(InPlace::Entries(EntryEdit::Set(cell, letter))))
-            }
-            EntryEdit::Clear(cell) => {
-                judge_cell(&self.grid, cell)?;
-                Ok(Pending::InPlace(InPlace::Entries(EntryEdit::Clear(cell))))
-            }
-            EntryEdit::Place(name, word) => {
-                let _ = judge_place(&self.grid, &self.lights, name, word)?;
-                Ok(Pending::InPlace(InPlace::Entries(EntryEdit::Place(name, word))))
-            }
-        }
+        judge_cell(&self.grid, cell)?;
+        Ok(Pending::InPlace(InPlace::Enter(cell, letter)))
+    }
+
+    fn judge_place<'a>(&self, name: LightName, word: &'a [u8]) -> Result<Pending<'a>, Refusal>
+        ensures { IsJudged (state_of self.now) (word_placed name word.now) result }
+    {
+        let light = judge_place(&self.lights, name, word)?;
+        Ok(Pending::InPlace(InPlace::Place(light, word)))
     }
 
     fn judge_list<'a>(&self, list: &'a [(Cell, Option<Letter>)]) -> Result<Pending<'a>, Refusal>
@@ -120,9 +118,7 @@ impl EngineState {
     fn judge_symmetry<'a>(&self, kind: Symmetry) -> Result<Pending<'a>, Refusal>
         ensures { IsJudged (state_of self.now) (symmetry_chosen kind) result }
     {
-        if kind == Symmetry::Quarter && self.grid.width() != self.grid.height() {
-            return Err(Refusal::Grid(GridFault::NotSquare));
-        }
+        self.grid.judge_symmetry(kind)?;
         Ok(Pending::InPlace(InPlace::Symmetry(kind)))
     }
 
@@ -130,7 +126,7 @@ impl EngineState {
         ensures { IsJudged (state_of self.now) (word_added word.now grade) result }
     {
         Ok(match self.bank.judge_add(word)? {
-            Added::New(index) => Pending::New(word, grade, index),
+            Added::New(_) => Pending::New(word, grade),
             Added::Returned(index) => Pending::InPlace(InPlace::Return(word, grade, index)),
         })
     }
@@ -138,83 +134,164 @@ impl EngineState {
     fn judge_strike<'a>(&self, word: &'a [u8]) -> Result<Pending<'a>, Refusal>
         ensures { IsJudged (state_of self.now) (word_struck word.now) result }
     {
-        let index = judge_strike(&self.bank, word)?;
+        let index = self.bank.judge_strike(word)?;
         Ok(Pending::InPlace(InPlace::Strike(word, index)))
     }
 
-    /// Makes an edit that needs no memory, and tells what it changed.
-    #[tactic(auto, using(crate::proofs::WellFormedLemmas::state_formed))]
-    pub fn commit(&mut self, edit: &InPlace<'_>) -> Effect
+    /// Makes an edit that needs no memory.
+    pub fn commit(&mut self, edit: &InPlace<'_>)
         requires { IsInPlace (state_of self.old) edit.now }
-        ensures made { after (state_of self.old) (in_place_action edit.now) ≡ Ok (state_of self.new) }
-        ensures lights { self.new.lights ≡ self.old.lights }
-        ensures shape { SameShape self.old.grid self.new.grid }
-        ensures counts { SameCounts self.old.bank.words self.new.bank.words }
-        ensures told { IsTold (state_of self.old) self.new (in_place_action edit.now) result }
+        ensures { IsCommitted self.old self.new (in_place_action (state_of self.old) edit.now) }
     {
-        let told = self
-            .notes
-            .foretell(&self.grid, &self.lights, &self.bank, edit);
-        change(&mut self.grid, &self.lights, &mut self.bank, edit);
-        self.grid.well_formed();
-        self.bank.well_formed();
-        if told.is_list() {
-            return Effect::List(self.notes.keep_changed(&self.grid));
+        if self.keeps(edit) {
+            self.notes.note_nothing();
+            return;
         }
-        told
+        match *edit {
+            InPlace::Enter(cell, letter) => self.enter(cell, letter),
+            InPlace::Place(light, word) => self.place(light, word),
+            InPlace::List(list) => self.write(list),
+            InPlace::Symmetry(kind) => self.choose_symmetry(kind),
+            InPlace::Return(word, grade, index) => self.bring_back(word, grade, index),
+            InPlace::Strike(word, index) => self.strike(word, index),
+            InPlace::Least(grade) => self.limit(grade),
+        }
     }
 
-    /// Makes an edit of the shape, with the grid and the lights after it, and tells what it changed.
+    /// Writes a letter into a cell, or empties it.
     #[tactic(auto, using(crate::proofs::WellFormedLemmas::state_formed))]
-    pub fn reshape(&mut self, edit: &ShapeEdit, grid: Grid, lights: Lights) -> Effect
+    pub fn enter(&mut self, cell: Cell, letter: Option<Letter>)
+        requires { fault_at self.old.grid cell ≡ None }
+        ensures made { after (state_of self.old) (entered cell letter) ≡ Ok (state_of self.new) }
+        ensures lights { self.new.lights ≡ self.old.lights }
+        ensures words { self.new.bank.words ≡ self.old.bank.words }
+        ensures shape { SameShape self.old.grid self.new.grid }
+        ensures effect { self.new.notes.effect ≡ Effect.Cells }
+        ensures told { Tells (state_of self.old) (entered cell letter) (fields_by self.new.lights self.new.notes Effect.Cells) }
+    {
+        self.notes.written.note_cell(&self.grid, cell);
+        self.grid.enter(cell, letter);
+        self.grid.well_formed();
+        self.notes.effect = Effect::Cells;
+    }
+
+    /// Whether an edit writes the entry that is there.
+    fn keeps(&self, edit: &InPlace<'_>) -> bool
+        ensures { result ≡ true → IsInPlace (state_of self.now) edit.now → after (state_of self.now) (in_place_action (state_of self.now) edit.now) ≡ Ok (state_of self.now) }
+    {
+        match *edit {
+            InPlace::Enter(cell, letter) => !is_changed(&self.grid, cell, letter),
+            _ => false,
+        }
+    }
+
+    /// Writes a word into a light, by the light's index.
+    #[tactic(auto, using(crate::proofs::WellFormedLemmas::state_formed))]
+    fn place(&mut self, light: usize, word: &[u8])
+        requires { CanPlace (state_of self.old) light word.now }
+        ensures { IsCommitted self.old self.new (word_placed (light_of (state_of self.old) light).name word.now) }
+    {
+        self.notes
+            .written
+            .note_index(&self.grid, &self.lights, light);
+        self.notes.effect = Effect::Cells;
+        enter_word(&mut self.grid, &self.lights, light, word);
+    }
+
+    /// Writes a list of cells.
+    #[tactic(auto, using(crate::proofs::WellFormedLemmas::state_formed))]
+    fn write(&mut self, list: &[(Cell, Option<Letter>)])
+        requires { All (λ (written : SpecCell × Option ℕ). fault_at self.old.grid written.0 ≡ None) list.now }
+        ensures { IsCommitted self.old self.new (list_written list.now) }
+    {
+        self.notes.note_all(&self.grid);
+        enter_list(&mut self.grid, list);
+        self.grid.well_formed();
+        let count = self.notes.keep_changed(&self.grid);
+        self.notes.effect = Effect::List(count);
+    }
+
+    /// Sets the symmetry.
+    #[tactic(auto, using(crate::proofs::WellFormedLemmas::state_formed))]
+    fn choose_symmetry(&mut self, kind: Symmetry)
+        requires { IsOk (set_symmetry self.old.grid kind) }
+        ensures { IsCommitted self.old self.new (symmetry_chosen kind) }
+    {
+        self.grid.choose_symmetry(kind);
+        self.grid.well_formed();
+        self.notes.effect = Effect::Nothing;
+    }
+
+    /// Makes a known word active again.
+    #[tactic(auto, using(crate::proofs::WellFormedLemmas::state_formed))]
+    fn bring_back(&mut self, word: &[u8], grade: Option<u8>, index: usize)
+        requires { add_answer self.old.bank.words word.now ≡ Ok (Returned index) }
+        ensures { IsCommitted self.old self.new (word_added word.now grade) }
+    {
+        let len = word.len();
+        self.bank.return_at(len, index, grade);
+        self.bank.well_formed();
+        self.notes.effect = Effect::Word(len, index);
+    }
+
+    /// Strikes a word.
+    #[tactic(auto, using(crate::proofs::WellFormedLemmas::state_formed))]
+    fn strike(&mut self, word: &[u8], index: usize)
+        requires { strike_answer self.old.bank.words word.now ≡ Ok index }
+        ensures { IsCommitted self.old self.new (word_struck word.now) }
+    {
+        let len = word.len();
+        self.bank.strike_at(len, index);
+        self.bank.well_formed();
+        self.notes.effect = Effect::Word(len, index);
+    }
+
+    /// Leaves out the words below a grade.
+    #[tactic(auto, using(crate::proofs::WellFormedLemmas::state_formed))]
+    fn limit(&mut self, grade: u8)
+        ensures { IsCommitted self.old self.new (least_chosen grade) }
+    {
+        self.notes.turned = turned_lengths(&self.bank, grade);
+        let before = self.bank.least();
+        limit_in(&mut self.bank, grade);
+        self.notes.effect = Effect::Least(self.bank.least() < before);
+    }
+
+    /// Makes an edit of the shape, with the grid and the lights after it.
+    #[tactic(auto, using(crate::proofs::WellFormedLemmas::state_formed))]
+    pub fn reshape(&mut self, edit: &ShapeEdit, grid: Grid, lights: Lights)
         requires made { grid_after self.old.grid (shape_action edit.now) ≡ Ok grid }
         requires lights { lights ≡ lights_of grid }
         requires cells { length grid.squares ≡ length self.old.grid.squares }
         ensures made { after (state_of self.old) (shape_action edit.now) ≡ Ok (state_of self.new) }
         ensures state { state_of self.new ≡ record { grid = grid; words = self.old.bank.words } }
         ensures lights { self.new.lights ≡ lights }
-        ensures result { result ≡ Effect.Shape (lights_of self.old.grid) }
-        ensures told { IsTold (state_of self.old) self.new (shape_action edit.now) result }
+        ensures effect { self.new.notes.effect ≡ Effect.Shape (lights_of self.old.grid) }
+        ensures told { IsTold (state_of self.old) self.new (shape_action edit.now) }
     {
         self.notes.written.note_shape(&self.grid, edit);
         grid.well_formed();
         self.grid = grid;
-        Effect::Shape(std::mem::replace(&mut self.lights, lights))
+        self.notes.effect = Effect::Shape(std::mem::replace(&mut self.lights, lights));
     }
 
-    /// Adds a word that is not known, in reserved room, and tells what it changed.
+    /// Adds a word that is not known, in reserved room.
     #[tactic(auto, using(crate::proofs::WellFormedLemmas::state_formed))]
-    pub fn append(&mut self, word: &[u8], grade: Option<u8>, index: usize) -> Effect
-        requires new { add_answer self.old.bank.words word.now ≡ Ok (Added.New index) }
+    pub fn append(&mut self, word: &[u8], grade: Option<u8>)
+        requires new { IsNew (add_answer self.old.bank.words word.now) }
         requires room { has_room self.old.bank (length word.now) ≡ true }
         ensures made { after (state_of self.old) (word_added word.now grade) ≡ Ok (state_of self.new) }
         ensures grid { self.new.grid ≡ self.old.grid }
         ensures lights { self.new.lights ≡ self.old.lights }
         ensures counts { GrowsAt self.old.bank.words self.new.bank.words (length word.now) }
-        ensures result { result ≡ Effect.Word (length word.now) index }
-        ensures told { IsTold (state_of self.old) self.new (word_added word.now grade) result }
+        ensures effect { self.new.notes.effect ≡ Effect.Word (length word.now) (length (known_words self.old.bank.words (length word.now))) }
+        ensures told { IsTold (state_of self.old) self.new (word_added word.now grade) }
     {
-        add_in(&mut self.bank, word, grade);
-        Effect::Word(word.len(), index)
+        let index = add_in(&mut self.bank, word, grade);
+        self.notes.effect = Effect::Word(word.len(), index);
     }
 
-    /// Judges and makes an edit of entries, and notes the cells that it writes.
-    #[tactic(auto, using(crate::proofs::WellFormedLemmas::state_formed))]
-    pub fn enter(&mut self, edit: &EntryEdit<'_>) -> Result<(), Refusal>
-        ensures made { OnOk result (after (state_of self.old) (entry_action edit.now) ≡ Ok (state_of self.new)) }
-        ensures refused { IfErr result (λ refusal. after (state_of self.old) (entry_action edit.now) ≡ Err refusal) }
-        ensures words { self.new.bank.words ≡ self.old.bank.words }
-        ensures same { OnErr result (self.new.grid ≡ self.old.grid) }
-        ensures shape { SameShape self.old.grid self.new.grid }
-        ensures told { IsTold (state_of self.old) self.new (entry_action edit.now) Effect.Cells }
-    {
-        self.notes
-            .written
-            .note_entries(&self.grid, &self.lights, edit);
-        enter(&mut self.grid, &self.lights, edit)
-    }
-
-    /// Places a known word in a light, both by index, and notes the cells that it writes.
+    /// Places a known word in a light, both by index.
     #[tactic(auto, using(crate::proofs::WellFormedLemmas::state_formed))]
     pub fn place_known(&mut self, light: usize, index: usize)
         requires light { light < length (lights_of self.old.grid) }
@@ -222,11 +299,13 @@ impl EngineState {
         ensures made { after (state_of self.old) (known_placed (state_of self.old) light index) ≡ Ok (state_of self.new) }
         ensures words { self.new.bank.words ≡ self.old.bank.words }
         ensures shape { SameShape self.old.grid self.new.grid }
-        ensures told { IsTold (state_of self.old) self.new (known_placed (state_of self.old) light index) Effect.Cells }
+        ensures effect { self.new.notes.effect ≡ Effect.Cells }
+        ensures told { Tells (state_of self.old) (known_placed (state_of self.old) light index) (fields_by self.new.lights self.new.notes Effect.Cells) }
     {
         self.notes
             .written
             .note_index(&self.grid, &self.lights, light);
+        self.notes.effect = Effect::Cells;
         place_known(&mut self.grid, &self.lights, &self.bank, light, index);
     }
 
@@ -287,8 +366,8 @@ impl EngineState {
     }
 
     /// Reserves room for a word that is not known. Returns `Memory` if an allocation fails.
-    pub fn reserve(&mut self, word: &[u8], index: usize) -> Result<(), WordFault>
-        requires { add_answer self.old.bank.words word.now ≡ Ok (Added.New index) }
+    pub fn reserve(&mut self, word: &[u8]) -> Result<(), WordFault>
+        requires { IsNew (add_answer self.old.bank.words word.now) }
         ensures grid { self.new.grid ≡ self.old.grid }
         ensures lights { self.new.lights ≡ self.old.lights }
         ensures words { self.new.bank.words ≡ self.old.bank.words }
@@ -300,53 +379,6 @@ impl EngineState {
     }
 }
 
-/// The index of a word that can be struck, or the refusal of `Bank::strike`.
-fn judge_strike(bank: &Bank, word: &[u8]) -> Result<usize, WordFault>
-    ensures { result ≡ strike_answer bank.now.words word.now }
-{
-    match bank.judge_add(word) {
-        Err(WordFault::BadLetter(at)) => return Err(WordFault::BadLetter(at)),
-        Err(WordFault::Length) => return Err(WordFault::Length),
-        _ => (),
-    }
-    let mut letters = [Letter::first(); LONGEST];
-    spell(&mut letters, word);
-    match bank.find(&letters[..word.len()]) {
-        Some(index) if !bank.is_struck(word.len(), index) => Ok(index),
-        _ => Err(WordFault::Unknown),
-    }
-}
-
-/// Applies an edit of entries. Returns its refusal.
-fn enter(grid: &mut Grid, lights: &Lights, edit: &EntryEdit<'_>) -> Result<(), Refusal>
-    requires lights { lights.now ≡ lights_of grid.old }
-    ensures ok { OnOk result (grid_after grid.old (entry_action edit.now) ≡ Ok grid.new) }
-    ensures refused { IfErr result (λ refusal. grid_after grid.old (entry_action edit.now) ≡ Err refusal) }
-    ensures same { OnErr result (grid.new ≡ grid.old) }
-    ensures shape { SameShape grid.old grid.new }
-    ensures grid { IsGrid grid.new }
-{
-    let entered = edit_entries(grid, lights, edit);
-    grid.well_formed();
-    entered
-}
-
-fn edit_entries(grid: &mut Grid, lights: &Lights, edit: &EntryEdit<'_>) -> Result<(), Refusal>
-    requires lights { lights.now ≡ lights_of grid.old }
-    ensures ok { OnOk result (grid_after grid.old (entry_action edit.now) ≡ Ok grid.new) }
-    ensures refused { IfErr result (λ refusal. grid_after grid.old (entry_action edit.now) ≡ Err refusal) }
-    ensures same { OnErr result (grid.new ≡ grid.old) }
-    ensures shape { SameShape grid.old grid.new }
-{
-    grid.well_formed();
-    match *edit {
-        EntryEdit::Set(cell, letter) => grid.set(cell, letter)?,
-        EntryEdit::Clear(cell) => grid.clear(cell)?,
-        EntryEdit::Place(name, word) => place(grid, lights, name, word)?,
-    }
-    Ok(())
-}
-
 /// Makes an edit of the shape of a grid.
 fn reshape(grid: &mut Grid, edit: &ShapeEdit)
     requires { IsOk (grid_after grid.old (shape_action edit.now)) }
@@ -354,56 +386,17 @@ fn reshape(grid: &mut Grid, edit: &ShapeEdit)
     ensures cells { length grid.new.squares ≡ length grid.old.squares }
 {
     grid.well_formed();
-    let _ = match *edit {
-        ShapeEdit::Block(cell) => grid.toggle_block(cell),
-        ShapeEdit::Bar(cell, side) => grid.toggle_bar(cell, side),
-    };
-}
-
-/// Makes an edit that needs no memory.
-fn change(grid: &mut Grid, lights: &Lights, bank: &mut Bank, edit: &InPlace<'_>)
-    requires lights { lights.now ≡ lights_of grid.old }
-    requires edit { IsInPlace (record { grid = grid.old; words = bank.old.words }) edit.now }
-    ensures made { after (record { grid = grid.old; words = bank.old.words }) (in_place_action edit.now) ≡ Ok (record { grid = grid.new; words = bank.new.words }) }
-    ensures shape { SameShape grid.old grid.new }
-    ensures counts { SameCounts bank.old.words bank.new.words }
-{
-    match edit {
-        InPlace::Entries(entries) => {
-            let _ = edit_entries(grid, lights, entries);
-        }
-        InPlace::List(list) => {
-            let _ = write(grid, list);
-        }
-        InPlace::Symmetry(kind) => {
-            let _ = grid.set_symmetry(*kind);
-        }
-        InPlace::Return(word, grade, _) => {
-            let _ = return_in(bank, word, *grade);
-        }
-        InPlace::Strike(word, _) => {
-            let _ = bank.strike(word);
-        }
-        InPlace::Least(grade) => bank.set_least(*grade),
+    match *edit {
+        ShapeEdit::Block(cell) => grid.turn_block(cell),
+        ShapeEdit::Bar(cell, side) => grid.turn_bar(cell, side),
     }
 }
 
-/// Makes a word active again. The word must be known and not active. Its grade is as `Bank::add` says.
-fn return_in(bank: &mut Bank, word: &[u8], grade: Option<u8>) -> Result<(), WordFault>
-    requires { IsReturned (add_answer bank.old.words word.now) }
-    ensures ok { OnOk result (add_word bank.old.words word.now grade ≡ Ok bank.new.words) }
-    ensures refused { IfErr result (λ fault. IsAddRefused bank.old.words word.now grade fault) }
-    ensures counts { SameCounts bank.old.words bank.new.words }
-    ensures same { OnErr result (bank.new.words ≡ bank.old.words) }
-{
-    bank.add(word, grade)?;
-    Ok(())
-}
-
-/// Adds a word that is not known, in reserved room. Its grade is as `Bank::add` says.
-fn add_in(bank: &mut Bank, word: &[u8], grade: Option<u8>)
+/// Adds a word that is not known, in reserved room, and returns its index. Its grade is as `Bank::add` says.
+fn add_in(bank: &mut Bank, word: &[u8], grade: Option<u8>) -> usize
     requires new { IsNew (add_answer bank.old.words word.now) }
     requires room { has_room bank.old (length word.now) ≡ true }
+    ensures index { result ≡ length (known_words bank.old.words (length word.now)) }
     ensures words { add_word bank.old.words word.now grade ≡ Ok bank.new.words }
     ensures counts { GrowsAt bank.old.words bank.new.words (length word.now) }
     ensures distinct { IsDictionary bank.new.words }
@@ -411,8 +404,9 @@ fn add_in(bank: &mut Bank, word: &[u8], grade: Option<u8>)
     bank.well_formed();
     let mut letters = [Letter::first(); LONGEST];
     spell(&mut letters, word);
-    let _ = bank.add_reserved(&letters[..word.len()], grade);
+    let index = bank.add_reserved(&letters[..word.len()], grade);
     bank.well_formed();
+    index
 }
 
 /// Chooses the least grade of an active word.

@@ -17,7 +17,6 @@ ghost use Rattle.xw_feas.specs.Queries.{count_answer, next_answer, next_found, w
 use crate::changed::Changed;
 use crate::edit::{Edit, Found, Refusal};
 use crate::engine_state::EngineState;
-use crate::place::spell_bytes;
 use std::alloc::Global;
 use xw_grid::cell::{Cell, LightName};
 use xw_grid::fault::GridFault;
@@ -25,7 +24,6 @@ use xw_grid::grid::Grid;
 use xw_grid::lights::Lights;
 use xw_letters::letter_set::LetterSet;
 use xw_words::bank::Bank;
-use xw_words::word::LONGEST;
 
 /// An engine: it owns a grid and a dictionary, applies edits to them, and keeps the feasible words
 /// and letters up to date.
@@ -143,16 +141,7 @@ pub trait Feasible: Drop {
         requires light { light < length (lights_of (state self.old).grid) }
         requires index { index < known_count (state self.old) light }
         ensures made { after (state self.old) (known_placed (state self.old) light index) ≡ Ok (state self.new) }
-        ensures placed { placed self.new ≡ suc (placed self.old) }
-    {
-        self.grid().well_formed();
-        self.bank().well_formed();
-        let light = self.lights().at(light);
-        let len = light.size as usize;
-        let mut bytes = [0; LONGEST];
-        spell_bytes(&mut bytes, self.bank().word(len, index));
-        let _ = self.edit(&Edit::Place(light.name, &bytes[..len]));
-    }
+        ensures placed { placed self.new ≡ suc (placed self.old) };
 
     /// The answers are exactly the feasible words and letters of the current grid and dictionary.
     ghost exact: { (engine : Self) → AreAnswers (board_of (state engine).grid) (state engine).words (answers engine) };

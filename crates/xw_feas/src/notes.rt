@@ -1,16 +1,11 @@
 //! The notes of a position: what an edit changed.
-ghost use Rattle.std.specs.Prelude.{◌≡◌, ◌≤◌, length, map, take, filter, IfOk, IsOkUnless};
+ghost use Rattle.std.specs.Prelude.{◌≡◌, ℕ, ◌≤◌, false, List, length, map, take, filter, is_some, IfOk, IfSome, IfNone, IsOkUnless};
+ghost use Rattle.xw_grid.specs.declared.lights.Light.{Light};
 ghost use Rattle.xw_grid.specs.Grid.{cells};
-ghost use Rattle.xw_grid.specs.Light.{lights_of};
-ghost use Rattle.xw_feas.specs.Pending.{in_place_action, IsInPlace};
-ghost use Rattle.xw_feas.specs.State.{entry_action};
 ghost use Rattle.xw_feas.specs.Written.{with_entry_of, is_changed};
 
-use crate::edit::EntryEdit;
 use crate::effect::Effect;
-use crate::pending::InPlace;
-use crate::turned::{LENGTHS, turned_lengths};
-use crate::write::is_idle;
+use crate::turned::LENGTHS;
 use crate::written::Written;
 use std::alloc::Global;
 use xw_grid::cell::Cell;
@@ -18,19 +13,19 @@ use xw_grid::fault::GridFault;
 use xw_grid::grid::Grid;
 use xw_grid::lights::Lights;
 use xw_letters::letter::Letter;
-use xw_words::bank::Bank;
 
 /// What the last edit changed, noted while it was made: the cells that it wrote, those that a list changed, and the lengths
-/// in which a least grade made words active or left them out. `Effect` says which of them to read.
+/// in which a least grade made words active or left them out. `effect` says which of them to read.
 #[derive(Drop)]
 pub struct Notes {
     pub written: Written,
     pub noted: Vec<(Cell, Option<Letter>)>,
     pub turned: [bool; LENGTHS],
+    pub effect: Effect,
 }
 
 impl Notes {
-    ghost use Rattle.xw_feas.specs.Effect.{IsForetold};
+    ghost use Rattle.xw_feas.specs.Effect.{before_of, cells_of, fields_of, is_idle_by, is_shape_by, of_turned, turned_of, word_of};
 
     /// No notes, with space for a snapshot.
     pub(crate) fn of(noted: Vec<(Cell, Option<Letter>)>) -> Notes
@@ -40,56 +35,78 @@ impl Notes {
             written: Written::none(),
             noted,
             turned: [false; LENGTHS],
+            effect: Effect::Nothing,
         }
     }
 
-    /// Notes what an edit that needs no memory is going to change.
-    pub(crate) fn foretell(
-        &mut self,
-        grid: &Grid,
-        lights: &Lights,
-        bank: &Bank,
-        edit: &InPlace<'_>,
-    ) -> Effect
-        requires lights { lights.now ≡ lights_of grid.now }
-        requires edit { IsInPlace (record { grid = grid.now; words = bank.now.words }) edit.now }
-        requires room { length self.old.noted.items ≡ length grid.now.squares }
-        ensures room { length self.new.noted.items ≡ length grid.now.squares }
-        ensures told { IsForetold (record { grid = grid.now; words = bank.now.words }) lights.now self.new (in_place_action edit.now) result }
+    /// Whether no answer changed.
+    pub fn is_idle(&self) -> bool
+        ensures { result ≡ is_idle_by self.now.effect }
     {
-        match edit {
-            InPlace::Entries(entries) => self.foretell_entries(grid, lights, bank, entries),
-            InPlace::List(_) => {
-                note(self.noted.as_mut_slice(), grid);
-                Effect::List(0)
-            }
-            InPlace::Symmetry(_) => Effect::Nothing,
-            InPlace::Return(word, _, index) => Effect::Word(word.len(), *index),
-            InPlace::Strike(word, index) => Effect::Word(word.len(), *index),
-            InPlace::Least(grade) => {
-                self.turned = turned_lengths(bank, *grade);
-                Effect::Least(bank.least())
-            }
+        matches!(self.effect, Effect::Nothing)
+    }
+
+    /// The cells that the edit wrote, each with its entry before.
+    pub fn cells(&self) -> &[(Cell, Option<Letter>)]
+        ensures { result.now ≡ cells_of self.now }
+    {
+        match self.effect {
+            Effect::Cells => self.written.as_slice(),
+            Effect::Shape(_) => self.written.as_slice(),
+            Effect::List(count) => &self.noted[..count.min(self.noted.len())],
+            _ => &self.noted[..0],
         }
     }
 
-    fn foretell_entries(
-        &mut self,
-        grid: &Grid,
-        lights: &Lights,
-        bank: &Bank,
-        edit: &EntryEdit<'_>,
-    ) -> Effect
-        requires lights { lights.now ≡ lights_of grid.now }
+    /// The lights before the edit, if it is one of the shape. Any other edit keeps them.
+    pub fn before(&self) -> Option<&Lights>
+        ensures some { IfSome result (λ before. (lights : List Light) → before_of lights self.now ≡ before.now) }
+        ensures shape { is_some result ≡ is_shape_by self.now.effect }
+        ensures none { IfNone result ((lights : List Light) → before_of lights self.now ≡ lights) }
+    {
+        match &self.effect {
+            Effect::Shape(before) => Some(before),
+            _ => None,
+        }
+    }
+
+    /// For each length whether the least grade that was chosen made words active or left some out, and whether it may have made
+    /// some active; none of another edit.
+    pub fn turned(&self) -> Option<(&[bool], bool)>
+        ensures some { IfSome result (λ turned. (lights : List Light) → fields_of lights self.now ≡ of_turned lights turned.0.now turned.1) }
+        ensures none { IfNone result ((len : ℕ) → turned_of self.now len ≡ false) }
+    {
+        match self.effect {
+            Effect::Least(back) => Some((&self.turned, back)),
+            _ => None,
+        }
+    }
+
+    /// The length and index of the word that was added or struck.
+    pub fn word(&self) -> Option<(usize, usize)>
+        ensures { result ≡ word_of self.now }
+    {
+        match self.effect {
+            Effect::Word(len, index) => Some((len, index)),
+            _ => None,
+        }
+    }
+
+    /// Notes that no answer changes.
+    pub(crate) fn note_nothing(&mut self)
+        ensures effect { self.new.effect ≡ Effect.Nothing }
         ensures noted { self.new.noted ≡ self.old.noted }
-        ensures told { IsForetold (record { grid = grid.now; words = bank.now.words }) lights.now self.new (entry_action edit.now) result }
     {
-        let _ = bank;
-        if is_idle(grid, edit) {
-            return Effect::Nothing;
-        }
-        self.written.note_entries(grid, lights, edit);
-        Effect::Cells
+        self.effect = Effect::Nothing;
+    }
+
+    /// Notes all entries, before a list is written.
+    pub(crate) fn note_all(&mut self, grid: &Grid)
+        requires { length self.old.noted.items ≡ length grid.now.squares }
+        ensures room { length self.new.noted.items ≡ length self.old.noted.items }
+        ensures noted { self.new.noted.items ≡ map (with_entry_of grid.now) (cells grid.now) }
+    {
+        note(self.noted.as_mut_slice(), grid);
     }
 
     /// Keeps of the snapshot the cells whose entry changed, in front, and returns their number.
@@ -123,8 +140,8 @@ fn note(noted: &mut [(Cell, Option<Letter>)], grid: &Grid)
     }
 }
 
-/// Whether the entry of a cell differs from the one in the snapshot.
-fn is_changed(grid: &Grid, cell: Cell, noted: Option<Letter>) -> bool
+/// Whether the entry of a cell differs from this one.
+pub(crate) fn is_changed(grid: &Grid, cell: Cell, noted: Option<Letter>) -> bool
     ensures { result ≡ is_changed grid.now (cell, noted) }
 {
     match (noted, grid.entry(cell)) {

@@ -1,5 +1,4 @@
-//! Edits that a position accepts.
-use crate::edit::EntryEdit;
+//! Edits that a position accepts, with what was looked up for them.
 use xw_grid::cell::{Cell, Side, Symmetry};
 use xw_letters::letter::Letter;
 
@@ -10,16 +9,18 @@ pub enum Pending<'a> {
     InPlace(InPlace<'a>),
     /// Another grid, with its lights.
     Shape(ShapeEdit),
-    /// Room for a word that is not known. The word has this grade and will get this index.
-    New(&'a [u8], Option<u8>, usize),
+    /// Room for a word that is not known. The word has this grade.
+    New(&'a [u8], Option<u8>),
 }
 
 /// An accepted edit that needs no memory.
 #[derive(Clone, Copy)]
 pub enum InPlace<'a> {
-    /// Writes or clears the letters of a cell or a light.
-    Entries(EntryEdit<'a>),
-    /// Writes a list of cells.
+    /// Writes a letter into a cell, or empties it. The cell is open.
+    Enter(Cell, Option<Letter>),
+    /// Writes a word of letters into the light with this index, which has its length.
+    Place(usize, &'a [u8]),
+    /// Writes a list of cells, all open.
     List(&'a [(Cell, Option<Letter>)]),
     /// Sets the symmetry.
     Symmetry(Symmetry),

@@ -1,15 +1,13 @@
 //! The cells whose entry an edit may change.
 ghost use Rattle.std.specs.Prelude.{◌≡◌, ◌<◌, ◌≤◌, length, [], ◌∷◌, ◌++◌, map, slice_index_or};
-ghost use Rattle.xw_grid.specs.Light.{lights_of, cells_of, index_named, no_light};
+ghost use Rattle.xw_grid.specs.Light.{lights_of, cells_of, no_light};
 ghost use Rattle.xw_grid.specs.Orbit.{orbit_of};
 ghost use Rattle.xw_feas.specs.Pending.{shape_action};
-ghost use Rattle.xw_feas.specs.State.{entry_action};
-ghost use Rattle.xw_feas.specs.Written.{with_entry_of, entries_written, cells_named};
+ghost use Rattle.xw_feas.specs.Written.{with_entry_of, entries_written};
 
-use crate::edit::EntryEdit;
 use crate::pending::ShapeEdit;
 use std::marker::Model;
-use xw_grid::cell::{Cell, LightName};
+use xw_grid::cell::Cell;
 use xw_grid::grid::Grid;
 use xw_grid::lights::{Light, Lights};
 use xw_grid::orbit::orbits_are_small;
@@ -71,7 +69,7 @@ impl Written {
     }
 
     /// Takes one cell.
-    fn note_cell(&mut self, grid: &Grid, cell: Cell)
+    pub(crate) fn note_cell(&mut self, grid: &Grid, cell: Cell)
         ensures { self.new ≡ with_entry_of grid.now cell ∷ [] }
     {
         self.clear();
@@ -100,17 +98,6 @@ impl Written {
         self.note_light(grid, light, lights.at(light));
     }
 
-    /// Takes the cells of the light with a name; none if there is no such light.
-    fn note_name(&mut self, grid: &Grid, lights: &Lights, name: LightName)
-        requires { lights.now ≡ lights_of grid.now }
-        ensures { self.new ≡ map (with_entry_of grid.now) (cells_named grid.now (index_named (lights_of grid.now) name)) }
-    {
-        match lights.index(name) {
-            Some(index) => self.note_index(grid, lights, index),
-            None => self.clear(),
-        }
-    }
-
     /// Takes the cells of an orbit.
     fn note_orbit(&mut self, grid: &Grid, cell: Cell)
         ensures { self.new ≡ map (with_entry_of grid.now) (orbit_of grid.now cell) }
@@ -121,18 +108,6 @@ impl Written {
         let mut orbit = grid.orbit(cell);
         while let Some(member) = orbit.next() {
             self.push(grid, member);
-        }
-    }
-
-    /// Takes the cells that an edit of entries writes.
-    pub(crate) fn note_entries(&mut self, grid: &Grid, lights: &Lights, edit: &EntryEdit<'_>)
-        requires { lights.now ≡ lights_of grid.now }
-        ensures { self.new ≡ entries_written grid.now (entry_action edit.now) }
-    {
-        match *edit {
-            EntryEdit::Set(cell, _) => self.note_cell(grid, cell),
-            EntryEdit::Clear(cell) => self.note_cell(grid, cell),
-            EntryEdit::Place(name, _) => self.note_name(grid, lights, name),
         }
     }
 

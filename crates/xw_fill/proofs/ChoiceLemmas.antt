@@ -8,14 +8,16 @@ use Rattle.xw_grid.specs.Light.{lights_of, no_light}
 use Rattle.xw_feas.specs.Board.{board_of, light_at, spelled, entry}
 use Rattle.xw_feas.specs.State.{State}
 use Rattle.xw_feas.specs.WellFormed.{IsWellFormed}
-use Rattle.xw_fill.specs.Position.{Position, position_of, placed, holding, entries_with}
+use Rattle.xw_search.specs.Position.{Position, position_of, placed, holding, entries_with}
 use Rattle.xw_fill.specs.Choices.{fewest_words, fewest_in, fewest_after}
-use Rattle.xw_fill.specs.Search.{is_entered, spelling}
+use Rattle.xw_search.specs.Lights.{is_entered, spelling}
 use Rattle.xw_fill.specs.Words.{spellings_at}
-use Rattle.xw_fill.proofs.PlacingLemmas.{entered-at, length-spelled, spelled-at, cell_in, length-entries_with, entries_with-at, entries_with-other}
-use Rattle.xw_fill.proofs.SearchLemmas.{cells_within, cells_distinct}
-use Rattle.xw_fill.proofs.Shaped.{IsShaped, shaped}
-use Rattle.xw_fill.proofs.StateLemmas.{in_grid_light, light_size, place_leads}
+use Rattle.xw_search.proofs.PlacingLemmas.{entered-at, length-spelled, spelled-at, cell_in, length-entries_with, entries_with-at, entries_with-other}
+use Rattle.xw_search.proofs.LightLemmas.{cells_within}
+use Rattle.xw_fill.proofs.SearchLemmas.{cells_distinct}
+use Rattle.xw_search.proofs.Shaped.{IsShaped, shaped}
+use Rattle.xw_search.proofs.StateLemmas.{in_grid_light, light_size}
+use Rattle.xw_fill.proofs.StateLemmas.{place_leads}
 
 -- the state after a word of letters is placed
 pub letters_after : (state : State) (light : ℕ) (word : List ℕ) → IsWellFormed state → light < length (board_of state.grid).lights → All IsLetter word → length word ≡ length (light_at (board_of state.grid) light)

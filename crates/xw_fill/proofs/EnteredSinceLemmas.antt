@@ -2,7 +2,7 @@
 use Rattle.std.proofs.Common.{◌≡◌, ℕ, suc, ◌≤◌, Bool, true, false, List, get_or, Option, Some, None, refl, sym, ◌∙◌, arith}
 use Rattle.std.specs.Prelude.{is_some, IfSome}
 use Rattle.std.proofs.lemmas.Bool.{true≢false, lt-ltb, le-ltb, ltb-true, ltb-false}
-use Rattle.xw_fill.specs.Position.{Position}
+use Rattle.xw_search.specs.Position.{Position}
 use Rattle.xw_fill.specs.Inner.EnteredSince.{within, noted, SpellApart, StayNoted}
 
 -- the note of a light after an update

@@ -17,8 +17,9 @@ use Rattle.xw_feas.specs.State.{State}
 use Rattle.xw_feas.specs.WellFormed.{IsWellFormed}
 use Rattle.xw_feas.proofs.BoardLemmas.{length-entries}
 use Rattle.xw_feas.proofs.ChangesLemmas.{open_index}
-use Rattle.xw_fill.specs.Reason.{entry_in, entries_of, IsPart, no_entries}
-use Rattle.xw_fill.specs.Sparing.{CanBeWritten, by_index, written_in, emptied, IsListOf}
+use Rattle.xw_fill.specs.Reason.{entry_in, IsPart, no_entries}
+use Rattle.xw_search.specs.Writing.{entries_of, CanBeWritten, by_index, written_in}
+use Rattle.xw_fill.specs.Sparing.{emptied, IsListOf}
 use Rattle.xw_fill.proofs.WritingLemmas.{written_is}
 
 -- ---- entries

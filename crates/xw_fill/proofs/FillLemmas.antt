@@ -1,25 +1,27 @@
 -- The search finds a fill exactly if one exists, and it ends at one.
-use Rattle.std.proofs.Common.{◌≡◌, ℕ, zero, suc, ◌<◌, ◌≤◌, Bool, true, false, cond, not, ◌&&◌, ◌||◌, List, [], ◌∷◌, map, length, get_or, Option, Some, None, refl, sym, ◌∙◌, ap, subst, arith, inl, inr}
-use Rattle.std.specs.Prelude.{filter, Contains, ◌==◌, nat_lt, is_none, bytes_eq}
+use Rattle.std.proofs.Common.{◌≡◌, ℕ, zero, suc, ◌<◌, ◌≤◌, Bool, true, false, cond, not, ◌&&◌, ◌||◌, List, [], ◌∷◌, length, get_or, Option, Some, None, refl, sym, ◌∙◌, ap, subst, arith, inl, inr}
+use Rattle.std.specs.Prelude.{Contains, ◌==◌, nat_lt, is_none, bytes_eq}
 use Rattle.std.specs.List.{list_any}
-use Rattle.std.proofs.lemmas.Bool.{and_parts, and_from, cases_Bool, false≢true, cases_eq, eqb-true, eq-eqb, ne_eqb, ltb-true, lt-ltb, not-true}
-use Rattle.std.proofs.lemmas.List.{get_or-map}
+use Rattle.std.proofs.lemmas.Bool.{and_parts, and_from, cases_Bool, false≢true, cases_eq, eqb-true, eq-eqb, ltb-true, lt-ltb, not-true}
 use Rattle.std.proofs.lemmas.Slice.Eq.{bytes_eq-Decides}
-use Rattle.xw_feas.specs.Board.{Board, entry, allows, agrees, light_at, is_open, is_wholly_entered, spelled}
-use Rattle.xw_words.specs.Dictionary.{Entry, Dictionary, known_words}
-use Rattle.xw_feas.specs.Feasible.{Family, IsSupported, base_words, base_words_at}
-use Rattle.xw_fill.specs.Position.{Position, entries_with, placed, with_entries, holding}
-use Rattle.xw_fill.proofs.Shaped.{IsShaped}
-use Rattle.xw_fill.specs.Fill.{IsActive, IsFill}
-use Rattle.xw_fill.specs.FeasibleWords.{feasible_words}
+use Rattle.xw_feas.specs.Board.{entry, allows, agrees, light_at, is_open, spelled}
+use Rattle.xw_feas.specs.Feasible.{Family, IsSupported, base_words_at}
+use Rattle.xw_search.specs.Position.{Position, entries_with, placed, with_entries, holding}
+use Rattle.xw_search.proofs.Shaped.{IsShaped}
+use Rattle.xw_search.specs.Listing.{IsActive}
+use Rattle.xw_fill.specs.Fill.{IsFill}
+use Rattle.xw_search.specs.FeasibleWords.{feasible_words}
 use Rattle.xw_feas.specs.WellFormed.{HasLetterEntries}
-use Rattle.xw_fill.specs.Search.{light_count, is_entered, spelling, lacks_words, is_dead, chosen, found_by, found_in, end_of, end_by, end_in, unentered_count}
+use Rattle.xw_search.specs.Lights.{light_count, is_entered, spelling}
+use Rattle.xw_fill.specs.Search.{is_dead, chosen, found_by, found_in, end_of, end_by, end_in, unentered_count}
 use Rattle.xw_letters.specs.Letter.{IsLetter, is_capital}
 use Rattle.xw_letters.proofs.LetterSetLemmas.{letter_is_capital, capital_is_letter}
-use Rattle.xw_fill.proofs.BelowLemmas.{Among, Among-contained, Contains-among, Among-filter, Among-map, list_any-from}
-use Rattle.xw_fill.proofs.FeasibleWordsLemmas.{feasible-gives, feasible-from, is_feasible_word-gives}
-use Rattle.xw_fill.proofs.PlacingLemmas.{entered-at, empty-at, length-spelled, spelled-at, spelled-same, spelled-is, agrees-length, agrees-at, agrees-from, allowed, allows-from, cell_in, entries_with-other, length-entries_with}
-use Rattle.xw_fill.proofs.SearchLemmas.{chosen-Some, chosen-None, chosen-counted, alive-distinct, alive-from, open_base, open_feasible, placed-laid, placed-kept, placed-at, placed-entered, placed-fewer}
+use Rattle.xw_search.proofs.BelowLemmas.{Among, Among-contained, Contains-among, list_any-from}
+use Rattle.xw_search.proofs.FeasibleWordsLemmas.{feasible-gives, feasible-from, is_feasible_word-gives}
+use Rattle.xw_search.proofs.PlacingLemmas.{entered-at, empty-at, length-spelled, spelled-at, spelled-same, spelled-is, agrees-length, agrees-at, agrees-from, allowed, allows-from, cell_in, entries_with-other, length-entries_with}
+use Rattle.xw_fill.proofs.SearchLemmas.{chosen-Some, chosen-None, chosen-counted, alive-distinct, alive-from, open_feasible, placed-laid, placed-kept, placed-at, placed-entered, placed-fewer}
+use Rattle.xw_search.proofs.LightLemmas.{open_base}
+use Rattle.xw_search.proofs.FillLemmas.{active_base, entered_base, has_words}
 
 -- ---- Every fill gives a supported family.
 
@@ -62,24 +64,6 @@ fill-agrees position entries fill light in_grid =
     allows-from (entry position.board (get_or (light_at position.board light) k 0)) _ (λ entered e.
     let same = sym (fill.kept (get_or (light_at position.board light) k 0) entered e) ∙ fill-at position entries fill light k in_grid below in cc))
 
--- an active word that agrees is a base word
-pub active_base : (board : Board) (dictionary : Dictionary) (light : ℕ) (word : List ℕ) → light < length board.lights → is_wholly_entered board (light_at board light) ≡ false → IsActive dictionary word → agrees board (light_at board light) word ≡ true → Among word (base_words_at board dictionary light)
-active_base board dictionary light word below not_entered active fits =
-    let test : Entry → Bool = λ known. known.active && agrees board (light_at board light) known.word in
-    let words = known_words dictionary (length (light_at board light)) in
-    let here : base_words_at board dictionary light ≡ map (λ (known : Entry). known.word) (filter test words) = get_or-map (base_words board dictionary) board.lights light [] [] below ∙ ap (λ b. cond b (spelled board (light_at board light) ∷ []) (map (λ (known : Entry). known.word) (filter test words))) not_entered in
-    let is : Entry = active.0 in
-    let known : Among is words = subst (λ n. Among is (known_words dictionary n)) (agrees-length board (light_at board light) word fits) (Among-contained is (known_words dictionary (length word)) active.1.0) in
-    let passes : test is ≡ true = and_from _ _ active.1.2 (ap (agrees board (light_at board light)) active.1.1 ∙ fits) in
-    let among : Among is.word (map (λ (w : Entry). w.word) (filter test words)) = Among-map (λ (w : Entry). w.word) is (filter test words) (Among-filter test words is known passes) in
-    subst (Among word) (sym here) (subst (λ w. Among w (map (λ (w : Entry). w.word) (filter test words))) active.1.1 among)
-
-pub entered_base : (board : Board) (dictionary : Dictionary) (light : ℕ) → light < length board.lights → is_wholly_entered board (light_at board light) ≡ true → Among (spelled board (light_at board light)) (base_words_at board dictionary light)
-entered_base board dictionary light below entered =
-    let test : Entry → Bool = λ known. known.active && agrees board (light_at board light) known.word in
-    let here : base_words_at board dictionary light ≡ spelled board (light_at board light) ∷ [] = get_or-map (base_words board dictionary) board.lights light [] [] below ∙ ap (λ b. cond b (spelled board (light_at board light) ∷ []) (map (λ (known : Entry). known.word) (filter test (known_words dictionary (length (light_at board light)))))) entered in
-    subst (Among (spelled board (light_at board light))) (sym here) (inl refl)
-
 fill-base : (position : Position) (entries : List (Option ℕ)) → IsFill position entries → (light : ℕ) → light < light_count position → Among (spelled (with_entries position.board entries) (light_at position.board light)) (base_words_at position.board position.words light)
 fill-base position entries fill light in_grid =
     elim (cases_Bool (is_entered position light)) [
@@ -116,11 +100,6 @@ fill_is_feasible position entries laid fill light in_grid =
     feasible-from position light _ (family_of_fill position entries) (fill_is_supported position entries laid fill) (and_from _ _ (lt-ltb light (light_count position) in_grid) (same_as_itself (spelled (with_entries position.board entries) (light_at position.board light))))
 
 -- ---- If a fill exists, one is found.
-
-pub has_words : (position : Position) (light : ℕ) (word : List ℕ) → Among word (feasible_words position light) → lacks_words position light ≡ false
-has_words position light word among =
-    let found = Contains-among word (feasible_words position light) among in
-    ne_eqb (length (feasible_words position light)) 0 (λ e. absurd (let below : found.0 < length (feasible_words position light) = found.1 in omega arith))
 
 fill-alive : (position : Position) (entries : List (Option ℕ)) → IsShaped position.board → IsFill position entries → is_dead position ≡ false
 fill-alive position entries laid fill =

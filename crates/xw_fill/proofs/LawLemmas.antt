@@ -5,16 +5,17 @@ use Rattle.std.specs.Prelude.{nat_lt, Result, Ok, Err, IfOk, OnErr}
 use Rattle.std.specs.List.{list_any}
 use Rattle.std.proofs.lemmas.Bool.{cases_eq, true≢false, false≢true, ltb-true, ltb-false}
 use Rattle.xw_feas.specs.State.{State}
-use Rattle.xw_fill.specs.Position.{Position, position_of, placed, filled_in}
+use Rattle.xw_search.specs.Position.{Position, position_of, placed, filled_in}
 use Rattle.xw_fill.specs.Filling.{IsFilling}
-use Rattle.xw_fill.specs.declared.search.Filling.{Filling}
-use Rattle.xw_fill.specs.declared.search.Filling.TheVariants.{Filled, NoFill, Limit}
-use Rattle.xw_fill.proofs.Shaped.{IsShaped}
-use Rattle.xw_fill.specs.FeasibleWords.{feasible_words}
-use Rattle.xw_fill.specs.Search.{light_count, is_entered, is_dead, with_fewer, chosen_below, chosen, found_by, found_in, due_of, due_by, due_in, end_of, end_by, end_in, unentered_count, found, due, end}
+use Rattle.xw_search.specs.declared.filling.Filling.{Filling}
+use Rattle.xw_search.specs.declared.filling.Filling.TheVariants.{Filled, NoFill, Limit}
+use Rattle.xw_search.proofs.Shaped.{IsShaped}
+use Rattle.xw_search.specs.FeasibleWords.{feasible_words}
+use Rattle.xw_search.specs.Lights.{light_count, is_entered}
+use Rattle.xw_fill.specs.Search.{is_dead, with_fewer, chosen_below, chosen, found_by, found_in, due_of, due_by, due_in, end_of, end_by, end_in, unentered_count, found, due, end}
 use Rattle.xw_fill.specs.Laws.{IsSearched, IsChoice, AnswerIsOne, EndIsOne}
-use Rattle.xw_fill.proofs.StateLemmas.{DiffersInEntries-itself}
-use Rattle.xw_fill.proofs.BelowLemmas.{Among}
+use Rattle.xw_search.proofs.StateLemmas.{DiffersInEntries-itself}
+use Rattle.xw_search.proofs.BelowLemmas.{Among}
 use Rattle.xw_fill.proofs.SearchLemmas.{chosen-Some, chosen-counted, chosen_below-None, open_feasible, placed-laid, placed-fewer}
 
 list_any-same : (f g : List ℕ → Bool) (words : List (List ℕ)) → ((word : List ℕ) → Among word words → f word ≡ g word) → list_any f words ≡ list_any g words

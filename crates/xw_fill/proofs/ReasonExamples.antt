@@ -1,8 +1,8 @@
 -- Worked examples: one light of three cells, and a list that has only the word ACE.
 use Rattle.std.proofs.Common.{◌≡◌, ℕ, zero, suc, true, false, [], ◌∷◌, Option, Some, None, set, refl, sym}
 use Rattle.std.proofs.lemmas.Bool.{true≢false}
-use Rattle.xw_fill.specs.FeasibleWords.{is_feasible_word, feasible_words}
-use Rattle.xw_fill.specs.Position.{Position}
+use Rattle.xw_search.specs.FeasibleWords.{is_feasible_word, feasible_words}
+use Rattle.xw_search.specs.Position.{Position}
 use Rattle.xw_fill.specs.Reason.{entry_in, leaves_none, IsReason}
 
 -- the position with these entries

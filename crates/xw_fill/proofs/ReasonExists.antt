@@ -2,8 +2,8 @@
 use Rattle.std.proofs.Common.{◌≡◌, ℕ, zero, suc, ◌<◌, ◌≤◌, true, false, List, length, set, Option, Some, None, refl, sym, ◌∙◌, subst, arith, inl, inr}
 use Rattle.std.specs.Prelude.{◌⊎◌, is_some, count_by}
 use Rattle.std.proofs.lemmas.Bool.{cases_Bool, cases_eq, false≢true}
-use Rattle.xw_fill.specs.Position.{Position}
-use Rattle.xw_fill.specs.Search.{lacks_words}
+use Rattle.xw_search.specs.Position.{Position}
+use Rattle.xw_search.specs.Lights.{lacks_words}
 use Rattle.xw_fill.specs.Reason.{entry_in, leaves_none, IsPart, no_entries, IsMinimal, IsReason}
 use Rattle.xw_fill.proofs.EntryLemmas.{entry_within, IsPart-itself, IsPart-then, IsPart-none, no_entry}
 use Rattle.xw_fill.proofs.ReasonLemmas.{IsPart-set, fewer_without}

@@ -13,12 +13,14 @@ use Rattle.xw_grid.specs.Grid.{IsSquare, is_open, index_of, cell_at, entry as gr
 use Rattle.xw_grid.proofs.GridLemmas.{index_of-cell_at}
 use Rattle.xw_feas.specs.State.{State}
 use Rattle.xw_feas.specs.WellFormed.{IsWellFormed}
-use Rattle.xw_fill.specs.Position.{Position, position_of, holding, DiffersInEntries}
-use Rattle.xw_fill.specs.Search.{light_count, lacks_words}
-use Rattle.xw_fill.specs.FeasibleWords.{feasible_words}
-use Rattle.xw_fill.proofs.StateLemmas.{DiffersInEntries-itself, DiffersInEntries-then, differs_index, differs_open}
-use Rattle.xw_fill.specs.Reason.{entry_in, entries_of, leaves_none, IsPart, no_entries, IsReason}
-use Rattle.xw_fill.specs.Sparing.{CanBeWritten, by_index, written_in, IsListOf, IsNeeded, IsSpared}
+use Rattle.xw_search.specs.Position.{Position, position_of, holding, DiffersInEntries}
+use Rattle.xw_search.specs.Lights.{light_count, lacks_words}
+use Rattle.xw_search.specs.FeasibleWords.{feasible_words}
+use Rattle.xw_search.proofs.StateLemmas.{DiffersInEntries-itself, DiffersInEntries-then, differs_open}
+use Rattle.xw_fill.proofs.StateLemmas.{differs_index}
+use Rattle.xw_fill.specs.Reason.{entry_in, leaves_none, IsPart, no_entries, IsReason}
+use Rattle.xw_search.specs.Writing.{entries_of, CanBeWritten, by_index, written_in}
+use Rattle.xw_fill.specs.Sparing.{IsListOf, IsNeeded, IsSpared}
 use Rattle.xw_fill.proofs.WritingLemmas.{position_at, same_entries, entry_of_open}
 use Rattle.xw_fill.proofs.EntryLemmas.{entry_within, IsPart-itself, IsPart-then, IsPart-none, no_entry, list_good, list_written, list_part_from}
 

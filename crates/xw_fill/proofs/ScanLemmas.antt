@@ -1,9 +1,7 @@
 -- Lemmas on the scans of an engine's lights.
 use Rattle.std.proofs.Common.{◌≡◌, ℕ, zero, suc, ◌+◌, ◌<◌, ◌≤◌, Bool, true, false, cond, not, ◌||◌, List, [], ◌∷◌, ◌++◌, length, get_or, set, drop, Option, Some, None, refl, sym, ◌∙◌, ap, subst, arith, add-one}
-use Rattle.std.specs.Prelude.{Result, Ok, is_some, is_none, unwrap_or, bytes_eq}
-use Rattle.std.proofs.lemmas.Bool.{true≢false, false≢true, eq-eqb, ne_eqb, false_from_ne_true, lt-ltb, le-ltb}
-use Rattle.std.proofs.lemmas.List.{get_or-map, length-map}
-use Rattle.std.proofs.lemmas.Slice.Eq.{bytes_eq-Decides}
+use Rattle.std.specs.Prelude.{Result, Ok, is_some, is_none}
+use Rattle.std.proofs.lemmas.Bool.{true≢false, false≢true, eq-eqb, lt-ltb, le-ltb}
 use Rattle.xw_grid.specs.declared.cell.Cell.{Cell}
 use Rattle.xw_grid.specs.declared.lights.Light.{Light}
 use Rattle.xw_grid.specs.Grid.{Grid, IsGrid, is_open}
@@ -13,30 +11,29 @@ use Rattle.xw_feas.specs.State.{State, list_written, with_grid, by_fault, then_w
 use Rattle.xw_feas.proofs.ShapeLemmas.{open_takes}
 use Rattle.xw_feas.proofs.WriteLemmas.{write_list-push}
 use Rattle.xw_feas.proofs.EditsLemmas.{edit_done}
-use Rattle.xw_fill.proofs.StateLemmas.{IsGrid-entry, clearing, light_cell_at, light_size, differs_open, differs_index, IsPartly, IsPartly-itself, IsPartly-then}
-use Rattle.xw_feas.specs.Board.{Board, board_of, entry, spelled, light_at}
+use Rattle.xw_search.proofs.StateLemmas.{IsGrid-entry, light_size, differs_open}
+use Rattle.xw_fill.proofs.StateLemmas.{clearing, light_cell_at, differs_index, IsPartly, IsPartly-itself, IsPartly-then}
+use Rattle.xw_feas.specs.Board.{board_of, light_at}
 use Rattle.xw_feas.specs.declared.edit.Refusal.{Refusal}
 use Rattle.xw_feas.specs.Feasible.{Answers}
-use Rattle.xw_fill.specs.Position.{Position, position_of, holding, DiffersInEntries}
+use Rattle.xw_search.specs.Position.{Position, position_of, holding, DiffersInEntries}
 use Rattle.xw_feas.specs.Engine.{IsEdited}
 use Rattle.xw_feas.specs.declared.changed.Changed.{Changed}
 use Rattle.xw_fill.specs.declared.trial.Trial.{Trial}
-use Rattle.xw_fill.specs.Below.{any_below}
-use Rattle.xw_fill.specs.FeasibleWords.{feasible_words}
-use Rattle.xw_fill.specs.Search.{light_count, is_entered, is_repeat, lacks_words, is_dead, chosen_below, chosen}
+use Rattle.xw_search.specs.Below.{any_below}
+use Rattle.xw_search.specs.FeasibleWords.{feasible_words}
+use Rattle.xw_search.specs.Lights.{light_count, is_entered, is_repeat, lacks_words}
+use Rattle.xw_fill.specs.Search.{is_dead, chosen_below, chosen}
 use Rattle.xw_fill.specs.Filling.{scanned, outlook, next_of, unless_repeated}
 use Rattle.xw_fill.specs.declared.scan.Scan.{Scan}
 use Rattle.xw_fill.specs.declared.scan.Scan.TheVariants.{Blocked, Open}
 use Rattle.xw_fill.specs.declared.search.Next.TheVariants.{Spent}
 use Rattle.xw_fill.specs.Inner.Trial.{without_letters, taken_back}
-use Rattle.xw_fill.proofs.BelowLemmas.{any_below-from}
+use Rattle.xw_search.proofs.BelowLemmas.{any_below-from}
 
 -- a light with 0 feasible words
 pub lacks_words-none : (state : Position) (light count : ℕ) → count ≡ length (feasible_words state light) → count ≡ 0 → lacks_words state light ≡ true
 lacks_words-none state light count e none = eq-eqb (length (feasible_words state light)) 0 (sym e ∙ none)
-
-pub lacks_words-some : (state : Position) (light count : ℕ) → count ≡ length (feasible_words state light) → (count ≡ 0 → ⊥) → lacks_words state light ≡ false
-lacks_words-some state light count e some = ne_eqb (length (feasible_words state light)) 0 (λ none. some (e ∙ none))
 
 -- the chosen light among one more light
 pub chosen-entered : (state : Position) (n : ℕ) → is_entered state n ≡ true → chosen_below state (n + 1) ≡ chosen_below state n
@@ -58,29 +55,6 @@ chosen-better state n (Some light) fewest count e before known is less = chosen-
 pub chosen-as_good : (state : Position) (n : ℕ) (best : Option ℕ) (fewest count : ℕ) → is_entered state n ≡ false → chosen_below state n ≡ best → ((light : ℕ) → best ≡ Some light → fewest ≡ length (feasible_words state light)) → count ≡ length (feasible_words state n) → is_some best ≡ true → fewest ≤ count → chosen_below state (n + 1) ≡ best
 chosen-as_good state n None fewest count e before known is some more = absurd (false≢true some)
 chosen-as_good state n (Some light) fewest count e before known is some more = chosen-kept state n light e before (omega (arith, known light refl, is, more))
-
--- comparing two lists of cells letter by letter
-pub spelled_letter : (board : Board) (cells : List ℕ) (k : ℕ) → k < length cells → get_or (spelled board cells) k 0 ≡ unwrap_or (entry board (get_or cells k 0)) 65
-spelled_letter board cells k below = get_or-map (λ cell. unwrap_or (entry board cell) 65) cells k 0 0 below
-
-pub differ-at : (board : Board) (cells others : List ℕ) (k : ℕ) → length cells ≡ length others → k < length cells → (unwrap_or (entry board (get_or cells k 0)) 65 ≡ unwrap_or (entry board (get_or others k 0)) 65 → ⊥) → bytes_eq (spelled board cells) (spelled board others) ≡ false
-differ-at board cells others k long below differ = false_from_ne_true _ (λ h.
-    let same = (bytes_eq-Decides (spelled board cells) (spelled board others)).0 h in
-    differ (sym (spelled_letter board cells k below) ∙ ap (λ w. get_or w k 0) same ∙ spelled_letter board others k (omega arith)))
-
-pub differ-length : (board : Board) (cells others : List ℕ) → (length cells ≡ length others → ⊥) → bytes_eq (spelled board cells) (spelled board others) ≡ false
-differ-length board cells others differ = false_from_ne_true _ (λ h.
-    let same = (bytes_eq-Decides (spelled board cells) (spelled board others)).0 h in
-    differ (sym (length-map cells (λ cell. unwrap_or (entry board cell) 65)) ∙ ap length same ∙ length-map others (λ cell. unwrap_or (entry board cell) 65)))
-
-same_letters : (board : Board) (cells others : List ℕ) → length cells ≡ length others → ((k : ℕ) → k < length cells → unwrap_or (entry board (get_or cells k 0)) 65 ≡ unwrap_or (entry board (get_or others k 0)) 65) → spelled board cells ≡ spelled board others
-same_letters board [] [] long h = refl
-same_letters board [] (other ∷ others) long h = absurd (omega arith)
-same_letters board (cell ∷ cells) [] long h = absurd (omega arith)
-same_letters board (cell ∷ cells) (other ∷ others) long h = rw (h 0 (omega arith), same_letters board cells others (omega arith) (λ k below. h (suc k) (omega arith))) refl
-
-pub same-all : (board : Board) (cells others : List ℕ) (n : ℕ) → length cells ≡ length others → length cells ≤ n → ((k : ℕ) → k < n → unwrap_or (entry board (get_or cells k 0)) 65 ≡ unwrap_or (entry board (get_or others k 0)) 65) → bytes_eq (spelled board cells) (spelled board others) ≡ true
-same-all board cells others n long all h = (bytes_eq-Decides (spelled board cells) (spelled board others)).1 (same_letters board cells others long (λ k below. h k (omega arith)))
 
 -- the result of a scan
 pub scanned-blocked : (state : Position) (light : ℕ) → light < light_count state → lacks_words state light ≡ true → scanned state ≡ Blocked

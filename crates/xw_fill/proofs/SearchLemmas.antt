@@ -1,21 +1,20 @@
 -- Lemmas on dead positions, the chosen light, and the number of lights that are not wholly entered.
-use Rattle.std.proofs.Common.{◌≡◌, ◌≢◌, ℕ, zero, suc, ◌<◌, ◌≤◌, Bool, true, false, cond, not, ◌&&◌, List, [], ◌∷◌, map, length, get_or, Option, Some, None, refl, sym, ◌∙◌, ap, subst, arith, inl, inr}
-use Rattle.std.specs.Prelude.{filter, Contains, nat_lt, bytes_eq}
-use Rattle.std.proofs.lemmas.Bool.{and_parts, and_from, cases_Bool, false≢true, cases_lt, cases_eq, or_parts, or_from, cond_both, false_from_ne_true}
-use Rattle.std.proofs.lemmas.List.{get_or_past, get_or-map}
+use Rattle.std.proofs.Common.{◌≡◌, ◌≢◌, ℕ, zero, suc, ◌<◌, ◌≤◌, Bool, true, false, cond, not, ◌&&◌, List, length, get_or, Option, Some, None, refl, sym, ◌∙◌, ap, subst, arith, inl, inr}
+use Rattle.std.specs.Prelude.{nat_lt, bytes_eq}
+use Rattle.std.proofs.lemmas.Bool.{and_parts, and_from, cases_Bool, false≢true, cases_eq, or_parts, or_from, cond_both, false_from_ne_true}
 use Rattle.std.proofs.lemmas.Slice.Eq.{bytes_eq-Decides}
-use Rattle.xw_feas.specs.Board.{Board, entry, agrees, light_at, is_wholly_entered, spelled}
-use Rattle.xw_words.specs.Dictionary.{Entry, Dictionary, known_words}
-use Rattle.xw_feas.specs.Feasible.{base_words, base_words_at}
-use Rattle.xw_fill.specs.Position.{Position, placed}
-use Rattle.xw_fill.proofs.Shaped.{IsShaped}
-use Rattle.xw_fill.specs.Below.{any_below, count_below}
-use Rattle.xw_fill.specs.FeasibleWords.{feasible_words}
-use Rattle.xw_fill.specs.Fill.{IsActive}
-use Rattle.xw_fill.specs.Search.{light_count, is_entered, spelling, spell_same, is_repeat, lacks_words, is_dead, with_fewer, chosen_below, chosen, unentered_count}
-use Rattle.xw_fill.proofs.BelowLemmas.{any_below-gives, any_below-none, Among, Among-filtered, Contains-among}
-use Rattle.xw_fill.proofs.FeasibleWordsLemmas.{feasible-gives}
-use Rattle.xw_fill.proofs.PlacingLemmas.{entered-at, entered-from, agrees-length, entries_with-at, entries_with-kept, AreDistinct, length-entries_with}
+use Rattle.xw_feas.specs.Board.{Board, entry, agrees, light_at}
+use Rattle.xw_search.specs.Position.{Position, placed}
+use Rattle.xw_search.proofs.Shaped.{IsShaped}
+use Rattle.xw_search.specs.Below.{any_below, count_below}
+use Rattle.xw_search.specs.FeasibleWords.{feasible_words}
+use Rattle.xw_search.specs.Listing.{IsActive}
+use Rattle.xw_search.specs.Lights.{light_count, is_entered, spelling, spell_same, is_repeat, lacks_words}
+use Rattle.xw_fill.specs.Search.{is_dead, with_fewer, chosen_below, chosen, unentered_count}
+use Rattle.xw_search.proofs.BelowLemmas.{any_below-gives, any_below-none, Among}
+use Rattle.xw_search.proofs.FeasibleWordsLemmas.{feasible-gives}
+use Rattle.xw_search.proofs.PlacingLemmas.{entered-at, entered-from, agrees-length, entries_with-at, entries_with-kept, AreDistinct, length-entries_with}
+use Rattle.xw_search.proofs.LightLemmas.{cells_within, open_base}
 
 pub count_below-positive : (test : ℕ → Bool) (n k : ℕ) → k < n → test k ≡ true → 0 < count_below test n
 count_below-positive test zero k below passes = absurd (omega arith)
@@ -111,35 +110,8 @@ alive-from position words distinct = or_from _ _
     let second = and_parts (is_entered position earlier.0) (bytes_eq (spelling position found.0) (spelling position earlier.0)) first.1 in
     distinct earlier.0 found.0 earlier.1 found.1 first.0 second.0 ((bytes_eq-Decides (spelling position found.0) (spelling position earlier.0)).0 second.1)))
 
--- the base words of a light that is not wholly entered are active and agree with its entries
-known_word : (dictionary : Dictionary) (test : Entry → Bool) (words : List Entry) (word : List ℕ) → Among word (map (λ (known : Entry). known.word) words) → (known : Entry) × Among known words × (known.word ≡ word)
-known_word dictionary test [] word h = absurd h
-known_word dictionary test (known ∷ words) word (inl e) = (known, inl refl, e)
-known_word dictionary test (known ∷ words) word (inr h) = let found = known_word dictionary test words word h in (found.0, inr found.1, found.2)
-
-pub open_base : (board : Board) (dictionary : Dictionary) (light : ℕ) (word : List ℕ) → light < length board.lights → is_wholly_entered board (light_at board light) ≡ false → Among word (base_words_at board dictionary light) → IsActive dictionary word × (agrees board (light_at board light) word ≡ true)
-open_base board dictionary light word below not_entered among =
-    let test : Entry → Bool = λ known. known.active && agrees board (light_at board light) known.word in
-    let words = known_words dictionary (length (light_at board light)) in
-    let here : base_words_at board dictionary light ≡ map (λ (known : Entry). known.word) (filter test words) = get_or-map (base_words board dictionary) board.lights light [] [] below ∙ ap (λ b. cond b (spelled board (light_at board light) ∷ []) (map (λ (known : Entry). known.word) (filter test words))) not_entered in
-    let found = known_word dictionary test (filter test words) word (subst (Among word) here among) in
-    let known = Among-filtered test words found.0 found.1 in
-    let parts = and_parts found.0.active (agrees board (light_at board light) found.0.word) known.1 in
-    let fits : agrees board (light_at board light) word ≡ true = ap (agrees board (light_at board light)) (sym found.2) ∙ parts.1 in
-    let long : length word ≡ length (light_at board light) = agrees-length board (light_at board light) word fits in
-    let there : Contains (known_words dictionary (length word)) found.0 = subst (λ n. Contains (known_words dictionary n) found.0) (sym long) (Contains-among found.0 words known.0) in
-    ((found.0, (there, found.2, parts.0)), fits)
-
 pub open_feasible : (position : Position) (light : ℕ) (word : List ℕ) → light < light_count position → is_entered position light ≡ false → Among word (feasible_words position light) → IsActive position.words word × (agrees position.board (light_at position.board light) word ≡ true)
 open_feasible position light word below not_entered among = open_base position.board position.words light word below not_entered (feasible-gives position light word among).0
-
--- the cells of a light are on the board
-pub cells_within : (board : Board) → IsShaped board → (light k : ℕ) → k < length (light_at board light) → get_or (light_at board light) k 0 < length board.entries
-cells_within board laid light k below =
-    elim (cases_lt (get_or (light_at board light) k 0) (length board.open_cells)) [
-      | inl within ↦ omega (arith, laid.entries)
-      | inr past ↦ absurd (false≢true (sym (get_or_past board.open_cells (get_or (light_at board light) k 0) false past) ∙ laid.cells_open light k below))
-    ]
 
 pub cells_distinct : (board : Board) → IsShaped board → (light : ℕ) → AreDistinct (light_at board light)
 cells_distinct board laid light j k below_j below_k e = laid.distinct light j k below_j below_k e

@@ -7,18 +7,19 @@ use Rattle.std.proofs.lemmas.Bool.{false≢true}
 use Rattle.std.proofs.lemmas.List.{nil_from_length}
 use Rattle.xw_feas.specs.Board.{board_of, light_at}
 use Rattle.xw_feas.specs.State.{State}
-use Rattle.xw_fill.proofs.Shaped.{shaped, distinct_words}
-use Rattle.xw_fill.proofs.StateLemmas.{same_state}
+use Rattle.xw_search.proofs.Shaped.{shaped, distinct_words}
+use Rattle.xw_search.proofs.StateLemmas.{same_state}
 use Rattle.xw_feas.specs.WellFormed.{IsWellFormed}
-use Rattle.xw_fill.specs.Position.{Position, position_of, filled_in, DiffersInEntries}
-use Rattle.xw_fill.specs.FeasibleWords.{is_feasible_word}
-use Rattle.xw_fill.specs.Search.{light_count, is_entered, is_dead, chosen, found_in, due_of, due_in, end_in, unentered_count, found, due, end}
-use Rattle.xw_fill.specs.Inner.Stack.{first_or, LeadThrough}
+use Rattle.xw_search.specs.Position.{Position, position_of, filled_in, DiffersInEntries}
+use Rattle.xw_search.specs.FeasibleWords.{is_feasible_word}
+use Rattle.xw_search.specs.Lights.{light_count, is_entered}
+use Rattle.xw_fill.specs.Search.{is_dead, chosen, found_in, due_of, due_in, end_in, unentered_count, found, due, end}
+use Rattle.xw_search.specs.Stack.{first_or, LeadThrough}
 use Rattle.xw_fill.specs.Inner.Tries.{IsMade}
 use Rattle.xw_fill.specs.Filling.{outlook, next_of, IsFilling, HasFill, UnlessFilled}
 use Rattle.xw_fill.specs.declared.tries.Try.{Try}
-use Rattle.xw_fill.specs.declared.search.Filling.{Filling}
-use Rattle.xw_fill.specs.declared.search.Filling.TheVariants.{Filled, NoFill, Limit}
+use Rattle.xw_search.specs.declared.filling.Filling.{Filling}
+use Rattle.xw_search.specs.declared.filling.Filling.TheVariants.{Filled, NoFill, Limit}
 use Rattle.xw_fill.specs.declared.search.Next.{Next}
 use Rattle.xw_fill.specs.declared.search.Next.TheVariants.{Done, Spent, Words}
 use Rattle.xw_fill.proofs.FillLemmas.{fill_is_found, found_is_fill, reached-start}

@@ -2,9 +2,9 @@
 use Rattle.std.proofs.Common.{◌≡◌, ℕ, ◌+◌, ◌<◌, true, false, [], get_or, Some, None, subst, arith, inl, inr}
 use Rattle.std.specs.Prelude.{is_none}
 use Rattle.std.proofs.lemmas.Bool.{and_left, and_right, and_from, cases_lt}
-use Rattle.xw_fill.specs.Position.{Position, placed}
+use Rattle.xw_search.specs.Position.{Position, placed}
 use Rattle.xw_fill.specs.Words.{spellings_at, IsNextWord, HasNoMore}
-use Rattle.xw_fill.proofs.BelowLemmas.{position-here, position-none}
+use Rattle.xw_search.proofs.BelowLemmas.{position-here, position-none}
 use Rattle.xw_fill.specs.Suggesting.{can_be_tried, first_blocked, index_to_try}
 
 -- no word before the next feasible word can be tried

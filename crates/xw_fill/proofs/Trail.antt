@@ -7,19 +7,20 @@ use Rattle.std.proofs.lemmas.Bool.{true≢false, or_from, or_left}
 use Rattle.std.proofs.lemmas.List.Folds.{list_any-append}
 use Rattle.xw_feas.specs.Board.{light_at, agrees}
 use Rattle.xw_feas.specs.State.{State}
-use Rattle.xw_fill.proofs.Shaped.{IsShaped}
+use Rattle.xw_search.proofs.Shaped.{IsShaped, HasDistinctWords}
 use Rattle.xw_fill.specs.Words.{spellings_at, words_before, words_left}
-use Rattle.xw_fill.proofs.Shaped.{HasDistinctWords}
-use Rattle.xw_fill.specs.Position.{Position, position_of, placed}
-use Rattle.xw_fill.specs.FeasibleWords.{is_feasible_word, feasible_words}
+use Rattle.xw_search.specs.Position.{Position, position_of, placed}
+use Rattle.xw_search.specs.FeasibleWords.{is_feasible_word, feasible_words}
 use Rattle.xw_fill.specs.Inner.EnteredSince.{noted, AreEntered, StayNoted}
-use Rattle.xw_fill.specs.Search.{light_count, is_entered, is_dead, chosen, found_in, due_of, due_in, end_of, end_in, unentered_count}
-use Rattle.xw_fill.specs.Inner.Stack.{first_or, LeadThrough}
+use Rattle.xw_search.specs.Lights.{light_count, is_entered}
+use Rattle.xw_fill.specs.Search.{is_dead, chosen, found_in, due_of, due_in, end_of, end_in, unentered_count}
+use Rattle.xw_search.specs.Stack.{first_or, LeadThrough}
 use Rattle.xw_fill.specs.Inner.Tries.{word_of, IsMade}
 use Rattle.xw_fill.specs.declared.tries.Try.{Try}
-use Rattle.xw_fill.proofs.BelowLemmas.{Among-contained}
-use Rattle.xw_fill.proofs.FeasibleWordsLemmas.{is_feasible_word-gives}
-use Rattle.xw_fill.proofs.SearchLemmas.{chosen-Some, open_base, placed-laid, placed-fewer}
+use Rattle.xw_search.proofs.BelowLemmas.{Among-contained}
+use Rattle.xw_search.proofs.FeasibleWordsLemmas.{is_feasible_word-gives}
+use Rattle.xw_fill.proofs.SearchLemmas.{chosen-Some, placed-laid, placed-fewer}
+use Rattle.xw_search.proofs.LightLemmas.{open_base}
 use Rattle.xw_fill.proofs.WordsLemmas.{feasible_known_words, words_before-more, words_parted}
 
 -- ---- going through the words of a light

@@ -3,12 +3,13 @@ use Rattle.std.proofs.Common.{◌≡◌, ◌≢◌, ℕ, zero, suc, ◌<◌, Boo
 use Rattle.std.specs.Prelude.{is_none}
 use Rattle.std.proofs.lemmas.List.{length-set, get_or-set_same, get_or-set_other, ext_get_or}
 use Rattle.xw_feas.specs.Board.{entry, light_at, agrees}
-use Rattle.xw_fill.specs.Position.{Position, placed, entries_with, holding}
+use Rattle.xw_search.specs.Position.{Position, placed, entries_with, holding}
 use Rattle.xw_fill.specs.Inner.Trial.{without_letters, taken_back, AreBlanks}
 use Rattle.xw_fill.specs.declared.trial.Trial.{Trial}
-use Rattle.xw_fill.proofs.Shaped.{IsShaped}
-use Rattle.xw_fill.proofs.PlacingLemmas.{AreDistinct, cell_in, agrees-length, agrees-at, allowed, entries_with-other, length-entries_with}
-use Rattle.xw_fill.proofs.SearchLemmas.{cells_within, cells_distinct, placed-at}
+use Rattle.xw_search.proofs.Shaped.{IsShaped}
+use Rattle.xw_search.proofs.PlacingLemmas.{AreDistinct, cell_in, agrees-length, agrees-at, allowed, entries_with-other, length-entries_with}
+use Rattle.xw_search.proofs.LightLemmas.{cells_within}
+use Rattle.xw_fill.proofs.SearchLemmas.{cells_distinct, placed-at}
 
 length-without_letters : (entries : List (Option ℕ)) (cells : List ℕ) (blanks : List Bool) → length (without_letters entries cells blanks) ≡ length entries
 length-without_letters entries [] blanks = refl

@@ -11,17 +11,18 @@ use Rattle.xw_feas.specs.Feasible.{Family, IsSupported, base_words, base_words_a
 use Rattle.xw_feas.specs.State.{State}
 use Rattle.xw_feas.specs.WellFormed.{IsWellFormed}
 use Rattle.xw_feas.proofs.AnswersLemmas.{feasible_base}
-use Rattle.xw_fill.specs.Position.{Position, position_of, with_entries, placed}
+use Rattle.xw_search.specs.Position.{Position, position_of, with_entries, placed}
 use Rattle.xw_fill.specs.Choices.{CrossesNone, fewest_words, fewest_after}
-use Rattle.xw_fill.specs.FeasibleWords.{is_feasible_word, feasible_words}
-use Rattle.xw_fill.specs.Search.{light_count, is_entered, with_fewer, chosen_below, chosen}
+use Rattle.xw_search.specs.FeasibleWords.{is_feasible_word, feasible_words}
+use Rattle.xw_search.specs.Lights.{light_count, is_entered}
+use Rattle.xw_fill.specs.Search.{with_fewer, chosen_below, chosen}
 use Rattle.xw_fill.specs.Words.{spellings_at}
-use Rattle.xw_fill.proofs.BelowLemmas.{Among-contained, Contains-among, list_any-from, list_any-gives}
+use Rattle.xw_search.proofs.BelowLemmas.{Among-contained, Contains-among, list_any-from, list_any-gives}
 use Rattle.xw_fill.proofs.ChoiceLemmas.{known_after}
-use Rattle.xw_fill.proofs.FeasibleWordsLemmas.{same_tests, filter-same, is_feasible_word-gives, is_feasible_word-from}
-use Rattle.xw_fill.proofs.PlacingLemmas.{entries_with-other, spelled-same}
+use Rattle.xw_search.proofs.FeasibleWordsLemmas.{same_tests, filter-same, is_feasible_word-gives, is_feasible_word-from}
+use Rattle.xw_search.proofs.PlacingLemmas.{entries_with-other, spelled-same}
 use Rattle.xw_fill.proofs.SearchLemmas.{chosen_below-Some, placed-enters}
-use Rattle.xw_fill.proofs.Shaped.{shaped}
+use Rattle.xw_search.proofs.Shaped.{shaped}
 
 -- ---- cells whose entries are the same
 

@@ -1,27 +1,26 @@
 -- The feasible words of a light, by their indices in the dictionary.
 use Rattle.std.proofs.Common.{◌≡◌, ℕ, zero, suc, ◌+◌, ◌-◌, ◌<◌, ◌≤◌, Bool, true, false, cond, ◌&&◌, List, [], ◌∷◌, ◌++◌, map, length, get_or, take, drop, Option, Some, None, refl, sym, ◌∙◌, ap, subst, arith, add-zero, append_assoc, inl, inr}
-use Rattle.std.specs.Prelude.{filter, Contains, nat_lt, position, option_map}
-use Rattle.std.specs.List.{position_or_len}
-use Rattle.std.proofs.lemmas.Bool.{and_right, cases_Bool, and_parts, and_from, false≢true, ltb-false}
+use Rattle.std.specs.Prelude.{filter, Contains, position, option_map}
+use Rattle.std.proofs.lemmas.Bool.{and_right, cases_Bool, and_parts, and_from, false≢true}
 use Rattle.std.proofs.lemmas.List.{get_or-map, get_or-drop, length-map, length-drop, take_more, take-append-drop, append-nil}
 use Rattle.std.proofs.lemmas.List.Elements.{filter-append}
 use Rattle.std.proofs.lemmas.List.Quantifiers.{position-Some}
-use Rattle.std.proofs.lemmas.List.Sums.{fails_before_first}
 use Rattle.xw_feas.specs.Board.{light_at, agrees, spelled}
 use Rattle.xw_words.specs.Dictionary.{Entry, no_entry, known_words}
 use Rattle.xw_feas.specs.Known.{spellings}
 use Rattle.xw_feas.specs.Feasible.{Answers, AreAnswers, base_words, base_words_at}
 use Rattle.xw_feas.specs.Queries.{next_found, is_active_answer}
 use Rattle.xw_fill.specs.Words.{spellings_at, words_before, words_left, IsNextWord, HasNoMore}
-use Rattle.xw_fill.proofs.Shaped.{HasDistinctWords}
-use Rattle.xw_fill.specs.Position.{Position}
+use Rattle.xw_search.proofs.Shaped.{HasDistinctWords}
+use Rattle.xw_search.specs.Position.{Position}
 use Rattle.xw_feas.specs.declared.edit.Found.TheVariants.{Listed, Entered}
-use Rattle.xw_fill.specs.FeasibleWords.{is_feasible_word, feasible_words}
-use Rattle.xw_fill.specs.Search.{light_count, is_entered}
-use Rattle.xw_fill.proofs.BelowLemmas.{Among-contained}
-use Rattle.xw_fill.proofs.FeasibleWordsLemmas.{is_feasible_word-gives, answers_word-is}
-use Rattle.xw_fill.proofs.PlacingLemmas.{agrees-length}
-use Rattle.xw_fill.proofs.SearchLemmas.{open_base}
+use Rattle.xw_search.specs.FeasibleWords.{is_feasible_word, feasible_words}
+use Rattle.xw_search.specs.Lights.{light_count, is_entered}
+use Rattle.xw_search.proofs.BelowLemmas.{Among-contained}
+use Rattle.xw_search.proofs.FeasibleWordsLemmas.{is_feasible_word-gives, answers_word-is}
+use Rattle.xw_search.proofs.PlacingLemmas.{agrees-length}
+use Rattle.xw_search.proofs.LightLemmas.{open_base}
+use Rattle.xw_search.proofs.ListingLemmas.{no_index}
 
 -- if every word that passes is also picked, picking first changes nothing
 filter_picked : (test : List ℕ → Bool) (pick : Entry → Bool) (words : List Entry) → ((k : ℕ) → k < length words → test (get_or words k no_entry).word ≡ true → pick (get_or words k no_entry) ≡ true) → filter test (map (λ (word : Entry). word.word) (filter pick words)) ≡ filter test (map (λ (word : Entry). word.word) words)
@@ -106,16 +105,6 @@ next_index p xs d from k h =
       ap p (sym (get_or-drop from xs k d)) ∙ found.1,
       λ j above below. let back : from + (j - from) ≡ j = omega arith in ap (λ i. p (get_or xs i d)) (sym back) ∙ ap p (sym (get_or-drop from xs (j - from) d)) ∙ found.2 (j - from) (omega arith),
     )
-
-pub no_index : {X : Type 0} (p : X → Bool) (xs : List X) (d : X) (from : ℕ) → position p (drop from xs) ≡ None → (k : ℕ) → from ≤ k → k < length xs → p (get_or xs k d) ≡ false
-no_index p xs d from h k above below =
-    let back : from + (k - from) ≡ k = omega arith in
-    let long : length (drop from xs) ≡ length xs - from = length-drop from xs in
-    let over = split (nat_lt (position_or_len p (drop from xs)) (length (drop from xs))) refl h in
-    ap (λ i. p (get_or xs i d)) (sym back) ∙ ap p (sym (get_or-drop from xs (k - from) d)) ∙ fails_before_first p (drop from xs) (k - from) d (omega arith) where
-      split : (b : Bool) → nat_lt (position_or_len p (drop from xs)) (length (drop from xs)) ≡ b → cond b (Some (position_or_len p (drop from xs))) None ≡ None → length (drop from xs) ≤ position_or_len p (drop from xs)
-      split true e g = cc
-      split false e g = ltb-false (position_or_len p (drop from xs)) (length (drop from xs)) e
 
 -- no other word up to the next one is feasible
 pub next_before : (state : Position) (light from index : ℕ) → IsNextWord state light from index → words_before state light index ≡ words_before state light from

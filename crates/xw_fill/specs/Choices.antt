@@ -3,8 +3,8 @@ use Rattle.std.specs.Prelude.{ℕ, ◌<◌, List, length, slice_index, Option, N
 use Rattle.xw_feas.specs.Board.{Board, light_at, IsCrossing}
 use Rattle.xw_feas.specs.declared.edit.Refusal.{Refusal}
 use Rattle.xw_feas.specs.State.{State, after, word_placed}
-use Rattle.xw_fill.specs.Position.{Position, position_of, name_at}
-use Rattle.xw_fill.specs.FeasibleWords.{feasible_words}
+use Rattle.xw_search.specs.Position.{Position, position_of, name_at}
+use Rattle.xw_search.specs.FeasibleWords.{feasible_words}
 use Rattle.xw_fill.specs.Search.{chosen}
 
 -- the least number of feasible words of a light that is not wholly entered, which the chosen light has; None if all

@@ -1,14 +1,10 @@
 -- The definition of a fill.
-use Rattle.std.specs.Prelude.{◌≡◌, ℕ, ◌<◌, ◌≢◌, true, false, List, length, Contains, Option, Some}
+use Rattle.std.specs.Prelude.{◌≡◌, ℕ, ◌<◌, ◌≢◌, true, false, List, length, Option, Some}
 use Rattle.xw_feas.specs.Board.{entry, light_at, is_wholly_entered, spelled}
-use Rattle.xw_words.specs.Dictionary.{Dictionary, Entry, known_words}
 use Rattle.xw_feas.specs.WellFormed.{HasLetterEntries}
-use Rattle.xw_fill.specs.Position.{Position, with_entries}
-use Rattle.xw_fill.specs.Search.{is_entered}
-
--- the word is active in the dictionary
-abbrev pub IsActive : Dictionary → List ℕ → Type 0
-IsActive dictionary word = (known : Entry) × (Contains (known_words dictionary (length word)) known × (known.word ≡ word) × (known.active ≡ true))
+use Rattle.xw_search.specs.Position.{Position, with_entries}
+use Rattle.xw_search.specs.Lights.{is_entered}
+use Rattle.xw_search.specs.Listing.{IsActive}
 
 -- The entries are letters and keep every entry of the position. Each light is wholly entered with an active word,
 -- unless it was wholly entered before. No two lights spell the same.

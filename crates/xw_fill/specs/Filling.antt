@@ -1,14 +1,15 @@
 -- What each answer of a search for a fill means.
 use Rattle.std.specs.Prelude.{◌≡◌, ℕ, ◌<◌, ◌≤◌, Bool, true, false, cond, List, Option, Some, None}
 use Rattle.xw_feas.specs.State.{State}
-use Rattle.xw_fill.specs.Position.{Position, position_of, filled_in}
+use Rattle.xw_search.specs.Position.{Position, position_of, filled_in}
 use Rattle.xw_fill.specs.Fill.{IsFill}
-use Rattle.xw_fill.specs.Below.{any_below}
-use Rattle.xw_fill.specs.Search.{light_count, lacks_words, is_dead, chosen, found, due, end}
+use Rattle.xw_search.specs.Below.{any_below}
+use Rattle.xw_search.specs.Lights.{light_count, lacks_words}
+use Rattle.xw_fill.specs.Search.{is_dead, chosen, found, due, end}
 use Rattle.xw_fill.specs.declared.scan.Scan.{Scan}
 use Rattle.xw_fill.specs.declared.scan.Scan.TheVariants.{Blocked, Open}
-use Rattle.xw_fill.specs.declared.search.Filling.{Filling}
-use Rattle.xw_fill.specs.declared.search.Filling.TheVariants.{Filled, NoFill, Limit}
+use Rattle.xw_search.specs.declared.filling.Filling.{Filling}
+use Rattle.xw_search.specs.declared.filling.Filling.TheVariants.{Filled, NoFill, Limit}
 use Rattle.xw_fill.specs.declared.search.Next.{Next}
 use Rattle.xw_fill.specs.declared.search.Next.TheVariants.{Done, Spent, Words}
 

@@ -3,12 +3,13 @@ use Rattle.std.specs.Prelude.{◌≡◌, ℕ, ◌<◌, ◌≤◌, true, false, c
 use Rattle.xw_feas.specs.Board.{light_at, spelled}
 use Rattle.xw_feas.specs.State.{State}
 use Rattle.xw_feas.specs.WellFormed.{IsLaidOut}
-use Rattle.xw_fill.specs.Position.{Position, position_of, with_entries, holding}
+use Rattle.xw_search.specs.Position.{Position, position_of, with_entries, holding}
 use Rattle.xw_fill.specs.Fill.{IsFill}
 use Rattle.xw_fill.specs.Filling.{IsFilling}
-use Rattle.xw_fill.specs.declared.search.Filling.{Filling}
-use Rattle.xw_fill.specs.FeasibleWords.{feasible_words}
-use Rattle.xw_fill.specs.Search.{light_count, is_entered, is_dead, chosen, found_by, due_by, end_by, found, due, end}
+use Rattle.xw_search.specs.declared.filling.Filling.{Filling}
+use Rattle.xw_search.specs.FeasibleWords.{feasible_words}
+use Rattle.xw_search.specs.Lights.{light_count, is_entered}
+use Rattle.xw_fill.specs.Search.{is_dead, chosen, found_by, due_by, end_by, found, due, end}
 
 -- What `found`, `due` and `end` of `Search.antt` mean, without a bound on placements: those of a position follow from
 -- those of the positions after one placement. A dead position has no fill and no placements.

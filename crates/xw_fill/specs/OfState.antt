@@ -2,54 +2,22 @@
 -- engine speaks of the state of the engine, so it cites these.
 use Rattle.std.specs.Prelude.{ℕ, Bool, List, Option}
 use Rattle.xw_feas.specs.State.{State}
-use Rattle.xw_fill.specs.Position.{Position, position_of}
-use Rattle.xw_fill.specs.FeasibleWords
-use Rattle.xw_fill.specs.FeasibleLetters
+use Rattle.xw_search.specs.Position.{Position, position_of}
 use Rattle.xw_fill.specs.Search
+use Rattle.xw_search.specs.Lights
 use Rattle.xw_fill.specs.Filling
 use Rattle.xw_fill.specs.Words
 use Rattle.xw_fill.specs.Suggesting
 use Rattle.xw_fill.specs.Choices
-use Rattle.xw_fill.specs.Listing
-use Rattle.xw_fill.specs.NamedFill
 use Rattle.xw_fill.specs.Reason
 use Rattle.xw_fill.specs.Sparing
 use Rattle.xw_fill.specs.declared.scan.Scan.{Scan}
 use Rattle.xw_fill.specs.declared.search.Next.{Next}
 
--- ---- feasible words and letters
-
-abbrev pub feasible_words : State → ℕ → List (List ℕ)
-feasible_words state = FeasibleWords.feasible_words (position_of state)
-
-abbrev pub is_feasible_letter : State → ℕ → ℕ → Bool
-is_feasible_letter state = FeasibleLetters.is_feasible_letter (position_of state)
-
-abbrev pub feasible_letters : State → ℕ → List ℕ
-feasible_letters state = FeasibleLetters.feasible_letters (position_of state)
-
 -- ---- lights
 
-abbrev pub light_count : State → ℕ
-light_count state = Search.light_count (position_of state)
-
-abbrev pub is_entered : State → ℕ → Bool
-is_entered state = Search.is_entered (position_of state)
-
-abbrev pub spelling : State → ℕ → List ℕ
-spelling state = Search.spelling (position_of state)
-
-abbrev pub spell_same : State → ℕ → ℕ → Bool
-spell_same state = Search.spell_same (position_of state)
-
-abbrev pub is_repeat : State → ℕ → Bool
-is_repeat state = Search.is_repeat (position_of state)
-
-abbrev pub first_same : State → ℕ → Option ℕ
-first_same state = Search.first_same (position_of state)
-
 abbrev pub lacks_words : State → ℕ → Bool
-lacks_words state = Search.lacks_words (position_of state)
+lacks_words state = Lights.lacks_words (position_of state)
 
 -- ---- the search for a fill
 
@@ -101,25 +69,6 @@ IsTriedAt state = Suggesting.IsTriedAt (position_of state)
 
 abbrev pub fewest_words : State → Option ℕ
 fewest_words state = Choices.fewest_words (position_of state)
-
--- ---- lists of lights
-
-abbrev pub is_listed : State → List ℕ → Bool
-is_listed state = Listing.is_listed (position_of state)
-
-abbrev pub is_unlisted : State → ℕ → Bool
-is_unlisted state = Listing.is_unlisted (position_of state)
-
-abbrev pub grade_of : State → ℕ → Option ℕ
-grade_of state = Listing.grade_of (position_of state)
-
--- ---- fills of the named lights
-
-abbrev pub is_in_named : (ℕ → Bool) → State → ℕ → Bool
-is_in_named named state = NamedFill.is_in_named named (position_of state)
-
-abbrev pub IsFillOf : (ℕ → Bool) → State → List (Option ℕ) → Type 0
-IsFillOf named state = NamedFill.IsFillOf named (position_of state)
 
 -- ---- reasons
 

@@ -2,20 +2,15 @@
 use Rattle.std.specs.Prelude.{◌≡◌, ℕ, Bool, true, false, List, map, length, slice_index_or, slice_set, Option, Some, None}
 use Rattle.xw_grid.specs.declared.cell.LightName.{LightName}
 use Rattle.xw_grid.specs.Light.{lights_of, index_named}
-use Rattle.xw_feas.specs.Board.{board_of}
 use Rattle.xw_feas.specs.State.{State}
-use Rattle.xw_fill.specs.Position.{Position, position_of, holding}
-use Rattle.xw_fill.specs.Search.{lacks_words}
+use Rattle.xw_search.specs.Position.{Position, position_of, holding}
+use Rattle.xw_search.specs.Lights.{lacks_words}
 use Rattle.xw_fill.specs.declared.why.NoReason.{NoReason}
 use Rattle.xw_fill.specs.declared.why.NoReason.TheVariants.{NoLight, Alive, Memory}
 
 -- the entry of a cell, by the cell's index in reading order
 abbrev pub entry_in : List (Option ℕ) → ℕ → Option ℕ
 entry_in entries cell = slice_index_or entries cell None
-
--- the entries of a state
-abbrev pub entries_of : State → List (Option ℕ)
-entries_of state = (board_of state.grid).entries
 
 -- whether the light has no feasible word with these entries alone
 abbrev pub leaves_none : Position → ℕ → List (Option ℕ) → Bool

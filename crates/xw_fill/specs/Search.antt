@@ -2,37 +2,12 @@
 -- where it ends (`end`). `found_in`, `due_in` and `end_in` have a bound on the placements in a row only so that the
 -- recursion ends. `IsSearched` of `Laws.antt` says what the three mean without a bound, and `FoundIsFill` and
 -- `FillIsFound` there relate them to fills.
-use Rattle.std.specs.Prelude.{ℕ, zero, suc, ◌+◌, Bool, true, cond, ◌&&◌, ◌||◌, not, nat_lt, ◌==◌, List, [], ◌∷◌, length, bytes_eq, Option, Some, None, is_none}
+use Rattle.std.specs.Prelude.{ℕ, zero, suc, ◌+◌, Bool, true, cond, ◌&&◌, ◌||◌, not, nat_lt, List, [], ◌∷◌, length, Option, Some, None, is_none}
 use Rattle.std.specs.List.{list_any}
-use Rattle.xw_feas.specs.Board.{light_at, is_wholly_entered, spelled}
-use Rattle.xw_fill.specs.Position.{Position, placed}
-use Rattle.xw_fill.specs.Below.{any_below, count_below, first_below}
-use Rattle.xw_fill.specs.FeasibleWords.{feasible_words}
-
-abbrev pub light_count : Position → ℕ
-light_count position = length position.board.lights
-
-abbrev pub is_entered : Position → ℕ → Bool
-is_entered position light = is_wholly_entered position.board (light_at position.board light)
-
--- the letters of a light, which are its word if it is wholly entered
-abbrev pub spelling : Position → ℕ → List ℕ
-spelling position light = spelled position.board (light_at position.board light)
-
--- both lights are wholly entered and spell the same
-abbrev pub spell_same : Position → ℕ → ℕ → Bool
-spell_same position light other = is_entered position light && (is_entered position other && bytes_eq (spelling position light) (spelling position other))
-
--- the light spells the same as an earlier light
-abbrev pub is_repeat : Position → ℕ → Bool
-is_repeat position light = any_below (spell_same position light) light
-
--- the first earlier light that spells the same
-abbrev pub first_same : Position → ℕ → Option ℕ
-first_same position light = first_below (spell_same position light) light
-
-abbrev pub lacks_words : Position → ℕ → Bool
-lacks_words position light = length (feasible_words position light) == 0
+use Rattle.xw_search.specs.Position.{Position, placed}
+use Rattle.xw_search.specs.Below.{any_below, count_below}
+use Rattle.xw_search.specs.FeasibleWords.{feasible_words}
+use Rattle.xw_search.specs.Lights.{is_entered, is_repeat, lacks_words, light_count}
 
 -- some light has no feasible word, or two wholly entered lights spell the same
 unfoldable pub is_dead : Position → Bool

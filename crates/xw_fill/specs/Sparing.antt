@@ -1,26 +1,13 @@
 -- Lists of written cells, and the progress of a search for a reason.
-use Rattle.std.specs.Prelude.{◌≡◌, ℕ, true, false, List, [], ◌∷◌, map, length, slice_set, All, Contains, Option, Some, None}
+use Rattle.std.specs.Prelude.{◌≡◌, ℕ, true, false, List, length, slice_set, All, Contains, Option, Some, None}
 use Rattle.xw_grid.specs.declared.cell.Cell.{Cell}
-use Rattle.xw_grid.specs.declared.cell.Square.TheVariants.{Open}
-use Rattle.xw_grid.specs.Grid.{Grid, IsSquare, is_open, index_of, cell_at}
+use Rattle.xw_grid.specs.Grid.{is_open, index_of, cell_at}
 use Rattle.xw_feas.specs.State.{State}
-use Rattle.xw_fill.specs.Position.{Position, position_of, DiffersInEntries}
-use Rattle.xw_fill.specs.Search.{lacks_words}
-use Rattle.xw_fill.specs.Reason.{entry_in, entries_of, leaves_none, no_entries}
+use Rattle.xw_search.specs.Position.{Position, position_of, DiffersInEntries}
+use Rattle.xw_search.specs.Lights.{lacks_words}
+use Rattle.xw_fill.specs.Reason.{entry_in, leaves_none, no_entries}
+use Rattle.xw_search.specs.Writing.{entries_of}
 use Rattle.xw_fill.specs.declared.why.Room.{Room}
-
--- a list of cells, each by its index in reading order
-abbrev pub by_index : Grid → List (Cell × Option ℕ) → List (ℕ × Option ℕ)
-by_index grid list = map (λ written. (index_of grid written.0, written.1)) list
-
--- the entries after each cell of a list was written
-abbrev pub written_in : List (Option ℕ) → List (ℕ × Option ℕ) → List (Option ℕ)
-written_in entries [] = entries
-written_in entries (written ∷ list) = written_in (slice_set entries written.0 written.1) list
-
--- the cell is open, and what is written there is a letter or none
-abbrev pub CanBeWritten : Grid → Cell × Option ℕ → Type 0
-CanBeWritten grid written = (is_open grid written.0 ≡ true) × IsSquare (Open written.1)
 
 -- the same cell, to be emptied
 abbrev pub emptied : Cell × Option ℕ → Cell × Option ℕ

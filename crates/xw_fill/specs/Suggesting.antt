@@ -2,10 +2,11 @@
 use Rattle.std.specs.Prelude.{◌≡◌, ℕ, ◌<◌, length, slice_index_or, [], Bool, true, false, ◌&&◌, List, Option, Some, None, is_none, position}
 use Rattle.xw_grid.specs.declared.cell.LightName.{LightName}
 use Rattle.xw_feas.specs.State.{State}
-use Rattle.xw_fill.specs.Position.{Position, position_of, placed, name_at}
-use Rattle.xw_fill.specs.Below.{first_below}
-use Rattle.xw_fill.specs.FeasibleWords.{is_feasible_word}
-use Rattle.xw_fill.specs.Search.{light_count, is_entered, lacks_words, chosen}
+use Rattle.xw_search.specs.Position.{Position, position_of, placed, name_at}
+use Rattle.xw_search.specs.Below.{first_below}
+use Rattle.xw_search.specs.FeasibleWords.{is_feasible_word}
+use Rattle.xw_search.specs.Lights.{light_count, is_entered, lacks_words}
+use Rattle.xw_fill.specs.Search.{chosen}
 use Rattle.xw_fill.specs.Words.{spellings_at}
 use Rattle.xw_fill.specs.declared.suggesting.Suggestion.{Suggestion}
 use Rattle.xw_fill.specs.declared.suggesting.Suggestion.TheVariants.{Dead, Done, Try, NoWord}

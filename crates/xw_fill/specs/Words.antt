@@ -2,8 +2,8 @@
 use Rattle.std.specs.Prelude.{◌≡◌, ℕ, ◌<◌, ◌≤◌, true, false, List, [], take, drop, filter, length, slice_index_or}
 use Rattle.xw_feas.specs.Board.{light_at}
 use Rattle.xw_feas.specs.Known.{spellings}
-use Rattle.xw_fill.specs.Position.{Position}
-use Rattle.xw_fill.specs.FeasibleWords.{is_feasible_word}
+use Rattle.xw_search.specs.Position.{Position}
+use Rattle.xw_search.specs.FeasibleWords.{is_feasible_word}
 
 abbrev pub spellings_at : Position → ℕ → List (List ℕ)
 spellings_at position light = spellings position.words (length (light_at position.board light))

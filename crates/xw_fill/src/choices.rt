@@ -1,12 +1,14 @@
 //! The least number of words that a light has left once a word is placed.
 ghost use Rattle.std.specs.Prelude.{◌≡◌, ℕ, ◌<◌, slice_index_or, [], false, IfSome};
 ghost use Rattle.xw_feas.specs.Board.{board_of};
-ghost use Rattle.xw_fill.specs.OfState.{fewest_words as spec_fewest_words, is_entered, light_count, IsTriedAt, spellings_at};
+ghost use Rattle.xw_fill.specs.OfState.{fewest_words as spec_fewest_words, IsTriedAt, spellings_at};
+ghost use Rattle.xw_search.specs.OfState.{is_entered, light_count};
 ghost use Rattle.xw_fill.specs.Choices.{fewest_after as spec_fewest_after, CrossesNone};
 
-use crate::scan::{board, chosen, next_word_index, word_count};
+use crate::scan::{chosen, next_word_index};
 use crate::trial::Trial;
 use xw_feas::feasible::Feasible;
+use xw_search::lights::{board, word_count};
 
 /// Returns the least number of feasible words of a light that is not wholly entered, or `None` if all lights are.
 pub fn fewest_words<E: Feasible>(engine: &E) -> Option<usize>

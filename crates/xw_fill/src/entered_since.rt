@@ -1,12 +1,12 @@
 //! Notes when each light became wholly entered, so that a search tests only new words for repeats.
 ghost use Rattle.std.specs.Prelude.{◌≡◌, ◌<◌, length, suc, true, is_some, IfSome};
-ghost use Rattle.xw_fill.specs.OfState.{is_entered, is_repeat, light_count};
-ghost use Rattle.xw_fill.specs.Inner.OfState.{is_spelled_again, AreEntered, AreOnlyEntered, SpellApart};
-ghost use Rattle.xw_fill.specs.Below.{any_below};
+ghost use Rattle.xw_search.specs.OfState.{is_entered, is_repeat, light_count, is_spelled_again};
+ghost use Rattle.xw_fill.specs.Inner.OfState.{AreEntered, AreOnlyEntered, SpellApart};
+ghost use Rattle.xw_search.specs.Below.{any_below};
 ghost use Rattle.xw_fill.specs.Inner.EnteredSince.{within, noted, has_note, StayNoted};
 
-use crate::scan::{agree, is_entered, light_count};
 use xw_feas::feasible::Feasible;
+use xw_search::lights::{agree, is_entered, light_count};
 
 /// Returns whether a light became wholly entered after fewer than `placements` placements.
 pub fn is_within(since: Option<usize>, placements: usize) -> bool

@@ -3,13 +3,13 @@ ghost use Rattle.std.specs.Prelude.{◌≡◌, ℕ, true, List, Option};
 ghost use Rattle.xw_feas.specs.WellFormed.{IsLaidOut};
 ghost use Rattle.xw_feas.specs.Feasible.{Answers, AreAnswers};
 ghost use Rattle.xw_feas.specs.Queries.{words_of};
-ghost use Rattle.xw_fill.specs.Position.{Position};
-ghost use Rattle.xw_fill.specs.FeasibleWords.{feasible_words};
+ghost use Rattle.xw_search.specs.Position.{Position};
+ghost use Rattle.xw_search.specs.FeasibleWords.{feasible_words};
 ghost use Rattle.xw_fill.specs.Fill.{IsFill};
-ghost use Rattle.xw_fill.specs.NamedFill.{IsFillOf, IsInLights};
+ghost use Rattle.xw_search.specs.NamedFill.{IsFillOf, IsInLights};
 ghost use Rattle.xw_fill.specs.Reason.{IsReason};
-ghost use Rattle.xw_fill.specs.Search.{chosen, lacks_words};
-ghost use Rattle.xw_fill.specs.Best.{FillsReachDown, NoneReachesUp};
+ghost use Rattle.xw_fill.specs.Search.{chosen};
+ghost use Rattle.xw_search.specs.Lights.{lacks_words};
 ghost use Rattle.xw_fill.specs.Laws.{IsSearched, IsChoice, FillsAreFeasible, FoundIsFill, FillIsFound, AnswerIsOne, EndIsOne};
 
 /// `found`, `due` and `end` of a position follow from those of the positions after one placement.
@@ -50,13 +50,6 @@ pub fn all_law()
     ensures fill { (position : Position) (entries : List (Option ℕ)) → IsFillOf (λ light. true) position entries → IsFill position entries }
     ensures of_all { (position : Position) (entries : List (Option ℕ)) → IsLaidOut position.board → IsInLights position entries
         → IsFill position entries → IsFillOf (λ light. true) position entries }
-{}
-
-/// A fill with the words of a grade and better is one with those of each lower grade. So if there is none, there is
-/// none with those of a greater grade.
-pub fn grade_law()
-    ensures fills { FillsReachDown }
-    ensures none { NoneReachesUp }
 {}
 
 /// A light without a feasible word has a reason.

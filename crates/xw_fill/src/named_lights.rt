@@ -1,33 +1,23 @@
 //! Fills the named lights letter by letter, first where the search failed before.
-pub(crate) mod checks;
-mod choice;
-pub(crate) mod frame;
-pub(crate) mod plan;
-pub(crate) mod run;
-
-ghost use Rattle.std.specs.Prelude.{◌≡◌, ◌≤◌, ◌-◌, ℕ, length, replicate, true, false, IfOk, IfErr, OnOk, OnErr, ◌<◌};
-ghost use Rattle.xw_fill.specs.Allowance.{IsCounted, HasPlaced, HasPlacedWithin};
+ghost use Rattle.std.specs.Prelude.{◌≡◌, ◌≤◌, ◌-◌, true, IfOk, IfErr, OnOk, OnErr};
+ghost use Rattle.xw_search.specs.Allowance.{IsCounted, HasPlaced, HasPlacedWithin};
 ghost use Rattle.xw_fill.specs.Filling.{IsFilling};
-ghost use Rattle.xw_fill.specs.OfState.{light_count};
-ghost use Rattle.xw_fill.specs.Inner.OfState.{IsPlan, IsOpen};
-ghost use Rattle.xw_fill.specs.NamedFill.{flags, is_named, AreFlags, IsAutofilled, IsNoLight, IsRefusal, AreFlagged};
-ghost use Rattle.xw_fill.specs.Inner.Progress.{entries_of, HasEntered};
+ghost use Rattle.xw_search.specs.NamedFill.{flags, is_named, IsAutofilled, IsRefusal};
 
-use crate::allowance::Allowance;
-use crate::named_lights::checks::first_dead;
-use crate::named_lights::frame::Frame;
-use crate::named_lights::plan::Plan;
-use crate::named_lights::run::{Effort, Ending, run};
-use crate::repeats::has_repeat;
-use crate::scan::light_count;
-use crate::search::{Filling, fill};
-use crate::stack::Stack;
+use crate::search::fill;
 use std::alloc::{AllocError, Global};
 use xw_feas::edit::Refusal;
 use xw_feas::feasible::Feasible;
 use xw_feas::searchable::Searchable;
 use xw_grid::cell::LightName;
 use xw_grid::fault::GridFault;
+use xw_search::allowance::Allowance;
+use xw_search::filling::Filling;
+use xw_search::flags::{all_lights, flags_of};
+use xw_search::letters::{fill_planned, stack_for};
+use xw_search::lights::light_count;
+use xw_search::plan::Plan;
+use xw_search::run::Effort;
 
 /// How many placements the search of `fill` gets first with seed 0, so that the good words of a sorted list come
 /// first.
@@ -60,74 +50,6 @@ impl Hint {
     }
 }
 
-/// Repeats the search, each time with a later cut, until it ends.
-fn run_again<E: Searchable>(
-    engine: &mut E,
-    stack: &mut Stack<Frame>,
-    plan: &Plan,
-    effort: &mut Effort,
-    allowance: &mut Allowance,
-) -> Result<Filling, AllocError>
-    requires plan { IsPlan (E.state engine.old) plan.now }
-    requires open { IsOpen (flags plan.now.named.items) (E.state engine.old) (entries_of (E.state engine.old)) }
-    ensures counted { IsCounted allowance.old allowance.new (E.state engine.old) (E.state engine.new) }
-    ensures placed { OnOk result (HasPlaced allowance.old allowance.new (E.placed engine.old) (E.placed engine.new)) }
-    ensures within { HasPlacedWithin allowance.old allowance.new (E.placed engine.old) (E.placed engine.new) }
-    ensures until { allowance.new.until ≡ allowance.old.until }
-    ensures limit { result ≡ Ok Filling.Limit → allowance.new.made ≡ allowance.new.until }
-    ensures ok { IfOk result (IsAutofilled (flags plan.now.named.items) (E.state engine.old) (E.state engine.new)) }
-    ensures entered { IfOk result (HasEntered (flags plan.now.named.items) (E.state engine.old) (E.state engine.new)) }
-    ensures unchanged { OnErr result (E.state engine.new ≡ E.state engine.old) }
-{
-    loop {
-        let cut = effort.cut;
-        match run(engine, stack, plan, effort, cut, allowance) {
-            Ending::Filled => return Ok(Filling::Filled),
-            Ending::NoFill => return Ok(Filling::NoFill),
-            Ending::Limit => return Ok(Filling::Limit),
-            Ending::Memory => return Err(AllocError),
-            Ending::Cut => {
-                effort.cut = cut.saturating_mul(2);
-                effort.weighted = effort.graded && !effort.weighted;
-            }
-        }
-    }
-}
-
-/// A stack for searches that fill the lights of a plan.
-pub(crate) fn stack_for(alloc: Global, plan: &Plan) -> Result<Stack<Frame>, AllocError> {
-    Stack::new(alloc, plan.targets.len())
-}
-
-/// Fills the lights of a plan by letters. The state changes only for `Filled`. The stack may have served other searches.
-pub(crate) fn fill_planned<E: Searchable>(
-    alloc: Global,
-    engine: &mut E,
-    stack: &mut Stack<Frame>,
-    plan: &Plan,
-    effort: &mut Effort,
-    allowance: &mut Allowance,
-) -> Result<Filling, AllocError>
-    requires plan { IsPlan (E.state engine.old) plan.now }
-    ensures counted { IsCounted allowance.old allowance.new (E.state engine.old) (E.state engine.new) }
-    ensures placed { OnOk result (HasPlaced allowance.old allowance.new (E.placed engine.old) (E.placed engine.new)) }
-    ensures within { HasPlacedWithin allowance.old allowance.new (E.placed engine.old) (E.placed engine.new) }
-    ensures until { allowance.new.until ≡ allowance.old.until }
-    ensures limit { result ≡ Ok Filling.Limit → allowance.new.made ≡ allowance.new.until }
-    ensures ok { IfOk result (IsAutofilled (flags plan.now.named.items) (E.state engine.old) (E.state engine.new)) }
-    ensures entered { IfOk result (HasEntered (flags plan.now.named.items) (E.state engine.old) (E.state engine.new)) }
-    ensures unchanged { OnErr result (E.state engine.new ≡ E.state engine.old) }
-{
-    if first_dead(engine, &plan.watched).is_some() {
-        return Ok(Filling::NoFill);
-    }
-    let repeats = has_repeat(alloc, engine)?;
-    if repeats {
-        return Ok(Filling::NoFill);
-    }
-    run_again(engine, stack, plan, effort, allowance)
-}
-
 /// Fills the lights with a flag.
 fn fill_flagged<E: Searchable>(
     alloc: Global,
@@ -146,48 +68,6 @@ fn fill_flagged<E: Searchable>(
     let plan = Plan::of(alloc, engine, named)?;
     let mut stack = stack_for(alloc, &plan)?;
     fill_planned(alloc, engine, &mut stack, &plan, effort, allowance)
-}
-
-/// Sets the flag of each named light. Returns `NoLight` if one of the names belongs to no light.
-fn flag_lights<E: Feasible>(
-    engine: &E,
-    names: &[LightName],
-    named: &mut [bool],
-) -> Result<(), Refusal>
-    requires { length named.old ≡ light_count (E.state engine.now) }
-    ensures ok { OnOk result (AreFlagged (E.state engine.now) names.now named.old named.new) }
-    ensures refused { IfErr result (IsNoLight (E.state engine.now) names.now) }
-{
-    for index in 0..names.len() {
-        match engine.lights().index(names[index]) {
-            Some(light) => named[light] = true,
-            None => return Err(Refusal::NoLight),
-        }
-    }
-    Ok(())
-}
-
-/// A flag for each light: whether its name is in a list. Returns `NoLight` if one of the names belongs to no light,
-/// and `Memory` if an allocation fails.
-pub(crate) fn flags_of<E: Feasible>(
-    alloc: Global,
-    engine: &E,
-    names: &[LightName],
-) -> Result<Vec<bool>, Refusal>
-    requires { 0 < length names.now }
-    ensures ok { IfOk result (λ named. AreFlags (E.state engine.now) names.now named.items) }
-    ensures refused { IfErr result (IsRefusal (E.state engine.now) names.now) }
-{
-    let mut named = vec![in alloc; false; light_count(engine)]?;
-    flag_lights(engine, names, &mut named)?;
-    Ok(named)
-}
-
-/// A set flag for each light.
-pub(crate) fn all_lights<E: Feasible>(alloc: Global, engine: &E) -> Result<Vec<bool>, AllocError>
-    ensures { IfOk result (λ named. named.items ≡ replicate (light_count (E.state engine.now)) true) }
-{
-    vec![in alloc; true; light_count(engine)]
 }
 
 /// How many placements the search of `fill` gets before the search by letters. It gets none with a seed other than 0,

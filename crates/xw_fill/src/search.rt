@@ -1,18 +1,17 @@
 //! The search for a fill: depth first, with the words of each light in dictionary order.
 ghost use Rattle.std.specs.Prelude.{◌≡◌, ◌+◌, ◌≤◌, false, suc, [], length, Ok, IfOk, IfErr, OnOk, OnErr};
-ghost use Rattle.xw_fill.specs.Position.{DiffersInEntries};
-ghost use Rattle.xw_fill.specs.OfState.{is_dead, light_count, outlook};
+ghost use Rattle.xw_search.specs.Position.{DiffersInEntries};
+ghost use Rattle.xw_fill.specs.OfState.{is_dead, outlook};
+ghost use Rattle.xw_search.specs.OfState.{light_count};
 ghost use Rattle.xw_fill.specs.Inner.OfState.{AreEntered};
-ghost use Rattle.xw_fill.specs.Inner.Stack.{first_or, LeadThrough};
+ghost use Rattle.xw_search.specs.Stack.{first_or, LeadThrough};
 ghost use Rattle.xw_fill.specs.Inner.Tries.{CanBeMade, IsMade};
 ghost use Rattle.xw_fill.specs.Inner.Stepping.{HasStepped};
 ghost use Rattle.xw_fill.specs.Inner.EnteredSince.{noted, StayNoted};
 ghost use Rattle.xw_fill.specs.Filling.{IsFilling, HasFill, UnlessFilled, unless_repeated};
 
 use crate::entered_since::{has_new_repeat, note_entered};
-use crate::repeats::has_repeat;
-use crate::scan::{Scan, light_count, next_word_index, scan_lights};
-use crate::stack::Stack;
+use crate::scan::{Scan, next_word_index, scan_lights};
 use crate::tries::Try;
 use std::alloc::{AllocError, Global};
 use xw_feas::edit::Refusal;
@@ -20,17 +19,10 @@ use xw_feas::feasible::Feasible;
 use xw_feas::progress::News;
 use xw_feas::searchable::Searchable;
 use xw_grid::fault::GridFault;
-
-/// How a search for a fill ended.
-/// - `Filled`: the grid holds a fill.
-/// - `NoFill`: no fill exists.
-/// - `Limit`: the search needs more placements than the limit.
-#[derive(Clone, Copy, Debug, PartialEq, Eq)]
-pub enum Filling {
-    Filled,
-    NoFill,
-    Limit,
-}
+use xw_search::filling::Filling;
+use xw_search::lights::light_count;
+use xw_search::repeats::has_repeat;
+use xw_search::stack::Stack;
 
 /// The next step of the search.
 /// - `Done`: the position is a fill.

@@ -1,12 +1,14 @@
 //! Suggests the next word to place.
 ghost use Rattle.std.specs.Prelude.{◌≡◌, ◌<◌, false, slice_index_or, []};
-ghost use Rattle.xw_fill.specs.OfState.{light_count, is_entered, leaves_words, index_to_try, IsTriedAt, spellings_at};
+ghost use Rattle.xw_search.specs.OfState.{light_count, is_entered};
+ghost use Rattle.xw_fill.specs.OfState.{leaves_words, index_to_try, IsTriedAt, spellings_at};
 ghost use Rattle.xw_fill.specs.Suggesting.{suggestion};
 
-use crate::scan::{chosen, first_without_words, name_at, next_word_index};
+use crate::scan::{chosen, first_without_words, next_word_index};
 use crate::trial::Trial;
 use xw_feas::feasible::Feasible;
 use xw_grid::cell::LightName;
+use xw_search::lights::name_at;
 
 /// A suggestion.
 #[derive(Clone, Copy, Debug, PartialEq, Eq)]

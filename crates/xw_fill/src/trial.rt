@@ -1,16 +1,16 @@
 //! Places a word for a look at what it leaves, and takes it back, without any memory.
 ghost use Rattle.std.specs.Prelude.{◌≡◌, ◌<◌, ◌≤◌, length, slice_index_or, []};
-ghost use Rattle.xw_feas.specs.Board.{board_of, light_at};
 ghost use Rattle.xw_feas.specs.State.{State};
-ghost use Rattle.xw_fill.specs.Position.{position_of, placed, DiffersInEntries};
-ghost use Rattle.xw_fill.specs.OfState.{light_count, IsTriedAt, spellings_at};
+ghost use Rattle.xw_search.specs.Position.{position_of, placed, DiffersInEntries};
+ghost use Rattle.xw_search.specs.OfState.{light_count};
+ghost use Rattle.xw_fill.specs.OfState.{IsTriedAt, spellings_at};
 ghost use Rattle.xw_fill.specs.Inner.Trial.{taken_back, AreBlanks, LeadsBack};
 
-use crate::scan::{board, light_at};
 use xw_feas::board::{Board, Cells};
 use xw_feas::edit::Edit;
 use xw_feas::feasible::Feasible;
 use xw_grid::cell::Cell;
+use xw_search::lights::{board, light_at};
 use xw_words::word::LONGEST;
 
 /// A light in which a word was placed, and which of its cells were empty before.

@@ -1,9 +1,9 @@
 //! Words that a search tries.
 ghost use Rattle.xw_fill.specs.Inner.Tries.{CanBeMade, IsMade, is_forced};
 
-use crate::placement::Placement;
 use std::alloc::AllocError;
 use xw_feas::searchable::Searchable;
+use xw_search::placement::Placement;
 
 /// A word that is tried in a light, both by index.
 #[derive(Clone, Copy)]

@@ -4,21 +4,22 @@ mod order;
 mod sparing;
 
 ghost use Rattle.std.specs.Prelude.{◌≡◌, ◌<◌, true, IfOk, IfErr};
-ghost use Rattle.xw_fill.specs.Position.{DiffersInEntries};
-ghost use Rattle.xw_fill.specs.OfState.{light_count, lacks_words, IsReason};
-ghost use Rattle.xw_fill.specs.Reason.{entries_of, no_entries, IsReasonOf, IsRefused};
+ghost use Rattle.xw_search.specs.Position.{DiffersInEntries};
+ghost use Rattle.xw_search.specs.OfState.{light_count};
+ghost use Rattle.xw_fill.specs.OfState.{lacks_words, IsReason};
+ghost use Rattle.xw_search.specs.Writing.{entries_of};
+ghost use Rattle.xw_fill.specs.Reason.{no_entries, IsReasonOf, IsRefused};
 ghost use Rattle.xw_fill.specs.Sparing.{IsListOf, IsRoom};
 
-use crate::scan::{light_at, word_count};
-use crate::why::entries::{
-    emptied, entered_cells, note_entries, room_for_entries, write, write_from,
-};
+use crate::why::entries::{emptied, entered_cells, note_entries, room_for_entries, write_from};
 use crate::why::order::sort_by_distance;
 use crate::why::sparing::spare_all;
 use std::alloc::Global;
 use xw_feas::feasible::Feasible;
 use xw_grid::cell::{Cell, LightName};
 use xw_letters::letter::Letter;
+use xw_search::lights::{light_at, word_count};
+use xw_search::writing::write;
 
 /// How many entries are tried first: those nearest to the light. Each later try has twice as many.
 const NEAREST: usize = 4;

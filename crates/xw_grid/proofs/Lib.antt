@@ -12,3 +12,4 @@ pub mod LookupLemmas
 pub mod CountLemmas
 pub mod KeptLemmas
 pub mod ChangeLemmas
+pub mod AcceptedLemmas

@@ -8,14 +8,14 @@ use Rattle.xw_commands.specs.declared.search.Search.{Search}
 use Rattle.xw_commands.specs.declared.search.Search.TheVariants as searches
 use Rattle.xw_commands.specs.declared.command.SyntaxFault.{SyntaxFault}
 use Rattle.xw_commands.specs.Command.{command_of}
-use Rattle.xw_fill.specs.Position.{position_of, filled_in}
+use Rattle.xw_search.specs.Position.{position_of, filled_in}
 use Rattle.xw_fill.specs.Search.{found, due, end}
-use Rattle.xw_fill.specs.declared.search.Filling.{Filling}
-use Rattle.xw_fill.specs.declared.search.Filling.TheVariants.{Filled, NoFill, Limit}
-use Rattle.xw_fill.specs.NamedFill.{IsAutofilled, is_named}
-use Rattle.xw_fill.specs.declared.best.Best.{Best}
-use Rattle.xw_fill.specs.declared.best.Best.TheVariants as bests
-use Rattle.xw_fill.specs.Best.{IsBest}
+use Rattle.xw_search.specs.declared.filling.Filling.{Filling}
+use Rattle.xw_search.specs.declared.filling.Filling.TheVariants.{Filled, NoFill, Limit}
+use Rattle.xw_search.specs.NamedFill.{IsAutofilled, is_named}
+use Rattle.xw_best.specs.declared.best.Best.{Best}
+use Rattle.xw_best.specs.declared.best.Best.TheVariants as bests
+use Rattle.xw_best.specs.Best.{IsBest}
 use Rattle.xw_lines.specs.Spoken.{NeverStops, broken_by}
 use Rattle.xw_lines.specs.declared.outcome.AnswerFault.{AnswerFault}
 use Rattle.xw_lines.specs.declared.outcome.AnswerFault.TheVariants.{WriteFailed, Stopped}

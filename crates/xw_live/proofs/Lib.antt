@@ -6,4 +6,3 @@ pub mod Outcomes
 pub mod Placements
 pub mod Saving
 pub mod TriedPlacements
-pub mod Trying

@@ -1,5 +1,5 @@
 -- The invariant of the engine between edits.
-use Rattle.std.specs.Prelude.{◌≡◌, ℕ, ◌≤◌, false, is_some, length}
+use Rattle.std.specs.Prelude.{◌≡◌, false, is_some, length}
 use Rattle.xw_grid.specs.Light.{lights_of}
 use Rattle.xw_feas.specs.AnswersOf.{answers_of}
 use Rattle.xw_feas.specs.Board.{board_of}
@@ -7,10 +7,7 @@ use Rattle.xw_feas.specs.Feasible.{Answers, AreAnswers}
 use Rattle.xw_feas.specs.Single.{AreAnswers-prop}
 use Rattle.xw_feas.specs.State.{State}
 use Rattle.xw_feas.specs.Written.{Fields}
-use Rattle.xw_feas.specs.declared.notes.Notes.{Notes}
 use Rattle.xw_feas.specs.declared.engine_state.EngineState.{EngineState}
-use Rattle.xw_feas.specs.declared.effect.Effect.{Effect}
-use Rattle.xw_feas.specs.declared.effect.Effect.TheVariants.{List}
 use Rattle.xw_net.specs.declared.net.Net.{Net}
 use Rattle.xw_net.specs.Fit.{HasRoomBetween}
 use Rattle.xw_net.specs.Net.{flags_of, sets_of, known_counts, IsSettledFor, StoodFor}
@@ -43,7 +40,3 @@ pub record CanFollow (now : EngineState) (fields : Fields) (net : Net) : Type 0 
   pub cells : length (sets_of net) ≡ length now.grid.squares
   pub stood : StoodFor fields.before fields.word (known_counts now.bank.words) net
   pub room : HasRoomBetween fields.before now.lights (known_counts now.bank.words) net net.spare
-
--- the notes have as many cells of a list as are told
-abbrev pub IsNoted : Notes → Effect → Type 0
-IsNoted notes told = (count : ℕ) → told ≡ List count → count ≤ length notes.noted.items

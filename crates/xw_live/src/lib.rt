@@ -8,4 +8,4 @@ mod settling;
 
 pub use live::Live;
 pub use searching::Saved;
-pub use xw_net::{Delta, Net};
+pub use xw_net::Net;

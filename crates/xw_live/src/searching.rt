@@ -22,7 +22,6 @@ use crate::live::Live;
 use std::alloc::AllocError;
 use std::snapshot::Snapshot;
 use xw_feas::board::Board;
-use xw_feas::edit::EntryEdit;
 use xw_feas::engine_state::EngineState;
 use xw_feas::searchable::Searchable;
 use xw_grid::cell::Cell;
@@ -115,29 +114,6 @@ impl Live {
         self.levels.begin(&self.position.grid, &self.net)?;
         Ok(())
     }
-
-    /// Copies the net to another one, which stands for the grid `before`. If `same_words`, it stands for the same
-    /// dictionary. Then the base rows of lights with the same entries in both grids are equal, and are not copied.
-    fn copy_net(&self, net: &mut Net, before: &Grid, same_words: bool)
-        requires lights { self.now.position.lights ≡ lights_of before.now }
-        requires can { CanCopy self.now.position.lights self.now.net net.old }
-        requires before { same_words ≡ true → IsBase (board_of before.now) (state_of self.now).words net.old.base.items }
-        ensures copied { IsCopy self.now.position.lights self.now.net net.new }
-        ensures spare { net.new.spare ≡ net.old.spare }
-    {
-        let position = &self.position;
-        if same_words {
-            net.copy_from(
-                &self.net,
-                before,
-                &position.grid,
-                &position.lights,
-                &position.bank,
-            );
-        } else {
-            net.copy_all_from(&self.net, &position.grid, &position.lights);
-        }
-    }
 }
 
 impl Searchable for Live {
@@ -172,10 +148,9 @@ impl Searchable for Live {
     }
 
     fn save(&self, snapshot: &mut Saved) {
-        let least = self.position.bank.least();
-        self.copy_net(&mut snapshot.net, &snapshot.grid, snapshot.least == least);
+        snapshot.net.copy_from(&self.net, &self.position.lights);
         snapshot.grid.copy_from(&self.position.grid);
-        snapshot.least = least;
+        snapshot.least = self.position.bank.least();
         snapshot.bank = Snapshot::of(&self.position.bank);
     }
 
@@ -220,7 +195,7 @@ impl Searchable for Live {
         ensures spent { self.new.spent ≡ self.old.spent }
     {
         self.keep_level()?;
-        let _ = self.position.enter(&EntryEdit::Set(cell, letter));
+        self.position.enter(cell, Some(letter));
         let tried = try_level(
             &mut self.position,
             &mut self.net,

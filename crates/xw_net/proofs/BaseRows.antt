@@ -3,6 +3,5 @@ pub mod WrittenRows
 pub mod BaseBits
 pub mod BaseLetters
 pub mod ClearRows
-pub mod BaseRowsAlike
 pub mod NarrowedRows
 pub mod FilledRows

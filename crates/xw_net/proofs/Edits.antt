@@ -11,3 +11,4 @@ pub mod ChangedLights
 pub mod FilledCells
 pub mod ListedCells
 pub mod ToldEdits
+pub mod ShapeNotes

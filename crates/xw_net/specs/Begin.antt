@@ -6,8 +6,9 @@ use Rattle.xw_words.specs.Dictionary.{Entry, Dictionary}
 use Rattle.xw_feas.specs.Flags.{set_has}
 use Rattle.xw_feas.specs.Board.{Board, entry, light_at, is_wholly_entered}
 use Rattle.xw_feas.specs.Feasible.{may_stand}
-use Rattle.xw_net.specs.declared.delta.Delta.{Delta}
-use Rattle.xw_net.specs.declared.delta.Delta.TheVariants.{Letters, Shape, Word, Words}
+use Rattle.xw_feas.specs.declared.effect.Effect.{Effect}
+use Rattle.xw_feas.specs.declared.notes.Notes.{Notes}
+use Rattle.xw_feas.specs.Effect.{cells_by, is_shape_by}
 use Rattle.xw_net.specs.Base.{base_bits, IsBaseBut, WasBase}
 use Rattle.xw_feas.specs.Known.{spellings, actives}
 use Rattle.xw_feas.specs.Choices.{is_base_at}
@@ -30,12 +31,12 @@ only_filled grid board [] = None
 only_filled grid board (listed ∷ []) = if is_fill board (index_of grid listed.0) listed.1 then Some (index_of grid listed.0) else None
 only_filled grid board (listed ∷ other ∷ rest) = None
 
--- the index of the cell that an edit of letters filled, if it wrote no other cell
-abbrev pub filled_of : Grid → Board → Delta → Option ℕ
-filled_of grid board (Letters cells) = only_filled grid board cells.now
-filled_of grid board (Shape before cells) = None
-filled_of grid board (Word len index) = None
-filled_of grid board (Words turned back) = None
+-- the same of an edit that keeps the lights
+abbrev pub filled_by : Grid → Board → Notes → Effect → Option ℕ
+filled_by grid board notes effect = if is_shape_by effect then None else only_filled grid board (cells_by notes effect)
+
+abbrev pub filled_of : Grid → Board → Notes → Option ℕ
+filled_of grid board notes = filled_by grid board notes notes.effect
 
 -- whether the changed word has this length
 abbrev pub is_long : Option (ℕ × ℕ) → ℕ → Bool

@@ -1,9 +1,8 @@
 -- A net is copied into another.
-use Rattle.std.specs.Prelude.{◌≡◌, ℕ, ◌<◌, ◌≤◌, false, List, Option, length, map}
+use Rattle.std.specs.Prelude.{◌≡◌, ℕ, ◌<◌, ◌≤◌, false, List, length}
 use Rattle.xw_bits.specs.Bits.{RowOfBits}
 use Rattle.xw_grid.specs.declared.lights.Light.{Light}
 use Rattle.xw_grid.specs.Light.{lights_of}
-use Rattle.xw_feas.specs.Board.{Board, entry, light_at}
 use Rattle.xw_feas.specs.State.{State}
 use Rattle.xw_net.specs.Fit.{IsAtRest}
 use Rattle.xw_net.specs.Net.{flags_of, sets_of, IsSettledFor}
@@ -26,15 +25,6 @@ pub record CanCopy (lights : List Light) (net target : Net) : Type 0 where
   pub cells : ℕ
   pub from : IsReusable lights counts cells net
   pub to : IsReusable lights counts cells target
-
--- what is entered in the cells, in order
-abbrev pub entries_in : Board → List ℕ → List (Option ℕ)
-entries_in board cells = map (entry board) cells
-
--- the base rows of lights with the same entries on both boards are equal
-abbrev pub AreBaseRowsAlike : Board → Board → ℕ → List RowOfBits → List RowOfBits → Type 0
-AreBaseRowsAlike before after count rows from =
-    (light : ℕ) → light < count → entries_in before (light_at before light) ≡ entries_in after (light_at after light) → (row_at rows light).bits ≡ (row_at from light).bits
 
 -- the first rows are as long as those of the other list
 abbrev pub AreFirstAsLong : ℕ → List RowOfBits → List RowOfBits → Type 0

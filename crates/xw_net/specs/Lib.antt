@@ -17,7 +17,7 @@ pub mod Begin
 pub mod Gone
 pub mod Opened
 pub mod Fit
-pub mod Delta
+pub mod Change
 pub mod Layout
 pub mod Net
 pub mod Sizes

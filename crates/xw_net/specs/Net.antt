@@ -1,4 +1,4 @@
--- A net as its callers see it. Besides these definitions, the public contracts of `Net` cite those of `Delta.antt` (what a
+-- A net as its callers see it. Besides these definitions, the public contracts of `Net` cite those of `Change.antt` (what a
 -- net is told of an edit), `Update.antt` (what settling does), `Region.antt` and `Cost.antt` (what it may cost),
 -- `Settling.antt` (how a caller meets its conditions), and the sizes and copies of nets in `Nets.antt`, `Room.antt`,
 -- `Fit.antt`, `Copy.antt`, `Tally.antt` and `Sizes.antt`. The other files are for inner functions and proofs.

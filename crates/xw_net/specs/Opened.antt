@@ -8,7 +8,7 @@ use Rattle.xw_feas.specs.Board.{Board, board_of, light_at}
 use Rattle.xw_feas.specs.Flags.{set_has}
 use Rattle.xw_feas.specs.State.{State, Action}
 use Rattle.xw_net.specs.declared.net.Net.{Net}
-use Rattle.xw_net.specs.Delta.{Fields}
+use Rattle.xw_net.specs.Change.{Fields}
 use Rattle.xw_net.specs.Revival.{same_light}
 use Rattle.xw_net.specs.Region.{IsRegion}
 use Rattle.xw_net.specs.Marks.{known}

@@ -8,9 +8,9 @@ use Rattle.xw_feas.specs.Board.{board_of}
 use Rattle.xw_feas.specs.Shape.{SameCounts}
 use Rattle.xw_feas.specs.State.{State, Action, after}
 use Rattle.xw_feas.specs.WellFormed.{IsWellFormed}
-use Rattle.xw_net.specs.declared.delta.Delta.{Delta}
+use Rattle.xw_feas.specs.declared.notes.Notes.{Notes}
 use Rattle.xw_net.specs.declared.net.Net.{Net}
-use Rattle.xw_net.specs.Delta.{Fields, IsChange, AreReadsOf, before_of, cells_of, word_of, entries_written, fields_of, word_changed, brings_back}
+use Rattle.xw_net.specs.Change.{Fields, IsChange, AreReadsOf, before_of, cells_of, word_of, entries_written, fields_of, word_changed, brings_back}
 use Rattle.xw_net.specs.Filled.{AreLong}
 use Rattle.xw_net.specs.Fit.{HasRoomBetween}
 use Rattle.xw_net.specs.Net.{HasRoomFor, IsSettledFor, StoodFor, known_counts}
@@ -31,7 +31,7 @@ pub record IsTold (before now : State) (action : Action) (change : Fields) : Typ
   pub back : change.back ≡ brings_back before.words action
 
 -- the conditions on a change and a net, except those on the room
-pub record CanSettle (grid : Grid) (lights : List Light) (entries : ℕ → List Entry) (change : Delta) (net : Net) : Type 0 where
+pub record CanSettle (grid : Grid) (lights : List Light) (entries : ℕ → List Entry) (change : Notes) (net : Net) : Type 0 where
   pub inside : AreInside grid (cells_of change)
   pub long : AreLong (board_of grid) entries
   pub cells : vec_len net.letters ≡ length grid.squares
@@ -42,7 +42,7 @@ abbrev pub ToldIsChange : Type 0
 ToldIsChange = (before now : State) (action : Action) (change : Fields) → IsTold before now action change → IsGrid now.grid → IsChange before now action change
 
 -- A net that was settled before an edit is told of it. The reads return the words after the edit.
-pub record IsToldOf (before now : State) (action : Action) (lights : List Light) (entries : ℕ → List Entry) (change : Delta) (net : Net) : Type 0 where
+pub record IsToldOf (before now : State) (action : Action) (lights : List Light) (entries : ℕ → List Entry) (change : Notes) (net : Net) : Type 0 where
   pub told : IsTold before now action (fields_of lights change)
   pub grid : IsGrid now.grid
   pub reads : AreReadsOf entries now.words
@@ -51,13 +51,13 @@ pub record IsToldOf (before now : State) (action : Action) (lights : List Light)
 -- if a net is told of an edit in this way, it meets the conditions
 abbrev pub ToldCanSettle : Type 0
 ToldCanSettle =
-    (before now : State) (action : Action) (lights : List Light) (entries : ℕ → List Entry) (change : Delta) (net : Net) → IsToldOf before now action lights entries change net
+    (before now : State) (action : Action) (lights : List Light) (entries : ℕ → List Entry) (change : Notes) (net : Net) → IsToldOf before now action lights entries change net
     → CanSettle now.grid lights entries change net
 
 -- an edit that keeps the lights and the number of known words needs no room
 abbrev pub RoomIsKept : Type 0
 RoomIsKept =
-    (before now : State) (action : Action) (lights : List Light) (entries : ℕ → List Entry) (change : Delta) (net : Net) → IsToldOf before now action lights entries change net
+    (before now : State) (action : Action) (lights : List Light) (entries : ℕ → List Entry) (change : Notes) (net : Net) → IsToldOf before now action lights entries change net
     → is_some net.spare ≡ false → lights ≡ before_of lights change → SameCounts before.words now.words
     → HasRoomBetween (before_of lights change) lights (counts_of entries) net net.spare
 
@@ -65,6 +65,6 @@ RoomIsKept =
 -- must keep the words.
 abbrev pub RoomIsReserved : Type 0
 RoomIsReserved =
-    (before now : State) (action : Action) (lights : List Light) (entries : ℕ → List Entry) (change : Delta) (net : Net) → IsToldOf before now action lights entries change net
+    (before now : State) (action : Action) (lights : List Light) (entries : ℕ → List Entry) (change : Notes) (net : Net) → IsToldOf before now action lights entries change net
     → HasRoomFor lights (known_counts now.words) net → (is_some net.spare ≡ false → lights ≡ before_of lights change) → (is_some net.spare ≡ true → word_of change ≡ None)
     → HasRoomBetween (before_of lights change) lights (counts_of entries) net net.spare

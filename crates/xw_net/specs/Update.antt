@@ -16,7 +16,7 @@ use Rattle.xw_net.specs.Cost.{revival_cost, stripping_cost}
 use Rattle.xw_net.specs.Nets.{IsShaped, IsChained, HasBits, IsQueue}
 use Rattle.xw_net.specs.Brought.{HasBase}
 use Rattle.xw_net.specs.Filled.{AreLong, HasRowRoom, IsUnstripped, IsFilled}
-use Rattle.xw_net.specs.Delta.{Fields, IsChange, AreReadsOf}
+use Rattle.xw_net.specs.Change.{Fields, IsChange, AreReadsOf}
 use Rattle.xw_net.specs.Net.{IsSettledFor, IsRevivedFor}
 use Rattle.xw_net.specs.Steps.{PendLess}
 use Rattle.xw_net.specs.Worklist.{HasSeeds}

@@ -3,10 +3,10 @@ ghost use Rattle.std.specs.Prelude.{◌≡◌, ℕ, ◌<◌, ◌≤◌, length};
 ghost use Rattle.xw_net.specs.Room.{counts_of, row_at, HaveRoom, KeepRoom};
 ghost use Rattle.xw_net.specs.Fit.{fitted, AreFitted};
 
-use crate::delta::Delta;
 use crate::net::Net;
 use crate::room::size_at;
 use xw_bits::bit_row::BitRow;
+use xw_feas::notes::Notes;
 use xw_grid::lights::Lights;
 use xw_words::rows::Rows;
 
@@ -38,7 +38,7 @@ pub(crate) fn fit_rows<R: Rows>(words: &R, lights: &Lights, rows: &mut [BitRow])
 
 impl Net {
     ghost use Rattle.std.specs.Prelude.{◌≡◌, None, vec_len};
-    ghost use Rattle.xw_net.specs.Delta.{before_of, word_of};
+    ghost use Rattle.xw_net.specs.Change.{before_of, word_of};
     ghost use Rattle.xw_net.specs.Update.{MovesTo};
     ghost use Rattle.xw_net.specs.Room.{counts_of, IsWhole, HasRoom};
     ghost use Rattle.xw_net.specs.Fit.{IsAtRest, CanFollow, Follows};
@@ -54,19 +54,17 @@ impl Net {
     }
     /// Follows the lights after an edit. Only a change of shape can have changed them; any other one
     /// drops spare arrays.
-    fn follow<R: Rows>(&mut self, words: &R, change: &Delta<'_>, lights: &Lights)
+    fn follow<R: Rows>(&mut self, words: &R, change: &Notes, lights: &Lights)
         requires { CanFollow (before_of lights.now change.now) lights.now (counts_of (R.entries words.now)) (word_of change.now) self.old }
         ensures { Follows (before_of lights.now change.now) lights.now (counts_of (R.entries words.now)) (word_of change.now) self.old self.new }
     {
-        match *change {
-            Delta::Letters(_) => self.spare = None,
-            Delta::Shape { before, .. } => self.turn_to(words, before, lights),
-            Delta::Word { .. } => self.spare = None,
-            Delta::Words { .. } => self.spare = None,
+        match change.before() {
+            Some(before) => self.turn_to(words, before, lights),
+            None => self.spare = None,
         }
     }
     /// Adapts the net to the lights and the known words after an edit. Only an added word needs a bit in the rows.
-    pub(crate) fn move_to<R: Rows>(&mut self, words: &R, change: &Delta<'_>, lights: &Lights)
+    pub(crate) fn move_to<R: Rows>(&mut self, words: &R, change: &Notes, lights: &Lights)
         requires { CanFollow (before_of lights.now change.now) lights.now (counts_of (R.entries words.now)) (word_of change.now) self.old }
         ensures rest { IsAtRest lights.now (vec_len self.old.letters) self.new }
         ensures whole { IsWhole lights.now (counts_of (R.entries words.now)) self.new }

@@ -4,14 +4,14 @@ ghost use Rattle.xw_grid.specs.declared.lights.Light.{Light};
 ghost use Rattle.xw_feas.specs.Board.{Board as SpecBoard, light_at};
 ghost use Rattle.xw_feas.specs.Flags.{set_has};
 ghost use Rattle.xw_net.specs.Marks.{slot_at, AreSlotsApart, AreBySlot, AreHeld, HasFewCells};
-ghost use Rattle.xw_net.specs.Delta.{before_of, fields_of};
+ghost use Rattle.xw_net.specs.Change.{before_of, fields_of};
 ghost use Rattle.xw_net.specs.Renumber.{same_before};
 ghost use Rattle.xw_net.specs.Inner.Forget.{cut, lose, lost_from as spec_lost_from, lost_at, nowhere, ChangesHeld, KeepsHeld, KeepsFewer, ForgetNone, Forgets};
 
-use crate::delta::Delta;
 use crate::light_position::position_of;
 use crate::room::NO_WORD;
 use xw_feas::board::Board;
+use xw_feas::notes::Notes;
 use xw_grid::lights::Lights;
 use xw_letters::letter_set::LetterSet;
 use xw_words::rows::Rows;
@@ -86,27 +86,26 @@ fn is_last<R: Rows>(rows: &R, len: usize, index: usize) -> bool
 
 /// Whether no light has to forget a support: no light is new, and no index of a word may have got
 /// another meaning.
-fn forgets_none<R: Rows>(rows: &R, change: &Delta<'_>) -> bool
+fn forgets_none<R: Rows>(rows: &R, change: &Notes) -> bool
     ensures { (board : SpecBoard) (lights : List Light) → result ≡ true → ForgetNone (fields_of lights change.now) board lights (R.entries rows.now) }
 {
-    match *change {
-        Delta::Letters(_) => true,
-        Delta::Shape { .. } => false,
-        Delta::Word { len, index } => !is_last(rows, len, index),
-        Delta::Words { .. } => true,
+    if change.before().is_some() {
+        return false;
+    }
+    match change.word() {
+        Some((len, index)) => !is_last(rows, len, index),
+        None => true,
     }
 }
 
 /// Whether a light has the same cells as one before the edit.
-fn has_stayed(lights: &Lights, change: &Delta<'_>, light: usize) -> bool
+fn has_stayed(lights: &Lights, change: &Notes, light: usize) -> bool
     requires { light < length lights.now }
     ensures { result ≡ is_some (same_before (before_of lights.now change.now) lights.now light) }
 {
-    match *change {
-        Delta::Letters(_) => true,
-        Delta::Shape { before, .. } => lights.same(light, before).is_some(),
-        Delta::Word { .. } => true,
-        Delta::Words { .. } => true,
+    match change.before() {
+        Some(before) => lights.same(light, before).is_some(),
+        None => true,
     }
 }
 
@@ -115,7 +114,7 @@ fn lost_of<R: Rows>(
     rows: &R,
     board: &Board<'_>,
     lights: &Lights,
-    change: &Delta<'_>,
+    change: &Notes,
     light: usize,
 ) -> usize
     requires light { light < length board.now.lights }
@@ -137,7 +136,7 @@ pub(crate) fn forget_lights<R: Rows>(
     rows: &R,
     board: &Board<'_>,
     lights: &Lights,
-    change: &Delta<'_>,
+    change: &Notes,
     held: &mut [u32],
     pending: &mut [LetterSet],
 )

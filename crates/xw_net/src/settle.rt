@@ -1,10 +1,10 @@
 //! Updates a net after an edit.
 use crate::begin::prepare;
-use crate::delta::Delta;
 use crate::forget::forget_lights;
 use crate::net::Net;
 use crate::touch::{filled_in, touch};
 use xw_feas::board::Board;
+use xw_feas::notes::Notes;
 use xw_grid::grid::Grid;
 use xw_grid::lights::Lights;
 use xw_words::rows::Rows;
@@ -15,7 +15,7 @@ impl Net {
     ghost use Rattle.xw_feas.specs.Board.{board_of};
     ghost use Rattle.xw_net.specs.Brought.{CostsAtMost};
     ghost use Rattle.xw_net.specs.Begin.{is_read, filled_of};
-    ghost use Rattle.xw_net.specs.Delta.{before_of, cells_of, word_of, fields_of};
+    ghost use Rattle.xw_net.specs.Change.{before_of, cells_of, word_of, fields_of};
     ghost use Rattle.xw_net.specs.Filled.{AreLong};
     ghost use Rattle.xw_net.specs.Fit.{HasRoomBetween};
     ghost use Rattle.xw_net.specs.Net.{StoodFor};
@@ -33,7 +33,7 @@ impl Net {
         grid: &Grid,
         board: &Board<'_>,
         lights: &Lights,
-        change: &Delta<'_>,
+        change: &Notes,
     )
         requires cells { length grid.now.squares ≡ length board.now.open_cells }
         requires inside { AreInside grid.now (cells_of change.now) }
@@ -77,7 +77,7 @@ impl Net {
         grid: &Grid,
         board: &Board<'_>,
         lights: &Lights,
-        change: &Delta<'_>,
+        change: &Notes,
     )
         requires { CanBegin grid.now board.now lights.now (R.entries rows.old) (fields_of lights.now change.now) self.old }
         ensures entries { R.entries rows.new ≡ R.entries rows.old }
@@ -103,7 +103,7 @@ impl Net {
         grid: &Grid,
         board: &Board<'_>,
         lights: &Lights,
-        change: &Delta<'_>,
+        change: &Notes,
     )
         requires { CanBegin grid.now board.now lights.now (R.entries rows.old) (fields_of lights.now change.now) self.old }
         ensures entries { R.entries rows.new ≡ R.entries rows.old }
@@ -123,13 +123,7 @@ impl Net {
     /// The first phase of an update. Along the chain of lights that starts at the edit, it puts
     /// back all base words, and all letters that the cells allow. Then the net has all that is
     /// feasible after the edit, and perhaps more.
-    pub fn revive<R: Rows>(
-        &mut self,
-        rows: &mut R,
-        change: &Delta<'_>,
-        grid: &Grid,
-        lights: &Lights,
-    )
+    pub fn revive<R: Rows>(&mut self, rows: &mut R, change: &Notes, grid: &Grid, lights: &Lights)
         requires lights { lights.now ≡ lights_of grid.now }
         requires inside { AreInside grid.now (cells_of change.now) }
         requires long { AreLong (board_of grid.now) (R.entries rows.old) }
@@ -152,13 +146,7 @@ impl Net {
     }
     /// The second phase of an update. Removes words and letters without support from a revived net
     /// until none is left.
-    pub fn strip<R: Rows>(
-        &mut self,
-        rows: &mut R,
-        _change: &Delta<'_>,
-        grid: &Grid,
-        lights: &Lights,
-    )
+    pub fn strip<R: Rows>(&mut self, rows: &mut R, grid: &Grid, lights: &Lights)
         requires lights { lights.now ≡ lights_of grid.now }
         requires shaped { IsShaped (board_of grid.now) self.old }
         requires bits { HasBits (board_of grid.now) (R.entries rows.old) self.old }
@@ -174,13 +162,7 @@ impl Net {
     }
     /// Updates the net to the feasible words and letters after an edit. The room must have been
     /// reserved.
-    pub fn settle<R: Rows>(
-        &mut self,
-        rows: &mut R,
-        change: &Delta<'_>,
-        grid: &Grid,
-        lights: &Lights,
-    )
+    pub fn settle<R: Rows>(&mut self, rows: &mut R, change: &Notes, grid: &Grid, lights: &Lights)
         requires lights { lights.now ≡ lights_of grid.now }
         requires inside { AreInside grid.now (cells_of change.now) }
         requires long { AreLong (board_of grid.now) (R.entries rows.old) }
@@ -195,7 +177,7 @@ impl Net {
         ensures cost { SettlesInRegion grid.now (R.entries rows.old) (fields_of lights.now change.now) self.old (R.ticks rows.old) (R.ticks rows.new) }
     {
         self.revive(rows, change, grid, lights);
-        self.strip(rows, change, grid, lights);
+        self.strip(rows, grid, lights);
         self.keep_counts();
     }
 }

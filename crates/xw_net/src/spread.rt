@@ -11,7 +11,6 @@ ghost use Rattle.xw_net.specs.Worklist.{is_marked, HasSeeds, Grows, MarksAll, Ma
 
 use crate::light_position::position_of;
 use crate::net::Net;
-use crate::sparse::copy_row;
 use crate::worklist::Worklist;
 use xw_bits::bit_row::BitRow;
 use xw_feas::board::{Board, allowed, has_all_entries};
@@ -157,7 +156,7 @@ fn bring_row(base: &[BitRow], light: usize, rows: &mut [BitRow])
     ensures others { OtherRowsStay light rows.old rows.new }
     ensures row_room { KeepRoom rows.old rows.new }
 {
-    copy_row(&mut rows[light], &base[light]);
+    rows[light].copy_from(&base[light]);
 }
 
 /// Puts all base words of a light back, and queues the light.

@@ -1,18 +1,18 @@
 //! The first step of an update, by the kind of the change: letters, the queue and the chain.
 ghost use Rattle.std.specs.Prelude.{◌≡◌, ℕ, ◌<◌, ◌≤◌, true, false, length, slice_index_or};
 ghost use Rattle.xw_net.specs.Begin.{only_filled as spec_only_filled, filled_of};
-ghost use Rattle.xw_net.specs.Delta.{cells_of, fields_of};
+ghost use Rattle.xw_net.specs.Change.{cells_of, fields_of};
 ghost use Rattle.xw_net.specs.Marks.{AreByCell};
 ghost use Rattle.xw_net.specs.Opened.{HasTurnedWords, Touches};
 ghost use Rattle.xw_net.specs.Update.{AreInside};
 ghost use Rattle.xw_net.specs.Worklist.{Adds, HasLights, HasSeeds};
 
 use crate::begin::{edit_cells, index_in};
-use crate::delta::Delta;
 use crate::gone::raise_gone;
 use crate::seeds::mark_new;
 use crate::worklist::Worklist;
 use xw_feas::board::Board;
+use xw_feas::notes::Notes;
 use xw_grid::cell::Cell;
 use xw_grid::grid::Grid;
 use xw_grid::lights::Lights;
@@ -84,13 +84,13 @@ pub(crate) fn only_filled(
 }
 
 /// The index of the cell that an edit of letters filled, if it wrote no other cell.
-pub(crate) fn filled_in(grid: &Grid, board: &Board<'_>, change: &Delta<'_>) -> Option<usize>
+pub(crate) fn filled_in(grid: &Grid, board: &Board<'_>, change: &Notes) -> Option<usize>
     requires { AreInside grid.now (cells_of change.now) }
     ensures { result ≡ filled_of grid.now board.now change.now }
 {
-    match *change {
-        Delta::Letters(cells) => only_filled(grid, board, cells),
-        _ => None,
+    match change.before() {
+        Some(_) => None,
+        None => only_filled(grid, board, change.cells()),
     }
 }
 
@@ -101,7 +101,7 @@ pub(crate) fn touch(
     grid: &Grid,
     board: &Board<'_>,
     lights: &Lights,
-    change: &Delta<'_>,
+    change: &Notes,
     letters: &mut [LetterSet],
     queue: &mut Worklist,
     chain: &mut Worklist,
@@ -115,14 +115,16 @@ pub(crate) fn touch(
     requires seeds { HasSeeds chain.old }
     ensures { Touches grid.now board.now lights.now (fields_of lights.now change.now) letters.old queue.old chain.old letters.new queue.new chain.new }
 {
-    match *change {
-        Delta::Letters(cells) => edit_cells(grid, board, cells, letters, queue, chain),
-        Delta::Shape { before, cells } => {
-            mark_new(lights, before, queue, chain);
-            raise_gone(grid, board, lights, before, letters, chain);
-            edit_cells(grid, board, cells, letters, queue, chain);
-        }
-        Delta::Word { .. } => {}
-        Delta::Words { turned, back } => touch_turned(board, turned, back, queue, chain),
+    let cells = change.cells();
+    if let Some((turned, back)) = change.turned() {
+        touch_turned(board, turned, back, queue, chain);
+        return;
     }
+    if let Some(before) = change.before() {
+        mark_new(lights, before, queue, chain);
+        raise_gone(grid, board, lights, before, letters, chain);
+        edit_cells(grid, board, cells, letters, queue, chain);
+        return;
+    }
+    edit_cells(grid, board, cells, letters, queue, chain);
 }

@@ -82,26 +82,24 @@ fn make(
 ) -> Result<(), Refusal>
     requires rows { HasRows (board_of position.old.grid) position.old.bank.words words.old.items letters.now.items }
     requires pending { IsPending (position_state_of position.old) edit.now }
-    ensures made { OnOk result (after (position_state_of position.old) (pending_action edit.now) ≡ Ok (position_state_of position.new)) }
+    ensures made { OnOk result (after (position_state_of position.old) (pending_action (position_state_of position.old) edit.now) ≡ Ok (position_state_of position.new)) }
     ensures rows { OnOk result (HasRows (board_of position.new.grid) position.new.bank.words words.new.items letters.now.items) }
-    ensures refused { IfErr result (λ refusal. IsRefused (position_state_of position.old) (pending_action edit.now) refusal) }
+    ensures refused { IfErr result (λ refusal. IsRefused (position_state_of position.old) (pending_action (position_state_of position.old) edit.now) refusal) }
     ensures same { OnErr result (position_state_of position.new ≡ position_state_of position.old) }
     ensures kept { OnErr result (words.new ≡ words.old) }
 {
     let _ = letters;
     match edit {
-        Pending::InPlace(edit) => {
-            let _ = position.commit(edit);
-        }
+        Pending::InPlace(edit) => position.commit(edit),
         Pending::Shape(edit) => {
             let (grid, lights) = position.shaped(alloc, edit)?;
             *words = make_grid_rows(alloc, &grid, &lights, &position.bank)?;
-            let _ = position.reshape(edit, grid, lights);
+            position.reshape(edit, grid, lights);
         }
-        Pending::New(word, grade, index) => {
+        Pending::New(word, grade) => {
             let rows = make_grown_rows(alloc, position, word.len())?;
-            position.reserve(word, *index)?;
-            let _ = position.append(word, *grade, *index);
+            position.reserve(word)?;
+            position.append(word, *grade);
             *words = rows;
         }
     }
@@ -285,5 +283,10 @@ impl Feasible for Plain {
 
     fn letters_at(&self, index: usize) -> LetterSet {
         self.letters[index]
+    }
+
+    fn place_word_at(&mut self, light: usize, index: usize) {
+        self.levels.clear();
+        self.enter_word(light, index);
     }
 }

@@ -16,7 +16,6 @@ use crate::plain::{Plain, settle_position};
 use std::alloc::AllocError;
 use std::snapshot::Snapshot;
 use xw_feas::board::Board;
-use xw_feas::edit::EntryEdit;
 use xw_feas::feasible::Feasible;
 use xw_feas::searchable::Searchable;
 use xw_grid::cell::Cell;
@@ -92,13 +91,13 @@ impl Plain {
         ensures levels { levels_of self.new ≡ levels_of self.old }
         ensures placed { number self.new.placed ≡ suc (number self.old.placed) }
     {
-        let _ = self.position.enter(&EntryEdit::Set(cell, letter));
+        self.position.enter(cell, Some(letter));
         settle_position(&self.position, &mut self.words, &mut self.letters);
         self.placed.raise();
     }
 
     /// Places a known word in a light, both by index, and counts a placement.
-    fn enter_word(&mut self, light: usize, index: usize)
+    pub(crate) fn enter_word(&mut self, light: usize, index: usize)
         requires light { light < length (lights_of (state_of self.old).grid) }
         requires index { index < known_count (state_of self.old) light }
         ensures made { after (state_of self.old) (known_placed (state_of self.old) light index) ≡ Ok (state_of self.new) }

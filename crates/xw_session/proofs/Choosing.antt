@@ -9,9 +9,9 @@ use Rattle.xw_words.specs.Word.{is_bad_letter}
 use Rattle.xw_feas.specs.Board.{light_at, agrees}
 use Rattle.xw_feas.specs.Feasible.{base_words, base_words_at}
 use Rattle.xw_feas.specs.State.{State}
-use Rattle.xw_fill.specs.Position.{Position, position_of}
-use Rattle.xw_fill.specs.FeasibleWords.{is_feasible_word, feasible_words}
-use Rattle.xw_fill.specs.Search.{light_count, is_entered, spelling}
+use Rattle.xw_search.specs.Position.{Position, position_of}
+use Rattle.xw_search.specs.FeasibleWords.{is_feasible_word, feasible_words}
+use Rattle.xw_search.specs.Lights.{light_count, is_entered, spelling}
 use Rattle.xw_fill.specs.Words.{spellings_at, words_left, IsNextWord, HasNoMore}
 use Rattle.xw_feas.specs.declared.edit.Refusal.{Refusal}
 use Rattle.xw_feas.specs.declared.edit.Refusal.TheVariants as edits

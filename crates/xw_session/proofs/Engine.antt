@@ -15,15 +15,15 @@ use Rattle.xw_feas.specs.declared.edit.Refusal.{Refusal}
 use Rattle.xw_feas.specs.declared.edit.Refusal.TheVariants as edits
 use Rattle.xw_grid.specs.declared.fault.GridFault.TheVariants as grids
 use Rattle.xw_feas.specs.declared.changed.Changed.{Changed}
-use Rattle.xw_fill.specs.declared.search.Filling.{Filling}
-use Rattle.xw_fill.specs.declared.search.Filling.TheVariants as fillings
-use Rattle.xw_fill.specs.Position.{position_of}
+use Rattle.xw_search.specs.declared.filling.Filling.{Filling}
+use Rattle.xw_search.specs.declared.filling.Filling.TheVariants as fillings
+use Rattle.xw_search.specs.Position.{position_of}
 use Rattle.xw_fill.specs.Search.{due, found}
 use Rattle.xw_fill.specs.Filling.{IsFilling}
-use Rattle.xw_fill.specs.FeasibleLetters.{feasible_letters}
-use Rattle.xw_fill.specs.FeasibleWords.{feasible_words}
-use Rattle.xw_fill.proofs.FeasibleWordsLemmas.{answered_words}
-use Rattle.xw_fill.proofs.FeasibleLettersLemmas.{answered_letters}
+use Rattle.xw_search.specs.FeasibleLetters.{feasible_letters}
+use Rattle.xw_search.specs.FeasibleWords.{feasible_words}
+use Rattle.xw_search.proofs.FeasibleWordsLemmas.{answered_words}
+use Rattle.xw_search.proofs.FeasibleLettersLemmas.{answered_letters}
 use Rattle.xw_answers.specs.declared.refusal.CommandRefusal.{CommandRefusal}
 use Rattle.xw_answers.specs.declared.refusal.CommandRefusal.TheVariants as refusals
 use Rattle.xw_session.specs.State.{SessionState}

@@ -7,7 +7,7 @@ use Rattle.xw_grid.specs.declared.cell.LightName.{LightName}
 use Rattle.xw_grid.specs.Light.{lights_of, index_named}
 use Rattle.xw_commands.specs.declared.command.LightArg.{LightArg}
 use Rattle.xw_feas.specs.State.{State}
-use Rattle.xw_fill.specs.NamedFill.{AreLights}
+use Rattle.xw_search.specs.NamedFill.{AreLights}
 use Rattle.xw_session.specs.NamedSearch.{names_of}
 use Rattle.xw_session.specs.Grades.{entered_line, named_line, grade_lines}
 use Rattle.xw_session.specs.Reports.{light_report}

@@ -7,7 +7,7 @@ use Rattle.xw_grid.specs.Light.{lights_of, index_named}
 use Rattle.xw_commands.specs.declared.command.LightArg.{LightArg}
 use Rattle.xw_feas.specs.State.{State}
 use Rattle.xw_feas.specs.declared.edit.Refusal.{Refusal}
-use Rattle.xw_fill.specs.NamedFill.{AreLights, IsRefusal}
+use Rattle.xw_search.specs.NamedFill.{AreLights, IsRefusal}
 use Rattle.xw_session.specs.Reply.{name_of_light}
 use Rattle.xw_session.specs.NamedSearch.{names_of, IsUnsearched}
 

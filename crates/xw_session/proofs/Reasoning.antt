@@ -3,7 +3,7 @@ use Rattle.std.proofs.Common.{◌≡◌, ℕ, Some, refl, ap, inl, inr, IfOk, If
 use Rattle.std.specs.Prelude.{List, Option, Result, Ok, Err}
 use Rattle.xw_grid.specs.declared.cell.LightName.{LightName}
 use Rattle.xw_grid.specs.Grid.{Grid}
-use Rattle.xw_fill.specs.Position.{position_of}
+use Rattle.xw_search.specs.Position.{position_of}
 use Rattle.xw_fill.specs.declared.why.NoReason.{NoReason}
 use Rattle.xw_fill.specs.declared.why.NoReason.TheVariants as reasons
 use Rattle.xw_fill.specs.Reason.{IsReasonOf, IsRefused}

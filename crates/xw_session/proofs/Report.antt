@@ -17,10 +17,10 @@ use Rattle.xw_feas.specs.State.{State}
 use Rattle.xw_feas.specs.Feasible.{Answers}
 use Rattle.xw_feas.specs.Changes.{letters_of}
 use Rattle.xw_feas.specs.Queries.{cell_judged, words_of}
-use Rattle.xw_fill.specs.Position.{position_of}
-use Rattle.xw_fill.specs.FeasibleWords.{feasible_words}
-use Rattle.xw_fill.proofs.FeasibleWordsLemmas.{answered_words}
-use Rattle.xw_fill.proofs.FeasibleLettersLemmas.{answered_letters}
+use Rattle.xw_search.specs.Position.{position_of}
+use Rattle.xw_search.specs.FeasibleWords.{feasible_words}
+use Rattle.xw_search.proofs.FeasibleWordsLemmas.{answered_words}
+use Rattle.xw_search.proofs.FeasibleLettersLemmas.{answered_letters}
 use Rattle.xw_session.specs.Reports.{letters_told, count_line}
 use Rattle.xw_answers.specs.Text.{numbered_line, change_line}
 use Rattle.xw_session.proofs.Engine.{Knows}

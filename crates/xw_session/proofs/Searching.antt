@@ -6,9 +6,9 @@ use Rattle.xw_grid.specs.declared.cell.LightName.{LightName}
 use Rattle.xw_feas.specs.State.{State}
 use Rattle.xw_feas.specs.declared.edit.Refusal.{Refusal}
 use Rattle.xw_feas.specs.declared.edit.Refusal.TheVariants as edits
-use Rattle.xw_fill.specs.declared.best.Best.TheVariants as bests
-use Rattle.xw_fill.specs.NamedFill.{is_named, AreLights}
-use Rattle.xw_fill.specs.Best.{IsBest}
+use Rattle.xw_best.specs.declared.best.Best.TheVariants as bests
+use Rattle.xw_search.specs.NamedFill.{is_named, AreLights}
+use Rattle.xw_best.specs.Best.{IsBest}
 use Rattle.xw_answers.specs.declared.refusal.CommandRefusal.{CommandRefusal}
 use Rattle.xw_answers.specs.declared.refusal.CommandRefusal.TheVariants as refusals
 use Rattle.xw_session.specs.State.{SessionState}

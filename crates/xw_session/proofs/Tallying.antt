@@ -16,8 +16,8 @@ use Rattle.xw_feas.specs.Feasible.{Answers}
 use Rattle.xw_feas.specs.Queries.{tally_of}
 use Rattle.xw_feas.specs.State.{State}
 use Rattle.xw_feas.proofs.FormedLemmas.{light_in, length-light_at}
-use Rattle.xw_fill.specs.Position.{position_of}
-use Rattle.xw_fill.proofs.FeasibleWordsLemmas.{answered_words}
+use Rattle.xw_search.specs.Position.{position_of}
+use Rattle.xw_search.proofs.FeasibleWordsLemmas.{answered_words}
 use Rattle.xw_session.specs.Tally.{distance, start_of, words_with}
 use Rattle.xw_session.proofs.Engine.{Knows}
 

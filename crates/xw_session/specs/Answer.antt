@@ -24,8 +24,8 @@ use Rattle.xw_commands.specs.declared.command.SyntaxFault.{SyntaxFault}
 use Rattle.xw_answers.specs.declared.refusal.CommandRefusal.{CommandRefusal}
 use Rattle.xw_answers.specs.declared.refusal.CommandRefusal.TheVariants as refusals
 use Rattle.xw_commands.specs.Command.{command_of}
-use Rattle.xw_fill.specs.Best.{IsBest}
-use Rattle.xw_fill.specs.NamedFill.{IsAutofilled}
+use Rattle.xw_best.specs.Best.{IsBest}
+use Rattle.xw_search.specs.NamedFill.{IsAutofilled}
 use Rattle.xw_fill.specs.declared.why.NoReason.{NoReason}
 use Rattle.xw_session.specs.Why.{refusal_without_reason, IsWhyAnswer, entry_lines}
 use Rattle.xw_session.specs.Reply.{Reply, answer_of, asked, changed, searched, want_of, want_of_change, want_of_action, name_of_light, moved, filling_line}

@@ -1,8 +1,8 @@
 -- The lines of best.
 use Rattle.std.specs.Prelude.{ℕ, List, ◌++◌, codes}
-use Rattle.xw_fill.specs.declared.best.Best.{Best}
-use Rattle.xw_fill.specs.declared.best.Best.TheVariants.{Filled, NoFill, Limit}
-use Rattle.xw_fill.specs.declared.search.Filling.TheVariants as fillings
+use Rattle.xw_best.specs.declared.best.Best.{Best}
+use Rattle.xw_best.specs.declared.best.Best.TheVariants.{Filled, NoFill, Limit}
+use Rattle.xw_search.specs.declared.filling.Filling.TheVariants as fillings
 use Rattle.xw_answers.specs.Text.{number_line}
 use Rattle.xw_session.specs.Reply.{filling_line}
 

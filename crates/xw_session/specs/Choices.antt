@@ -6,7 +6,8 @@ use Rattle.xw_words.specs.Dictionary.{index_of_word}
 use Rattle.xw_words.specs.Word.{is_bad_letter}
 use Rattle.xw_feas.specs.Board.{board_of, light_at}
 use Rattle.xw_feas.specs.State.{State}
-use Rattle.xw_fill.specs.OfState.{feasible_words, is_entered, words_left}
+use Rattle.xw_search.specs.OfState.{feasible_words, is_entered}
+use Rattle.xw_fill.specs.OfState.{words_left}
 use Rattle.xw_fill.specs.Choices.{fewest_after}
 use Rattle.xw_feas.specs.declared.edit.Refusal.{Refusal}
 use Rattle.xw_feas.specs.declared.edit.Refusal.TheVariants as edits

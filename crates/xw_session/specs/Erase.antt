@@ -7,7 +7,7 @@ use Rattle.xw_grid.specs.declared.lights.Light.{Light}
 use Rattle.xw_grid.specs.Grid.{entry}
 use Rattle.xw_grid.specs.Light.{cells_of, lights_of, index_through}
 use Rattle.xw_feas.specs.State.{State}
-use Rattle.xw_fill.specs.OfState.{is_entered}
+use Rattle.xw_search.specs.OfState.{is_entered}
 
 -- the direction of the lights that cross those of a direction
 abbrev pub crossing : Direction → Direction

@@ -5,7 +5,7 @@ use Rattle.xw_grid.specs.declared.lights.Light.{Light}
 use Rattle.xw_grid.specs.Grid.{Grid}
 use Rattle.xw_words.specs.Dictionary.{entry_at, known_words}
 use Rattle.xw_feas.specs.State.{State}
-use Rattle.xw_fill.specs.declared.listing.Duplicate.{Duplicate}
+use Rattle.xw_search.specs.declared.listing.Duplicate.{Duplicate}
 use Rattle.xw_fill.specs.declared.suggesting.Suggestion.{Suggestion}
 use Rattle.xw_fill.specs.declared.suggesting.Suggestion.TheVariants as suggestions
 use Rattle.xw_commands.specs.Names.{direction_name}

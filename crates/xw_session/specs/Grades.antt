@@ -4,8 +4,8 @@ use Rattle.std.specs.Option.{option_and_then}
 use Rattle.xw_grid.specs.declared.cell.LightName.{LightName}
 use Rattle.xw_grid.specs.Light.{lights_of, index_named}
 use Rattle.xw_feas.specs.State.{State}
-use Rattle.xw_fill.specs.Position.{name_at}
-use Rattle.xw_fill.specs.OfState.{is_entered, grade_of}
+use Rattle.xw_search.specs.Position.{name_at}
+use Rattle.xw_search.specs.OfState.{is_entered, grade_of}
 use Rattle.xw_answers.specs.Text.{grade_line}
 use Rattle.xw_session.specs.Reports.{light_report}
 

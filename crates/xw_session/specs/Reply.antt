@@ -18,12 +18,13 @@ use Rattle.xw_grid.specs.Clue.{no_clues, with_clue, is_circled, with_circle}
 use Rattle.xw_feas.specs.declared.edit.Refusal.{Refusal}
 use Rattle.xw_feas.specs.State.{State, Action, after, want_of as state_want_of, letter_set, cell_cleared, word_placed, list_written, block_toggled, bar_toggled, symmetry_chosen, word_added, word_struck, least_chosen}
 use Rattle.xw_feas.specs.Changes.{cells_that_differ}
-use Rattle.xw_fill.specs.Position.{filled_in}
-use Rattle.xw_fill.specs.OfState.{feasible_words, feasible_letters, found, due, end}
+use Rattle.xw_search.specs.Position.{filled_in}
+use Rattle.xw_search.specs.OfState.{feasible_words, feasible_letters}
+use Rattle.xw_fill.specs.OfState.{found, due, end}
 use Rattle.xw_fill.specs.Suggesting.{suggestion}
-use Rattle.xw_fill.specs.declared.search.Filling.{Filling}
-use Rattle.xw_fill.specs.declared.search.Filling.TheVariants as fillings
-use Rattle.xw_fill.specs.Listing.{duplicates_of, unlisted_of}
+use Rattle.xw_search.specs.declared.filling.Filling.{Filling}
+use Rattle.xw_search.specs.declared.filling.Filling.TheVariants as fillings
+use Rattle.xw_search.specs.Listing.{duplicates_of, unlisted_of}
 use Rattle.xw_commands.specs.declared.command.CellArg.{CellArg}
 use Rattle.xw_commands.specs.declared.command.TextField.{TextField}
 use Rattle.xw_commands.specs.declared.command.Command.{Command}

@@ -6,7 +6,7 @@ use Rattle.xw_grid.specs.declared.lights.Light.{Light}
 use Rattle.xw_grid.specs.Grid.{is_open, index_of, cells}
 use Rattle.xw_grid.specs.Light.{lights_of, no_light}
 use Rattle.xw_feas.specs.State.{State}
-use Rattle.xw_fill.specs.OfState.{feasible_words, feasible_letters}
+use Rattle.xw_search.specs.OfState.{feasible_words, feasible_letters}
 use Rattle.xw_commands.specs.declared.query.Report.{Report}
 use Rattle.xw_commands.specs.declared.query.Report.TheVariants.{Cells, Counts, Texts, Stats, Longest, Record}
 use Rattle.xw_session.specs.State.{SessionState}

@@ -6,7 +6,7 @@ use Rattle.xw_grid.specs.declared.cell.Direction.TheVariants.{Across, Down}
 use Rattle.xw_grid.specs.Grid.{Grid, index_of}
 use Rattle.xw_grid.specs.Light.{lights_of, no_light, index_through}
 use Rattle.xw_feas.specs.State.{State}
-use Rattle.xw_fill.specs.OfState.{feasible_words, feasible_letters}
+use Rattle.xw_search.specs.OfState.{feasible_words, feasible_letters}
 use Rattle.xw_answers.specs.Text.{line_of}
 
 -- the index of a cell in a light, by the first cell of the light

@@ -3,8 +3,8 @@ use Rattle.std.specs.Prelude.{ℕ, Bool, not, ◌&&◌, ◌==◌, List, [], leng
 use Rattle.xw_feas.specs.Board.{board_of}
 use Rattle.xw_feas.specs.Feasible.{base_words_at}
 use Rattle.xw_feas.specs.State.{State}
-use Rattle.xw_fill.specs.Position.{name_at}
-use Rattle.xw_fill.specs.OfState.{is_entered}
+use Rattle.xw_search.specs.Position.{name_at}
+use Rattle.xw_search.specs.OfState.{is_entered}
 use Rattle.xw_answers.specs.Text.{spelled_line}
 
 -- the light is not wholly entered, and has no base word: no active word of its length agrees with its entries

@@ -1,7 +1,7 @@
 //! Finds the lights that command lines name.
 ghost use Rattle.std.specs.Prelude.{◌≡◌, ◌≤◌, true, false, IfOk, IfErr, OnOk, IfSome, IfNone, is_some};
 ghost use Rattle.xw_grid.specs.Light.{lights_of, index_named};
-ghost use Rattle.xw_fill.specs.NamedFill.{AreLights};
+ghost use Rattle.xw_search.specs.NamedFill.{AreLights};
 ghost use Rattle.xw_session.specs.Reply.{name_of_light};
 ghost use Rattle.xw_session.specs.NamedSearch.{names_of as spec_names_of, IsUnsearched};
 

@@ -27,7 +27,7 @@ use Rattle.xw_grid.specs.Light.{lights_of, no_light, cells_of}
 use Rattle.xw_grid.proofs.GridLemmas.{length-cells}
 use Rattle.xw_feas.specs.declared.edit.Refusal.{Refusal}
 use Rattle.xw_feas.specs.State.{State, with_grid, with_words, by_fault, with_letters, spelled_in, placed_in, then_write, write_list}
-use Rattle.xw_fill.specs.Position.{square_with, squares_with, filled_in}
+use Rattle.xw_search.specs.Position.{square_with, squares_with, filled_in}
 use Rattle.xw_session.specs.Erase.{emptied}
 
 -- ---- squares

@@ -12,7 +12,7 @@ use Rattle.xw_grid.specs.Edit.{with_entry}
 use Rattle.xw_grid.proofs.GridLemmas.{cell_at-inside, index_of-cell_at, inside_small, length-cells}
 use Rattle.xw_feas.specs.Board.{board_of, square_entry}
 use Rattle.xw_feas.specs.State.{State}
-use Rattle.xw_fill.specs.Position.{square_with, squares_with}
+use Rattle.xw_search.specs.Position.{square_with, squares_with}
 use Rattle.xw_commands.specs.declared.change.Change.{Change}
 use Rattle.xw_commands.specs.declared.change.Change.TheVariants as changes
 use Rattle.xw_session.specs.State.{SessionState}

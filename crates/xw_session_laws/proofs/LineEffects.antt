@@ -20,16 +20,16 @@ use Rattle.xw_feas.specs.declared.edit.Refusal.{Refusal}
 use Rattle.xw_feas.specs.State.{State, letter_set, cell_cleared, word_placed, list_written, block_toggled, bar_toggled, symmetry_chosen, word_added, word_struck, least_chosen, after}
 use Rattle.xw_feas.specs.WellFormed.{HasLetterEntries}
 use Rattle.xw_feas.proofs.FormedLemmas.{laid_out}
-use Rattle.xw_fill.specs.Position.{position_of, filled_in}
+use Rattle.xw_search.specs.Position.{position_of, filled_in}
 use Rattle.xw_fill.specs.Search.{unentered_count, found, due, end}
-use Rattle.xw_fill.proofs.Shaped.{shaped}
+use Rattle.xw_search.proofs.Shaped.{shaped}
 use Rattle.xw_fill.proofs.FillLemmas.{found_is_fill, reached-start}
-use Rattle.xw_fill.specs.declared.search.Filling.{Filling}
-use Rattle.xw_fill.specs.declared.search.Filling.TheVariants as fillings
-use Rattle.xw_fill.specs.NamedFill.{IsAutofilled, is_named}
-use Rattle.xw_fill.specs.declared.best.Best.{Best}
-use Rattle.xw_fill.specs.declared.best.Best.TheVariants as bests
-use Rattle.xw_fill.specs.Best.{IsBest}
+use Rattle.xw_search.specs.declared.filling.Filling.{Filling}
+use Rattle.xw_search.specs.declared.filling.Filling.TheVariants as fillings
+use Rattle.xw_search.specs.NamedFill.{IsAutofilled, is_named}
+use Rattle.xw_best.specs.declared.best.Best.{Best}
+use Rattle.xw_best.specs.declared.best.Best.TheVariants as bests
+use Rattle.xw_best.specs.Best.{IsBest}
 use Rattle.xw_commands.specs.declared.command.Command.{Command}
 use Rattle.xw_commands.specs.declared.command.Command.TheVariants as commands
 use Rattle.xw_commands.specs.declared.change.Change.{Change}

@@ -23,14 +23,14 @@ use Rattle.xw_grid.proofs.OrderLemmas.{lights_are_made, made_inside}
 use Rattle.xw_feas.specs.declared.edit.Refusal.{Refusal}
 use Rattle.xw_feas.specs.State.{State, Action, letter_set, cell_cleared, word_placed, list_written, block_toggled, bar_toggled, symmetry_chosen, word_added, word_struck, least_chosen, after, with_grid, with_words, by_fault, with_letters, spelled_in, placed_in, then_write, write_list}
 use Rattle.xw_feas.specs.WellFormed.{IsWellFormed}
-use Rattle.xw_fill.specs.Position.{position_of, filled_in}
+use Rattle.xw_search.specs.Position.{position_of, filled_in}
 use Rattle.xw_fill.specs.Search.{found, due, end}
-use Rattle.xw_fill.specs.declared.search.Filling.{Filling}
-use Rattle.xw_fill.specs.declared.search.Filling.TheVariants as fillings
-use Rattle.xw_fill.specs.NamedFill.{IsAutofilled, is_named}
-use Rattle.xw_fill.specs.declared.best.Best.{Best}
-use Rattle.xw_fill.specs.declared.best.Best.TheVariants as bests
-use Rattle.xw_fill.specs.Best.{IsBest}
+use Rattle.xw_search.specs.declared.filling.Filling.{Filling}
+use Rattle.xw_search.specs.declared.filling.Filling.TheVariants as fillings
+use Rattle.xw_search.specs.NamedFill.{IsAutofilled, is_named}
+use Rattle.xw_best.specs.declared.best.Best.{Best}
+use Rattle.xw_best.specs.declared.best.Best.TheVariants as bests
+use Rattle.xw_best.specs.Best.{IsBest}
 use Rattle.xw_grid.specs.Puzzle.{TextsShown}
 use Rattle.xw_commands.specs.declared.command.Command.{Command}
 use Rattle.xw_commands.specs.declared.command.Command.TheVariants as commands

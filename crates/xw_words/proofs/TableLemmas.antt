@@ -1,5 +1,5 @@
 -- What a change of a table of words keeps.
-use Rattle.std.proofs.Common.{◌≡◌, ℕ, ◌+◌, ◌*◌, ◌%◌, ◌<◌, ◌≤◌, Bool, false, List, ◌++◌, length, take, drop, ap, sym, ◌∙◌, arith, length-drop, length-take, subst, Vec, Global, vec_capacity}
+use Rattle.std.proofs.Common.{◌≡◌, ℕ, ◌+◌, ◌*◌, ◌%◌, ◌<◌, ◌≤◌, Bool, false, List, ◌++◌, length, take, drop, ap, sym, ◌∙◌, arith, length-drop, length-take, subst}
 use Rattle.std.specs.Prelude.{Option, Some, None, All, slice_set}
 use Rattle.std.specs.Str.{bytes_eq}
 use Rattle.std.proofs.lemmas.Bool.{both_ways, false_from_ne_true}
@@ -7,7 +7,7 @@ use Rattle.std.proofs.lemmas.List.{take-append-le, drop-append-le, drop_at, take
 use Rattle.std.proofs.lemmas.Slice.Eq.{bytes_eq-Decides}
 use Rattle.xw_bits.specs.Bits.{RowOfBits}
 use Rattle.xw_words.specs.Dictionary.{Entry, no_entry, entry_at, index_in}
-use Rattle.xw_words.specs.Marks.{Marks}
+use Rattle.xw_words.specs.Marks.{Marks, MarkList}
 use Rattle.xw_words.specs.declared.weights.Weights.{Weights}
 use Rattle.xw_words.specs.declared.table.Table.TheInside.{Inside}
 use Rattle.xw_words.specs.Table.{IsKeptTable}
@@ -81,8 +81,8 @@ entries_long len letters flags regraded marks long k d lt =
     ∙ ap length (word-entries_of len letters flags regraded marks k within) ∙ length-word_in len letters (length flags) k within long
 
 -- other flags and marks for the same words keep the invariant of a table
-pub IsKeptTable-marked : (t : Inside) (active regraded : RowOfBits) (marks : Vec Marks Global) (weights : Weights) → IsKeptTable t → length active.bits ≡ length t.active.bits → length regraded.bits ≡ length t.regraded.bits
-    → AreClearFrom (length t.active.bits) regraded.bits → length marks.items ≡ length t.marks.items → t.active.room ≤ active.room → vec_capacity t.marks ≤ vec_capacity marks
+pub IsKeptTable-marked : (t : Inside) (active regraded : RowOfBits) (marks : MarkList) (weights : Weights) → IsKeptTable t → length active.bits ≡ length t.active.bits → length regraded.bits ≡ length t.regraded.bits
+    → AreClearFrom (length t.active.bits) regraded.bits → length marks.items ≡ length t.marks.items → t.active.room ≤ active.room → t.marks.room ≤ marks.room
     → IsKeptTable (record { word_len = t.word_len; letters = t.letters; index = t.index; active = active; regraded = regraded; marks = marks; weights = weights; reserved = t.reserved })
 IsKeptTable-marked t active regraded marks weights kept flagged longer clear marked room marks_room =
     record {

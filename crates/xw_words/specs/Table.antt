@@ -36,5 +36,5 @@ pub record IsKeptTable (t : Inside) : Type 0 where
   pub index_heads : 0 < t.reserved → 0 < length t.index.heads
   pub index_room : t.reserved ≤ t.index.room
   pub letters_room : t.reserved * t.word_len ≤ vec_capacity t.letters
-  pub marks_room : t.reserved ≤ vec_capacity t.marks
+  pub marks_room : t.reserved ≤ t.marks.room
   pub active_room : t.reserved ≤ t.active.room

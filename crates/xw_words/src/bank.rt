@@ -1,7 +1,7 @@
 //! The dictionary: all known words, grouped by length.
-ghost use Rattle.std.specs.Prelude.{◌≡◌, ◌≢◌, ℕ, ◌+◌, ◌*◌, ◌<◌, ◌≤◌, Bool, true, false, [], map, replicate, length, slice_index_or, Ok, Err, None, All, IsOk, IfErr, IfOk, IfSome, IfNone, OnOk, OnErr, IsOkUnless, position, vec_len};
+ghost use Rattle.std.specs.Prelude.{◌≡◌, ◌≢◌, ℕ, ◌+◌, ◌*◌, ◌<◌, ◌≤◌, Bool, true, false, [], map, replicate, length, slice_index_or, slice_set, Ok, Err, None, All, IsOk, IfErr, IfOk, IfSome, IfNone, OnOk, OnErr, IsOkUnless, position, vec_len};
 ghost use Rattle.xw_letters.specs.Letter.{folded, IsLetter};
-ghost use Rattle.xw_words.specs.Dictionary.{known_words, entry_at, index_of_word, add_answer, answer_on, add_to, after_add, strike_answer, after_strike, IsNew, IsDictionary, capped, is_turned, matching_answer, grade_answer, reserve_answer, most_words, best_grade, no_words, with_least};
+ghost use Rattle.xw_words.specs.Dictionary.{known_words, entry_at, index_of_word, add_answer, answer_on, add_to, after_add, strike_answer, after_strike, with_row, with_struck, returned, IsNew, IsDictionary, capped, is_turned, matching_answer, grade_answer, reserve_answer, most_words, best_grade, no_words, with_least};
 ghost use Rattle.std.specs.List.{list_any};
 ghost use Rattle.xw_words.specs.Bank.{has_room, limited_row, IsKept, KeepsRoom, KeepsOtherRoom};
 ghost use Rattle.xw_words.specs.Word.{is_bad_letter, judged};
@@ -321,9 +321,37 @@ impl Bank {
         ensures err { OnErr result (self.new.words ≡ self.old.words) }
         ensures room { KeepsRoom self.old self.new }
     {
+        let index = self.judge_strike(bytes)?;
+        self.strike_at(bytes.len(), index);
+        Ok(index)
+    }
+
+    /// What `strike` would return.
+    pub fn judge_strike(&self, bytes: &[u8]) -> Result<usize, WordFault>
+        ensures { result ≡ strike_answer self.now.words bytes.now }
+    {
         judge_word(bytes)?;
-        let row = &mut self.rows[bytes.len()];
-        row.strike(bytes)
+        self.rows[bytes.len()].table().judge_strike(bytes)
+    }
+
+    /// Strikes word `index` of length `len`.
+    pub fn strike_at(&mut self, len: usize, index: usize)
+        requires { index < length (known_words self.old.words len) }
+        ensures words { self.new.words ≡ with_row self.old.words len (with_struck (known_words self.old.words len) index) }
+        ensures room { KeepsRoom self.old self.new }
+    {
+        let row = &mut self.rows[len];
+        row.strike_at(index);
+    }
+
+    /// Makes word `index` of length `len` active. Its grade is as `add` says.
+    pub fn return_at(&mut self, len: usize, index: usize, grade: Option<u8>)
+        requires { index < length (known_words self.old.words len) }
+        ensures words { self.new.words ≡ with_row self.old.words len (slice_set (known_words self.old.words len) index (returned self.old.words.least grade (entry_at (known_words self.old.words len) index))) }
+        ensures room { KeepsRoom self.old self.new }
+    {
+        let row = &mut self.rows[len];
+        row.return_at(index, grade, self.least);
     }
 
     /// Iterates over the active words that match a pattern, in index order. A pattern has a letter

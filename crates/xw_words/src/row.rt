@@ -2,8 +2,8 @@
 ghost use Rattle.xw_bits.specs.Bits.{has_bit};
 ghost use Rattle.xw_words.specs.Columns.{has_letter, has_one_of, AreFits, IsColumn, AreColumns};
 ghost use Rattle.xw_words.specs.Matching.{HasFits};
-ghost use Rattle.std.specs.Prelude.{◌≡◌, ℕ, ◌+◌, ◌*◌, ◌<◌, ◌≤◌, ◌||◌, ◌==◌, true, false, None, [], ◌∷◌, ◌++◌, length, map, position, OnOk, OnErr, IfOk, IfErr, IfSome, IfNone, ◌≢◌};
-ghost use Rattle.xw_words.specs.Dictionary.{index_in, add_to, added_at, with_added, strike_from, IsNew, most_words, all_limited, new_entry, with_struck, best_grade};
+ghost use Rattle.std.specs.Prelude.{◌≡◌, ℕ, ◌+◌, ◌*◌, ◌<◌, ◌≤◌, ◌||◌, ◌==◌, true, false, None, [], ◌∷◌, ◌++◌, length, map, slice_set, position, OnOk, OnErr, IfOk, IfErr, IfSome, IfNone, ◌≢◌};
+ghost use Rattle.xw_words.specs.Dictionary.{index_in, add_to, added_at, with_added, entry_at, returned, IsNew, most_words, all_limited, new_entry, with_struck, best_grade};
 ghost use Rattle.xw_letters.specs.Letter.{folded};
 ghost use Rattle.xw_words.specs.Word.{is_bad_letter, is_bad_in_pattern};
 
@@ -239,18 +239,25 @@ impl Row {
         Ok(Added::New(index))
     }
 
-    /// Strikes the word that the bytes spell and returns its index.
-    pub fn strike(&mut self, bytes: &[u8]) -> Result<usize, WordFault>
-        requires letters { position is_bad_letter bytes.now ≡ None }
-        requires length { length bytes.now ≡ self.old.word_len }
+    /// Makes word `index` active. Its grade is as `add` says.
+    pub fn return_at(&mut self, index: usize, grade: Option<u8>, least: u8)
+        requires known { index < length self.old.entries }
+        requires least { least ≤ best_grade }
         ensures word_len { self.new.word_len ≡ self.old.word_len }
-        ensures answer { result ≡ strike_from self.old.entries (map folded bytes.now) }
-        ensures ok { IfOk result (λ index. self.new.entries ≡ with_struck self.old.entries index) }
-        ensures err { OnErr result (self.new.entries ≡ self.old.entries) }
+        ensures entries { self.new.entries ≡ slice_set self.old.entries index (returned least grade (entry_at self.old.entries index)) }
         ensures room { self.new.room ≡ self.old.room }
     {
-        let _ = self.table.word_len();
-        self.table.strike(bytes)
+        self.table.return_at(index, grade, least);
+    }
+
+    /// Strikes word `index`.
+    pub fn strike_at(&mut self, index: usize)
+        requires { index < length self.old.entries }
+        ensures word_len { self.new.word_len ≡ self.old.word_len }
+        ensures entries { self.new.entries ≡ with_struck self.old.entries index }
+        ensures room { self.new.room ≡ self.old.room }
+    {
+        self.table.strike_at(index);
     }
 
     /// Reserves room for one more word.

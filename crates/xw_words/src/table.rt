@@ -14,7 +14,7 @@ ghost use Rattle.xw_words.specs.Word.{is_bad_letter};
 use crate::bank::Added;
 use crate::fault::WordFault;
 use crate::index::Index;
-use crate::marks::Marks;
+use crate::marks::{MarkList, Marks};
 use crate::weights::Weights;
 use crate::word::{LONGEST, spell};
 use std::alloc::Global;
@@ -35,15 +35,6 @@ fn append(letters: &mut Vec<Letter>, word: &[Letter])
     ensures capacity { vec_capacity letters.old ≤ vec_capacity letters.new }
 {
     let _ = letters.extend_from_slice(word);
-}
-
-/// Appends the marks of a word within the capacity.
-fn append_marks(marks: &mut Vec<Marks>, new: Marks)
-    requires { vec_len marks.old < vec_capacity marks.old }
-    ensures items { marks.new.items ≡ marks.old.items ++ new ∷ [] }
-    ensures capacity { vec_capacity marks.old ≤ vec_capacity marks.new }
-{
-    let _ = marks.push(new);
 }
 
 /// The grade of an added word: the one that is given, at most `BEST_GRADE`, or else `usual`; raised to `least`.
@@ -68,7 +59,7 @@ pub struct Table {
     active: BitRow,
     /// The words that came back with a grade that was chosen then. It has a bit for each word that there is room for.
     regraded: BitRow,
-    marks: Vec<Marks>,
+    marks: MarkList,
     weights: Weights,
     reserved: usize,
 }
@@ -98,7 +89,7 @@ impl Table {
             index: Index::new(alloc),
             active: BitRow::new(alloc),
             regraded: BitRow::new(alloc),
-            marks: Vec::new(alloc),
+            marks: MarkList::new(alloc),
             weights: Weights::new(),
             reserved: 0,
         }
@@ -160,12 +151,10 @@ impl Table {
 
     /// The grade of word `index`; 0 if there is no such word.
     pub fn grade(&self, index: usize) -> u8
-        ensures { result ≡ (entry_at self.now.entries index).grade }
+        ensures value { result ≡ (entry_at self.now.entries index).grade }
+        ensures small { result < 128 }
     {
-        match self.marks.get(index) {
-            Some(marks) => marks.grade(),
-            None => 0,
-        }
+        self.marks.at(index).grade()
     }
 
     /// The grade of the word that the bytes spell, active or not.
@@ -187,10 +176,7 @@ impl Table {
     pub fn is_struck(&self, index: usize) -> bool
         ensures { result ≡ (entry_at self.now.entries index).struck }
     {
-        match self.marks.get(index) {
-            Some(marks) => marks.is_struck(),
-            None => false,
-        }
+        self.marks.at(index).is_struck()
     }
 
     /// Whether word `index` came back with a grade that was chosen then; false if there is no such word.
@@ -205,10 +191,7 @@ impl Table {
         if self.weights.are_equal() {
             return 1;
         }
-        match self.marks.get(index) {
-            Some(marks) => self.weights.of_grade(marks.grade()),
-            None => 0,
-        }
+        self.weights.of_grade(self.grade(index))
     }
 
     /// How much these words of a chunk of 64 words weigh in a search. The contract promises nothing. No sum wraps, since
@@ -265,16 +248,7 @@ impl Table {
         self.weights.note(marks.grade());
         self.active.put(index, active);
         self.regraded.put(index, regraded);
-        self.marks[index] = marks;
-    }
-
-    /// The marks of word `index`.
-    fn marks(&self, index: usize) -> &Marks
-        requires { index < length self.now.entries }
-        ensures grade { result.now.grade ≡ (entry_at self.now.entries index).grade }
-        ensures struck { result.now.struck ≡ (entry_at self.now.entries index).struck }
-    {
-        &self.marks[index]
+        self.marks.put(index, marks);
     }
 
     /// The index of a word, active or not.
@@ -341,35 +315,49 @@ impl Table {
         if self.is_active(index) {
             return Err(WordFault::Known);
         }
-        let old = self.marks(index).grade();
-        let regraded = self.is_regraded(index) || grade.is_some() || old < least;
-        let marks = Marks::new(grade_or(least, grade, old), false);
-        self.mark(index, true, regraded, marks);
+        self.return_at(index, grade, least);
         Ok(Added::Returned(index))
     }
 
-    /// Strikes the word that the bytes spell and returns its index.
-    pub fn strike(&mut self, bytes: &[u8]) -> Result<usize, WordFault>
-        requires letters { position is_bad_letter bytes.now ≡ None }
-        requires length { length bytes.now ≡ self.old.word_len }
+    /// Makes word `index` active, with the grade that `add_again` gives it.
+    pub fn return_at(&mut self, index: usize, grade: Option<u8>, least: u8)
+        requires known { index < length self.old.entries }
+        requires least { least ≤ best_grade }
         ensures word_len { self.new.word_len ≡ self.old.word_len }
-        ensures answer { result ≡ strike_from self.old.entries (map folded bytes.now) }
-        ensures ok { IfOk result (λ index. self.new.entries ≡ with_struck self.old.entries index) }
-        ensures err { OnErr result (self.new.entries ≡ self.old.entries) }
+        ensures entries { self.new.entries ≡ slice_set self.old.entries index (returned least grade (entry_at self.old.entries index)) }
         ensures reserved { self.new.reserved ≡ self.old.reserved }
+    {
+        let old = self.grade(index);
+        let regraded = self.is_regraded(index) || grade.is_some() || old < least;
+        let marks = Marks::new(grade_or(least, grade, old), false);
+        self.mark(index, true, regraded, marks);
+    }
+
+    /// The index of the word that the bytes spell, if it can be struck.
+    pub fn judge_strike(&self, bytes: &[u8]) -> Result<usize, WordFault>
+        requires letters { position is_bad_letter bytes.now ≡ None }
+        requires length { length bytes.now ≡ self.now.word_len }
+        ensures { result ≡ strike_from self.now.entries (map folded bytes.now) }
     {
         let _ = &self.word_len;
         let mut letters = [Letter::first(); LONGEST];
         spell(&mut letters, bytes);
         match self.find(&letters[..bytes.len()]) {
-            Some(index) if !self.is_struck(index) => {
-                let regraded = self.is_regraded(index);
-                let marks = Marks::new(self.marks(index).grade(), true);
-                self.mark(index, false, regraded, marks);
-                Ok(index)
-            }
+            Some(index) if !self.is_struck(index) => Ok(index),
             _ => Err(WordFault::Unknown),
         }
+    }
+
+    /// Strikes word `index`.
+    pub fn strike_at(&mut self, index: usize)
+        requires { index < length self.old.entries }
+        ensures word_len { self.new.word_len ≡ self.old.word_len }
+        ensures entries { self.new.entries ≡ with_struck self.old.entries index }
+        ensures reserved { self.new.reserved ≡ self.old.reserved }
+    {
+        let regraded = self.is_regraded(index);
+        let marks = Marks::new(self.grade(index), true);
+        self.mark(index, false, regraded, marks);
     }
 
     /// Adds a word: appends a new one, or brings back one that is not active.
@@ -416,7 +404,7 @@ impl Table {
         self.active.push(true);
         let grade = grade_or(least, grade, BEST_GRADE);
         self.weights.note(grade);
-        append_marks(&mut self.marks, Marks::new(grade, false));
+        self.marks.push(Marks::new(grade, false));
         append(&mut self.letters, word);
     }
 }

@@ -1,13 +1,8 @@
 -- A search notes which lights are wholly entered. The note of a light is the number of placements after which the
 -- light was first seen wholly entered.
-use Rattle.std.specs.Prelude.{◌≡◌, ℕ, ◌<◌, ◌≤◌, Bool, true, false, not, nat_lt, ◌&&◌, ◌==◌, List, slice_index_or, Option, Some, None, is_some}
-use Rattle.xw_fill.specs.Position.{Position}
-use Rattle.xw_fill.specs.Below.{any_below}
-use Rattle.xw_fill.specs.Search.{light_count, is_entered, spell_same}
-
--- another light spells the same as this one
-abbrev pub is_spelled_again : Position → ℕ → Bool
-is_spelled_again position light = any_below (λ other. not (other == light) && spell_same position light other) (light_count position)
+use Rattle.std.specs.Prelude.{◌≡◌, ℕ, ◌<◌, ◌≤◌, Bool, true, false, nat_lt, List, slice_index_or, Option, Some, None, is_some}
+use Rattle.xw_search.specs.Position.{Position}
+use Rattle.xw_search.specs.Lights.{light_count, is_entered, spell_same}
 
 -- the note was made after fewer placements than these
 abbrev pub within : Option ℕ → ℕ → Bool

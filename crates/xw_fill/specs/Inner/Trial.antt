@@ -2,8 +2,8 @@
 use Rattle.std.specs.Prelude.{◌≡◌, ℕ, ◌<◌, Bool, false, cond, List, [], ◌∷◌, drop, length, slice_index, slice_index_or, slice_set, Option, None, is_none}
 use Rattle.xw_feas.specs.Board.{Board, entry, light_at}
 use Rattle.xw_feas.specs.State.{State}
-use Rattle.xw_fill.specs.Position.{Position, position_of, holding, DiffersInEntries}
-use Rattle.xw_fill.specs.Search.{light_count}
+use Rattle.xw_search.specs.Position.{Position, position_of, holding, DiffersInEntries}
+use Rattle.xw_search.specs.Lights.{light_count}
 use Rattle.xw_fill.specs.declared.trial.Trial.{Trial}
 
 -- the entries after each flagged cell is cleared

@@ -1,8 +1,8 @@
 -- Words that a search tries.
 use Rattle.std.specs.Prelude.{◌≡◌, ℕ, ◌<◌, Bool, false, List, [], slice_index_or}
 use Rattle.xw_feas.specs.State.{State}
-use Rattle.xw_fill.specs.Position.{Position, position_of, placed, DiffersInEntries}
-use Rattle.xw_fill.specs.Search.{light_count}
+use Rattle.xw_search.specs.Position.{Position, position_of, placed, DiffersInEntries}
+use Rattle.xw_search.specs.Lights.{light_count}
 use Rattle.xw_fill.specs.Suggesting.{IsTriedAt}
 use Rattle.xw_fill.specs.Words.{spellings_at}
 use Rattle.xw_fill.specs.declared.tries.Try.{Try}

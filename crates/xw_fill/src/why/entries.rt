@@ -2,27 +2,17 @@
 ghost use Rattle.std.specs.Prelude.{◌≡◌, ◌≤◌, All, length, drop, true, IfOk, IfErr, IfSome, map, slice_set};
 ghost use Rattle.xw_letters.specs.Letter.{IsLetter};
 ghost use Rattle.xw_grid.specs.Grid.{is_open, index_of};
-ghost use Rattle.xw_fill.specs.Position.{DiffersInEntries};
-ghost use Rattle.xw_fill.specs.Reason.{entries_of};
-ghost use Rattle.xw_fill.specs.Sparing.{CanBeWritten, by_index, written_in, emptied, IsListOf};
+ghost use Rattle.xw_search.specs.Position.{DiffersInEntries};
+ghost use Rattle.xw_search.specs.Writing.{entries_of, CanBeWritten, by_index, written_in};
+ghost use Rattle.xw_fill.specs.Sparing.{emptied, IsListOf};
 
-use crate::scan::board;
 use crate::why::NoReason;
 use std::alloc::Global;
-use xw_feas::edit::Edit;
 use xw_feas::feasible::Feasible;
 use xw_grid::cell::Cell;
 use xw_letters::letter::Letter;
-
-/// Writes a list of open cells in one edit.
-pub fn write<E: Feasible>(engine: &mut E, list: &[(Cell, Option<Letter>)])
-    requires { All (CanBeWritten (E.state engine.old).grid) list.now }
-    ensures entries { entries_of (E.state engine.new) ≡ written_in (entries_of (E.state engine.old)) (by_index (E.state engine.old).grid list.now) }
-    ensures rest { DiffersInEntries (E.state engine.old) (E.state engine.new) }
-    ensures count { E.placed engine.new ≡ E.placed engine.old }
-{
-    let _ = engine.edit(&Edit::Write(list));
-}
+use xw_search::lights::board;
+use xw_search::writing::write;
 
 /// Writes the cells of a list from an index on, in one edit.
 pub fn write_from<E: Feasible>(engine: &mut E, list: &[(Cell, Option<Letter>)], from: usize)

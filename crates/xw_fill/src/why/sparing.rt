@@ -1,16 +1,18 @@
 //! Leaves out the entries that a reason can spare: without them, the light still has no feasible word.
 ghost use Rattle.std.specs.Prelude.{◌≡◌, ◌<◌, All, true, false, count_by, is_some};
 ghost use Rattle.xw_grid.specs.Grid.{is_open, index_of};
-ghost use Rattle.xw_fill.specs.Position.{DiffersInEntries};
-ghost use Rattle.xw_fill.specs.OfState.{light_count, lacks_words, IsNeeded};
-ghost use Rattle.xw_fill.specs.Reason.{entries_of, IsPart};
+ghost use Rattle.xw_search.specs.Position.{DiffersInEntries};
+ghost use Rattle.xw_search.specs.OfState.{light_count};
+ghost use Rattle.xw_fill.specs.OfState.{lacks_words, IsNeeded};
+ghost use Rattle.xw_search.specs.Writing.{entries_of};
+ghost use Rattle.xw_fill.specs.Reason.{IsPart};
 ghost use Rattle.xw_fill.specs.Sparing.{IsNeededIn, IsSpared};
 
-use crate::scan::word_count;
 use crate::why::entries::write_cell;
 use xw_feas::feasible::Feasible;
 use xw_grid::cell::Cell;
 use xw_letters::letter::Letter;
+use xw_search::lights::word_count;
 
 /// Empties a cell if it has an entry that can be spared: without it, the light still has no feasible word. Returns
 /// whether the cell was emptied.

@@ -96,9 +96,18 @@ impl Grid {
         ensures same { OnErr result (self.new ≡ self.old) }
     {
         self.judge_bar(cell, side)?;
+        self.turn_bar(cell, side);
+        Ok(())
+    }
+
+    /// Toggles the orbit of an edge, as `toggle_bar` does where no rule refuses it.
+    #[tactic(auto, using(crate::proofs::AcceptedLemmas::bar_accepted))]
+    pub fn turn_bar(&mut self, cell: Cell, side: Side)
+        requires { IsOk (spec_toggle_bar self.old cell side) }
+        ensures { spec_toggle_bar self.old cell side ≡ Ok self.new }
+    {
         let barred = !self.is_barred(cell, side);
         self.bar_orbit(cell, side, barred);
-        Ok(())
     }
 
     /// Bars the whole orbit of an edge, or removes all its bars.

@@ -33,9 +33,18 @@ impl Grid {
         ensures same { OnErr result (self.new ≡ self.old) }
     {
         self.judge_block(cell)?;
+        self.turn_block(cell);
+        Ok(())
+    }
+
+    /// Toggles the orbit of a cell, as `toggle_block` does where no rule refuses it.
+    #[tactic(auto, using(crate::proofs::AcceptedLemmas::block_accepted))]
+    pub fn turn_block(&mut self, cell: Cell)
+        requires { IsOk (spec_toggle_block self.old cell) }
+        ensures { spec_toggle_block self.old cell ≡ Ok self.new }
+    {
         let blocked = !self.is_block(cell);
         self.paint(cell, blocked);
-        Ok(())
     }
 
     /// Whether a cell of the orbit holds a letter.

@@ -1,8 +1,7 @@
 //! What the cells of a grid hold, and the edits of their letters.
-ghost use Rattle.std.specs.Prelude.{◌≡◌, Some, None, Ok, Err, OnOk, IfErr, OnErr, IfSome};
-ghost use Rattle.xw_grid.specs.Grid.{IsSquare, is_open as spec_is_open, is_block as spec_is_block, entry as spec_entry, square_at};
-ghost use Rattle.xw_grid.specs.Edit.{set_entry};
-ghost use Rattle.xw_grid.specs.declared.cell.Square.TheVariants.{Open};
+ghost use Rattle.std.specs.Prelude.{◌≡◌, ℕ, true, Option, Some, None, Ok, Err, OnOk, IfErr, OnErr, IfSome};
+ghost use Rattle.xw_grid.specs.Grid.{is_open as spec_is_open, is_block as spec_is_block, entry as spec_entry, square_at};
+ghost use Rattle.xw_grid.specs.Edit.{set_entry, with_entry};
 ghost use Rattle.xw_letters.specs.Letter.{IsLetter};
 
 use crate::cell::{Cell, Square};
@@ -49,8 +48,9 @@ impl Grid {
         ensures refused { IfErr result (λ fault. set_entry self.old cell (Some letter) ≡ Err fault) }
         ensures same { OnErr result (self.new ≡ self.old) }
     {
-        let _code = letter.byte();
-        self.enter(cell, Some(letter))
+        self.judge_entry(cell)?;
+        self.enter(cell, Some(letter));
+        Ok(())
     }
 
     /// Empties an open cell. Returns `OutOfGrid`, then `OnBlock` if the cell is a block.
@@ -59,20 +59,37 @@ impl Grid {
         ensures refused { IfErr result (λ fault. set_entry self.old cell None ≡ Err fault) }
         ensures same { OnErr result (self.new ≡ self.old) }
     {
-        self.enter(cell, None)
+        self.judge_entry(cell)?;
+        self.enter(cell, None);
+        Ok(())
     }
 
-    fn enter(&mut self, cell: Cell, letter: Option<Letter>) -> Result<(), GridFault>
-        requires { IsSquare (Open letter) }
-        ensures ok { OnOk result (set_entry self.old cell letter ≡ Ok self.new) }
-        ensures refused { IfErr result (λ fault. set_entry self.old cell letter ≡ Err fault) }
-        ensures same { OnErr result (self.new ≡ self.old) }
+    /// Whether a letter can be written into a cell, or why not.
+    #[tactic(auto, using(crate::proofs::ChangeLemmas::open_from_no_block))]
+    fn judge_entry(&self, cell: Cell) -> Result<(), GridFault>
+        ensures open { OnOk result (spec_is_open self.now cell ≡ true) }
+        ensures ok { OnOk result ((letter : Option ℕ) → set_entry self.now cell letter ≡ Ok (with_entry self.now cell letter)) }
+        ensures refused { IfErr result (λ fault. (letter : Option ℕ) → set_entry self.now cell letter ≡ Err fault) }
     {
-        let index = self.index(cell).ok_or(GridFault::OutOfGrid)?;
+        let _ = &self.width;
+        if !self.contains(cell) {
+            return Err(GridFault::OutOfGrid);
+        }
         if self.is_block(cell) {
             return Err(GridFault::OnBlock);
         }
-        self.squares[index] = Square::Open(letter);
         Ok(())
+    }
+
+    /// Writes a letter into an open cell, or empties it.
+    pub fn enter(&mut self, cell: Cell, letter: Option<Letter>)
+        requires { spec_is_open self.old cell ≡ true }
+        ensures { self.new ≡ with_entry self.old cell letter }
+    {
+        let index = self.index_inside(cell);
+        if let Some(letter) = letter {
+            let _code = letter.byte();
+        }
+        self.squares[index] = Square::Open(letter);
     }
 }

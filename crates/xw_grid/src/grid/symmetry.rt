@@ -1,5 +1,5 @@
 //! The symmetry of a grid: setting it, and the images and the orbit of a cell.
-ghost use Rattle.std.specs.Prelude.{◌≡◌, ◌<◌, true, length, map, All, Ok, Err, OnOk, IfErr, OnErr};
+ghost use Rattle.std.specs.Prelude.{◌≡◌, ◌<◌, true, length, map, All, Ok, Err, OnOk, IfErr, OnErr, IsOk};
 ghost use Rattle.xw_grid.specs.Grid.{is_inside, index_of};
 ghost use Rattle.xw_grid.specs.Edit.{set_symmetry as spec_set_symmetry};
 ghost use Rattle.xw_grid.specs.Orbit.{moved as spec_moved, images_of, orbit_of};
@@ -17,11 +17,28 @@ impl Grid {
         ensures refused { IfErr result (λ fault. spec_set_symmetry self.old kind ≡ Err fault) }
         ensures same { OnErr result (self.new ≡ self.old) }
     {
+        self.judge_symmetry(kind)?;
+        self.choose_symmetry(kind);
+        Ok(())
+    }
+
+    /// Whether `set_symmetry` would succeed, or why it would not.
+    pub fn judge_symmetry(&self, kind: Symmetry) -> Result<(), GridFault>
+        ensures ok { OnOk result (IsOk (spec_set_symmetry self.now kind)) }
+        ensures refused { IfErr result (λ fault. spec_set_symmetry self.now kind ≡ Err fault) }
+    {
         if kind == Symmetry::Quarter && self.width != self.height {
             return Err(GridFault::NotSquare);
         }
-        self.symmetry = kind;
         Ok(())
+    }
+
+    /// Sets the symmetry, as `set_symmetry` does where no rule refuses it.
+    pub fn choose_symmetry(&mut self, kind: Symmetry)
+        requires { IsOk (spec_set_symmetry self.old kind) }
+        ensures { spec_set_symmetry self.old kind ≡ Ok self.new }
+    {
+        self.symmetry = kind;
     }
 
     /// The orbit of a cell, in reading order. It is empty for a cell outside the grid.

@@ -17,7 +17,7 @@ use Rattle.xw_grid.specs.Light.{lights_of}
 use Rattle.xw_feas.specs.State.{State, Action, after, grid_after, letter_set, cell_cleared, word_placed, list_written, block_toggled, bar_toggled, symmetry_chosen, word_added, word_struck, least_chosen, answered, add_word, strike_word}
 use Rattle.xw_feas.specs.WellFormed.{IsWellFormed}
 use Rattle.xw_feas.proofs.AdditionLemmas.{new_word}
-use Rattle.xw_net.specs.Delta.{Fields, IsChange, IsIndexOf, with_entry_of, entries_written, indices_listed, index_added, index_struck, word_changed, brings_back}
+use Rattle.xw_net.specs.Change.{Fields, IsChange, IsIndexOf, with_entry_of, entries_written, indices_listed, index_added, index_struck, word_changed, brings_back}
 use Rattle.xw_net.specs.Region.{cells_written, edited_cells, turns_words}
 use Rattle.xw_net.proofs.Edits.KeptByEdits.{IsWrittenAt, grid_of_after, written_after, with_grid-Ok, with_words-Ok}
 

@@ -20,7 +20,7 @@ use Rattle.xw_words.specs.declared.fault.WordFault.{WordFault}
 use Rattle.xw_words.specs.declared.bank.Added.{Added}
 use Rattle.xw_words.specs.declared.bank.Added.TheVariants.{New, Returned}
 use Rattle.xw_feas.proofs.BoardLemmas.{entry-square}
-use Rattle.xw_net.specs.Delta.{Fields, IsChange, with_entry_of, indices_listed, IsIndexOf, word_changed, index_added, index_struck}
+use Rattle.xw_net.specs.Change.{Fields, IsChange, with_entry_of, indices_listed, IsIndexOf, word_changed, index_added, index_struck}
 use Rattle.xw_net.specs.Base.{base_bits, is_base_word}
 use Rattle.xw_net.specs.Spread.{bits_in, IsSpread, HasAll, no_positions}
 use Rattle.xw_net.specs.Brought.{IsBase}

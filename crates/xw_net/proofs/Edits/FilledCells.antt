@@ -19,7 +19,7 @@ use Rattle.xw_feas.specs.State.{State, Action, grid_after, write_list, letter_se
 use Rattle.xw_feas.specs.WellFormed.{IsLaidOut}
 use Rattle.xw_feas.proofs.BoardLemmas.{is_open-square, entry-square, length-lights, light_at-board}
 use Rattle.xw_feas.proofs.WordsLemmas.{named_within}
-use Rattle.xw_net.specs.Delta.{Fields, IsChange, indices_listed}
+use Rattle.xw_net.specs.Change.{Fields, IsChange, indices_listed}
 use Rattle.xw_net.specs.Begin.{is_fill}
 use Rattle.xw_net.specs.Region.{cells_named, edited_cells}
 use Rattle.xw_net.proofs.Edits.WrittenCells.{list_open}

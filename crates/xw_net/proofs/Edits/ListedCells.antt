@@ -16,7 +16,7 @@ use Rattle.xw_feas.specs.State.{State, Action, after, grid_after, letter_set, ce
 use Rattle.xw_feas.proofs.BoardLemmas.{length-lights}
 use Rattle.xw_feas.proofs.WordsLemmas.{named_within}
 use Rattle.xw_net.specs.Region.{same_entry, cells_named, cells_changed, cells_written}
-use Rattle.xw_net.specs.Delta.{entries_written, with_entry_of}
+use Rattle.xw_net.specs.Change.{entries_written, with_entry_of}
 use Rattle.xw_net.proofs.Edits.KeptByEdits.{by_fault-Ok, grid_of_after}
 use Rattle.xw_net.proofs.Edits.ChangeFacts.{size_kept}
 

@@ -21,11 +21,11 @@ use Rattle.xw_feas.specs.Shape.{SameCounts}
 use Rattle.xw_feas.specs.State.{State, Action, after, grid_after, letter_set, cell_cleared, word_placed, list_written, block_toggled, bar_toggled, symmetry_chosen, word_added, word_struck, least_chosen, answered, add_word, strike_word}
 use Rattle.xw_feas.proofs.BoardLemmas.{length-open_cells}
 use Rattle.xw_feas.proofs.WellFormedLemmas.{state_formed}
-use Rattle.xw_net.specs.declared.delta.Delta.{Delta}
+use Rattle.xw_feas.specs.declared.notes.Notes.{Notes}
 use Rattle.xw_net.specs.declared.net.Net.{Net}
 use Rattle.xw_net.specs.declared.room.Spare.{Spare}
 use Rattle.xw_net.specs.Begin.{is_long}
-use Rattle.xw_net.specs.Delta.{Fields, IsChange, IsIndexOf, before_of, word_of, fields_of}
+use Rattle.xw_net.specs.Change.{Fields, IsChange, IsIndexOf, before_of, word_of, fields_of}
 use Rattle.xw_net.specs.Fit.{lacking, HasRoomBetween}
 use Rattle.xw_net.specs.Net.{HasRoomIn, IsSettledFor, known_counts}
 use Rattle.xw_net.specs.Room.{HasRoom, HasSpare, counts_of}
@@ -179,7 +179,7 @@ room_prop lights counts net x y = λ i. record {
 own_room : (state : State) (net : Net) → ∥ IsSettledFor state net ∥₁ → HasRoom (lights_of state.grid) (known_counts state.words) net
 own_room state net known = ∥∥₁_elim known (room_prop (lights_of state.grid) (known_counts state.words) net) (λ settled. filled_room state.grid state.words net settled.filled)
 
-module _ (before now : State) (action : Action) (lights : List Light) (entries : ℕ → List Entry) (change : Delta) (net : Net) (of : IsToldOf before now action lights entries change net) where
+module _ (before now : State) (action : Action) (lights : List Light) (entries : ℕ → List Entry) (change : Notes) (net : Net) (of : IsToldOf before now action lights entries change net) where
   abbrev described : IsChange before now action (fields_of lights change)
   described = told_is_change before now action (fields_of lights change) of.told of.grid
 

@@ -87,10 +87,6 @@ settled_reusable state net settled =
     ∥∥₁_elim settled (reusable_prop (lights_of state.grid) (known_counts state.words) (length state.grid.squares) net)
     (λ settled. filled_reusable state.grid state.words net settled.filled)
 
--- the base rows of a settled net are right
-pub settled_base : (state : State) (net : Net) → ∥ IsSettledFor state net ∥₁ → IsBase (board_of state.grid) state.words net.base.items
-settled_base state net settled light lt = ∥∥₁_elim settled (Coded-set (coded_list coded_bool) _ _) (λ settled. settled.filled.is_base light lt)
-
 -- ---- the copy
 
 -- the same fact about equal lists

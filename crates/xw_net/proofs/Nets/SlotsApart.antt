@@ -15,7 +15,7 @@ use Rattle.xw_feas.proofs.FormedLemmas.{light_in, length-light_at, within_lights
 use Rattle.xw_feas.specs.Board.{Board}
 use Rattle.xw_feas.specs.State.{State}
 use Rattle.xw_feas.specs.WellFormed.{IsWellFormed}
-use Rattle.xw_net.specs.Delta.{AreReadsOf}
+use Rattle.xw_net.specs.Change.{AreReadsOf}
 use Rattle.xw_net.specs.Marks.{side_of, cell_at, AreSlotsApart, IsSetting}
 use Rattle.xw_words.specs.Dictionary.{Entry}
 

@@ -1,5 +1,5 @@
 -- The base rows of a net after an edit that only filled a cell: they are still those of the grid before it.
-use Rattle.std.proofs.Common.{◌≡◌, ℕ, zero, suc, ◌+◌, ◌-◌, ◌*◌, ◌<◌, Bool, true, false, cond, List, [], ◌∷◌, map, length, get_or, Some, None, refl, sym, ◌∙◌, ap, subst, arith}
+use Rattle.std.proofs.Common.{◌≡◌, ℕ, zero, suc, ◌+◌, ◌-◌, ◌*◌, ◌<◌, Bool, true, false, cond, List, [], ◌∷◌, map, take, length, get_or, Some, None, refl, sym, ◌∙◌, ap, subst, arith}
 use Rattle.std.specs.Prelude.{Option, Contains, is_none, is_some}
 use Rattle.std.proofs.lemmas.Bool.{and_parts, false≢true}
 use Rattle.xw_words.specs.Dictionary.{known_words}
@@ -10,12 +10,14 @@ use Rattle.xw_grid.specs.Light.{lights_of, cells_of, no_light}
 use Rattle.xw_feas.specs.Board.{Board, board_of, entry, light_at}
 use Rattle.xw_feas.specs.State.{State, Action}
 use Rattle.xw_feas.proofs.BoardLemmas.{length-lights, light_at-board}
-use Rattle.xw_net.specs.declared.delta.Delta.{Delta}
-use Rattle.xw_net.specs.declared.delta.Delta.TheVariants.{Letters, Shape, Word, Words}
+use Rattle.xw_feas.specs.declared.effect.Effect.{Effect}
+use Rattle.xw_feas.specs.declared.effect.Effect.TheVariants.{Nothing, Cells, List as EffectList, Shape, Word, Least}
+use Rattle.xw_feas.specs.declared.notes.Notes.{Notes}
+use Rattle.xw_feas.specs.Effect.{fields_by}
 use Rattle.xw_net.specs.declared.net.Net.{Net}
 use Rattle.xw_net.specs.Base.{base_bits, WasRow}
-use Rattle.xw_net.specs.Begin.{is_fill, only_filled, filled_of}
-use Rattle.xw_net.specs.Delta.{Fields, IsChange, IsIndexOf, fields_of, indices_listed}
+use Rattle.xw_net.specs.Begin.{is_fill, only_filled, filled_by, filled_of}
+use Rattle.xw_net.specs.Change.{Fields, IsChange, IsIndexOf, fields_of, indices_listed}
 use Rattle.xw_net.specs.Filled.{IsFilled}
 use Rattle.xw_net.specs.Marks.{known}
 use Rattle.xw_net.specs.Opened.{IsMoved}
@@ -61,13 +63,20 @@ one_filled grid board (listed ∷ []) cell found = split (is_fill board (index_o
     some_same a b h = cc
   split false fills is = let never : None ≡ Some cell = is in cc
 
-pub fills_one : (grid : Grid) (board : Board) (lights : List Light) (change : Delta) (cell : ℕ) → lights ≡ lights_of grid → filled_of grid board change ≡ Some cell → FillsOne grid (fields_of lights change) cell
-fills_one grid board lights (Letters cells) cell are found =
-    let one = one_filled grid board cells.now cell found in
-    record { listed = one.listed; cells = one.cells; at = one.at; empty = one.empty; lights = are; word = refl; turned = λ len. refl }
-fills_one grid board lights (Shape before cells) cell are found = let never : None ≡ Some cell = found in cc
-fills_one grid board lights (Word len index) cell are found = let never : None ≡ Some cell = found in cc
-fills_one grid board lights (Words turned back) cell are found = let never : None ≡ Some cell = found in cc
+pub fills_one : (grid : Grid) (board : Board) (lights : List Light) (change : Notes) (cell : ℕ) → lights ≡ lights_of grid → filled_of grid board change ≡ Some cell → FillsOne grid (fields_of lights change) cell
+fills_one grid board lights change cell are found = by_effect change.effect found where
+  by_cells : (cells : List (Cell × Option ℕ)) → only_filled grid board cells ≡ Some cell → FillsOne grid (record { cells = cells; before = lights; word = None; turned = λ len. false; back = false }) cell
+  by_cells cells filled =
+      let one = one_filled grid board cells cell filled in
+      record { listed = one.listed; cells = one.cells; at = one.at; empty = one.empty; lights = are; word = refl; turned = λ len. refl }
+
+  by_effect : (effect : Effect) → filled_by grid board change effect ≡ Some cell → FillsOne grid (fields_by lights change effect) cell
+  by_effect Nothing filled = by_cells [] filled
+  by_effect Cells filled = by_cells change.written filled
+  by_effect (EffectList count) filled = by_cells (take count change.noted.items) filled
+  by_effect (Shape before) filled = let never : None ≡ Some cell = filled in cc
+  by_effect (Word len index) filled = let never : None ≡ Some cell = filled in cc
+  by_effect (Least back) filled = let never : None ≡ Some cell = filled in cc
 
 module _ (before now : State) (action : Action) (change : Fields) (is : IsChange before now action change) (settled net : Net)
     (filled : IsFilled (board_of before.grid) before.words settled) (moved : IsMoved before now settled net)
@@ -81,7 +90,7 @@ module _ (before now : State) (action : Action) (change : Fields) (is : IsChange
 
   was_empty : entry (board_of before.grid) cell ≡ None
   was_empty =
-      let written : Contains (map (Rattle.xw_net.specs.Delta.with_entry_of before.grid) (cells_written before.grid action)) one.listed = subst (λ cells. Contains cells one.listed) is.cells listed_here in
+      let written : Contains (map (Rattle.xw_net.specs.Change.with_entry_of before.grid) (cells_written before.grid action)) one.listed = subst (λ cells. Contains cells one.listed) is.cells listed_here in
       ap (entry (board_of before.grid)) (sym index_before)
       ∙ sym (entry_of_board before.grid one.listed.0 (inside one.listed listed_here))
       ∙ sym (entries_of before.grid (cells_written before.grid action) written.0 one.listed written.1 written.2)

@@ -16,7 +16,7 @@ use Rattle.xw_feas.specs.Feasible.{may_stand}
 use Rattle.xw_feas.specs.Flags.{set_has}
 use Rattle.xw_feas.specs.State.{State, Action}
 use Rattle.xw_net.specs.declared.net.Net.{Net}
-use Rattle.xw_net.specs.Delta.{Fields, IsChange}
+use Rattle.xw_net.specs.Change.{Fields, IsChange}
 use Rattle.xw_net.specs.Revival.{IsMatching, same_light, StandsOn}
 use Rattle.xw_net.specs.Region.{IsRegion}
 use Rattle.xw_net.specs.Marks.{IsPositionIn, cell_at}

@@ -16,7 +16,7 @@ use Rattle.xw_feas.proofs.ChoicesLemmas.{base_flag_entered}
 use Rattle.xw_feas.proofs.Support.{set_flag_within}
 use Rattle.xw_feas.proofs.FormedLemmas.{light_in, length-light_at, within_lights, index_is, inside_at}
 use Rattle.xw_net.specs.declared.net.Net.{Net}
-use Rattle.xw_net.specs.Delta.{Fields, IsChange, IsIndexOf, word_changed}
+use Rattle.xw_net.specs.Change.{Fields, IsChange, IsIndexOf, word_changed}
 use Rattle.xw_net.specs.Base.{base_bits, is_base_word}
 use Rattle.xw_net.specs.Revival.{IsMatching, same_light, StandsOn}
 use Rattle.xw_net.specs.Marks.{known}

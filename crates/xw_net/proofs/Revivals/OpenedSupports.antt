@@ -11,7 +11,7 @@ use Rattle.xw_feas.specs.Board.{board_of, light_at, spelled}
 use Rattle.xw_feas.specs.Choices.{choices}
 use Rattle.xw_feas.specs.State.{State, Action}
 use Rattle.xw_net.specs.declared.net.Net.{Net}
-use Rattle.xw_net.specs.Delta.{Fields, IsChange, IsIndexOf}
+use Rattle.xw_net.specs.Change.{Fields, IsChange, IsIndexOf}
 use Rattle.xw_net.specs.Base.{base_bits}
 use Rattle.xw_net.specs.Revival.{IsMatching, same_light}
 use Rattle.xw_net.specs.Marks.{IsPositionIn, slot_at, side_of, known, puts, IsSettledNet}

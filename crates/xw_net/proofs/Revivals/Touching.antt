@@ -7,13 +7,13 @@ use Rattle.xw_grid.specs.Grid.{Grid}
 use Rattle.xw_feas.specs.Board.{Board}
 use Rattle.xw_feas.specs.Flags.{set_has}
 use Rattle.xw_net.specs.Begin.{IsNewLight, EditsCells}
-use Rattle.xw_net.specs.Delta.{Fields}
+use Rattle.xw_net.specs.Change.{Fields}
 use Rattle.xw_net.specs.Gone.{IsFreed, Raises}
 use Rattle.xw_net.specs.Opened.{HasTurnedWords, IsRegained, Touches}
 use Rattle.xw_net.specs.Opened.IsTouched.{by_light, by_cell, by_grade}
 use Rattle.xw_net.specs.Opened.MayGain.{if_touched, if_freed}
 use Rattle.xw_net.specs.Worklist.{ListOfLights, is_marked, is_waiting, HasSeeds, Adds}
-use Rattle.xw_net.proofs.Lists.ListsOfLights.{seeds_grow, grows_none, grows_more, adds_none}
+use Rattle.xw_net.proofs.Lists.ListsOfLights.{seeds_grow, grows_more, adds_none}
 use Rattle.xw_net.proofs.Edits.SameLights.{none_new}
 use Rattle.xw_net.proofs.Revivals.FreedCells.{raises_none, none_freed}
 use Rattle.xw_net.proofs.Revivals.LettersComeBack.{spread_start}
@@ -72,15 +72,3 @@ module _ (grid : Grid) (board : Board) (lights : List Light) (change : Fields) (
     queued_within = λ member start these. n.only member start (λ light is. these light (by_grade is));
     within = λ member start these. n'.only member start (λ light is. these light (if_touched (by_grade is.1)));
   }
-
--- no cell was edited
-pub edits_none : (grid : Grid) (board : Board) (letters : List ℕ) (queue chain : ListOfLights) → EditsCells grid board [] letters queue chain letters queue chain
-edits_none grid board letters queue chain = record {
-  letters_len = refl;
-  queue_grows = grows_none queue;
-  queued_within = λ member start these. start;
-  chain_grows = grows_none chain;
-  within = λ member start these. start;
-  edited = λ listed has. absurd (omega (arith, has.1));
-  spread = λ start h. h;
-}

@@ -7,7 +7,7 @@ use Rattle.xw_feas.specs.Board.{Board, light_at}
 use Rattle.xw_feas.specs.Flags.{set_has}
 use Rattle.xw_net.specs.Marks.{IsPositionIn, slot_at}
 use Rattle.xw_net.specs.Renumber.{same_before}
-use Rattle.xw_net.specs.Delta.{Fields}
+use Rattle.xw_net.specs.Change.{Fields}
 
 -- the value for no support
 abbrev pub nowhere : ℕ

@@ -1,6 +1,6 @@
 //! Answers `autofill`.
 ghost use Rattle.std.specs.Prelude.{◌≡◌, ◌+◌, ◌≤◌, IfOk, IfErr, OnOk, OnErr};
-ghost use Rattle.xw_fill.specs.NamedFill.{IsAutofilled, is_named, AreLights};
+ghost use Rattle.xw_search.specs.NamedFill.{IsAutofilled, is_named, AreLights};
 ghost use Rattle.xw_session.specs.NamedSearch.{names_of as spec_names_of, IsUnsearched};
 ghost use Rattle.xw_session.specs.Answer.{AnswersSearch};
 
@@ -12,10 +12,10 @@ use xw_commands::lights::LightArgs;
 use xw_feas::edit::Refusal;
 use xw_feas::progress::{News, Task};
 use xw_feas::searchable::Searchable;
-use xw_fill::allowance::Allowance;
 use xw_fill::named_lights::{Hint, autofill};
-use xw_fill::search::Filling;
 use xw_lines::device::{Sink, WriteFailed};
+use xw_search::allowance::Allowance;
+use xw_search::filling::Filling;
 
 /// Fills these lights, or all lights if there are none, if a search finds a fill within its limit. Continues the
 /// search that left the hint, if it was for the same lights and seed. Places at most `limit` words and letters, and all of

@@ -1,8 +1,8 @@
 //! Answers `best`.
 ghost use Rattle.std.specs.Prelude.{◌≡◌, ◌+◌, ◌≤◌, IfOk, IfErr, OnOk, OnErr};
-ghost use Rattle.xw_fill.specs.NamedFill.{is_named, AreLights};
-ghost use Rattle.xw_fill.specs.Best.{IsBest};
-ghost use Rattle.xw_fill.specs.OneSearch.{IsBestWithin};
+ghost use Rattle.xw_search.specs.NamedFill.{is_named, AreLights};
+ghost use Rattle.xw_best.specs.Best.{IsBest};
+ghost use Rattle.xw_best.specs.OneSearch.{IsBestWithin};
 ghost use Rattle.xw_lines.specs.Sends.{Sends};
 ghost use Rattle.xw_answers.specs.Text.{number_line};
 ghost use Rattle.xw_session.specs.NamedSearch.{names_of as spec_names_of, IsUnsearched};
@@ -13,14 +13,14 @@ use crate::session::Session;
 use crate::session::ending::{Ended, WriteLines, write_given};
 use std::alloc::Global;
 use xw_answers::text;
+use xw_best::best::{Best, BestHint, best_fill};
 use xw_commands::lights::LightArgs;
 use xw_feas::edit::Refusal;
 use xw_feas::progress::{News, Task};
 use xw_feas::searchable::Searchable;
-use xw_fill::allowance::Allowance;
-use xw_fill::best::{Best, BestHint, best_fill};
-use xw_fill::search::Filling;
 use xw_lines::device::{Sink, WriteFailed};
+use xw_search::allowance::Allowance;
+use xw_search::filling::Filling;
 
 /// Fills these lights, or all lights if there are none, with the best fill that a search finds within its limit.
 /// Continues the search that left the hint, if it was for the same lights and seed and began with the same entries.

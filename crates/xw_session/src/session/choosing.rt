@@ -2,7 +2,8 @@
 ghost use Rattle.std.specs.Prelude.{◌≡◌, ◌<◌, ℕ, true, false, length, slice_index_or, [], ◌∷◌, Some, None, IfSome};
 ghost use Rattle.xw_grid.specs.Light.{lights_of, index_named};
 ghost use Rattle.xw_fill.specs.Choices.{fewest_after as spec_fewest_after};
-ghost use Rattle.xw_fill.specs.OfState.{light_count, is_entered as spec_is_entered, IsTriedAt, spellings_at};
+ghost use Rattle.xw_search.specs.OfState.{light_count, is_entered as spec_is_entered};
+ghost use Rattle.xw_fill.specs.OfState.{IsTriedAt, spellings_at};
 ghost use Rattle.xw_lines.specs.Sends.{Sends};
 ghost use Rattle.xw_answers.specs.Text.{line_of};
 ghost use Rattle.xw_answers.specs.Token.{token_bytes};
@@ -22,9 +23,10 @@ use xw_feas::feasible::Feasible;
 use xw_feas::progress::{News, Task};
 use xw_feas::searchable::Searchable;
 use xw_fill::choices::{fewest_after, fewest_after_any, fewest_words};
-use xw_fill::scan::{is_entered, light_at, name_at, next_word_index, word_count};
+use xw_fill::scan::next_word_index;
 use xw_letters::Letter;
 use xw_lines::device::{Sink, WriteFailed};
+use xw_search::lights::{is_entered, light_at, name_at, word_count};
 use xw_words::WordFault;
 use xw_words::word::{LONGEST, bad_letter, spell};
 

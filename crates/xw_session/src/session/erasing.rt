@@ -11,10 +11,10 @@ use xw_answers::refusal::CommandRefusal;
 use xw_commands::command::LightArg;
 use xw_feas::edit::{Edit, Refusal};
 use xw_feas::feasible::Feasible;
-use xw_fill::scan::is_entered;
 use xw_grid::{Cell, Direction, Light};
 use xw_letters::Letter;
 use xw_lines::device::{Sink, WriteFailed};
+use xw_search::lights::is_entered;
 use xw_words::word::LONGEST;
 
 /// A list of cells to be emptied, at most as many as a light has. It allocates nothing.

@@ -2,8 +2,8 @@
 ghost use Rattle.std.specs.Prelude.{◌≡◌, true, flat_map, is_some};
 ghost use Rattle.std.specs.Option.{option_and_then};
 ghost use Rattle.xw_grid.specs.Light.{lights_of, index_named};
-ghost use Rattle.xw_fill.specs.OfState.{grade_of};
-ghost use Rattle.xw_fill.specs.NamedFill.{AreLights};
+ghost use Rattle.xw_search.specs.OfState.{grade_of};
+ghost use Rattle.xw_search.specs.NamedFill.{AreLights};
 ghost use Rattle.xw_lines.specs.Sends.{Sends};
 ghost use Rattle.xw_session.specs.Reply.{name_of_light};
 ghost use Rattle.xw_session.specs.NamedSearch.{names_of};
@@ -21,10 +21,10 @@ use xw_commands::command::LightArg;
 use xw_commands::lights::LightArgs;
 use xw_feas::edit::Refusal;
 use xw_feas::feasible::Feasible;
-use xw_fill::listing::grade;
-use xw_fill::scan::{is_entered, name_at};
 use xw_grid::LightName;
 use xw_lines::device::{Sink, WriteFailed};
+use xw_search::lights::{is_entered, name_at};
+use xw_search::listing::grade;
 
 /// A wholly entered light has a line with the grade of its word.
 struct EnteredGrades;

@@ -2,7 +2,7 @@
 ghost use Rattle.std.specs.Prelude.{◌≡◌, ◌<◌, true, false, length};
 ghost use Rattle.xw_feas.specs.Board.{board_of};
 ghost use Rattle.xw_feas.specs.Feasible.{base_words_at};
-ghost use Rattle.xw_fill.specs.OfState.{light_count, is_entered as spec_is_entered};
+ghost use Rattle.xw_search.specs.OfState.{light_count, is_entered as spec_is_entered};
 ghost use Rattle.xw_session.specs.Unmatched.{is_unmatched as spec_is_unmatched};
 ghost use Rattle.xw_session.specs.Answer.{AnswersQuery};
 
@@ -11,8 +11,8 @@ use crate::session::ending::{Ended, accepted};
 use crate::session::telling::{LightReport, write_each_light};
 use xw_answers::text::{self, Pattern};
 use xw_feas::feasible::Feasible;
-use xw_fill::scan::{is_entered, name_at};
 use xw_lines::device::{Sink, WriteFailed};
+use xw_search::lights::{is_entered, name_at};
 
 /// Returns whether an active word agrees with the letters of a light that is not wholly entered.
 fn has_base_word<E: Feasible>(engine: &E, light: usize) -> bool

@@ -3,7 +3,7 @@ ghost use Rattle.std.specs.Prelude.{◌≡◌, ℕ, List, flat_map, Ok, Err, ◌
 ghost use Rattle.xw_letters.specs.LetterSet.{letters_in};
 ghost use Rattle.xw_grid.specs.Grid.{index_of};
 ghost use Rattle.xw_grid.specs.Light.{lights_of, index_named};
-ghost use Rattle.xw_fill.specs.OfState.{feasible_letters, feasible_words};
+ghost use Rattle.xw_search.specs.OfState.{feasible_letters, feasible_words};
 ghost use Rattle.xw_lines.specs.Sends.{Sends};
 ghost use Rattle.xw_commands.specs.Names.{direction_name};
 ghost use Rattle.xw_answers.specs.Text.{line_of, counted_lines};
@@ -25,12 +25,13 @@ use xw_feas::feasible::Feasible;
 use xw_feas::progress::{News, Task};
 use xw_feas::searchable::Searchable;
 use xw_feas::word_iter::{WordIter, words};
-use xw_fill::listing::{Duplicate, duplicates, unlisted};
-use xw_fill::search::{Filling, fill};
+use xw_fill::search::fill;
 use xw_fill::suggesting::{Suggestion, suggest};
 use xw_grid::{Cell, Grid, LightName, Lights};
 use xw_letters::{Letter, LetterSet};
 use xw_lines::device::{Sink, WriteFailed};
+use xw_search::filling::Filling;
+use xw_search::listing::{Duplicate, duplicates, unlisted};
 
 /// Writes the count of words, and then the words, at most `most` of them.
 fn write_counted<E: Feasible, W: Sink>(

@@ -45,7 +45,7 @@ fn write_cells<E: Feasible, W: Sink>(sink: &mut W, engine: &E) -> Result<(), Wri
 pub(crate) trait LightReport {
     ghost use Rattle.std.specs.Prelude.{ℕ, List, ◌<◌};
     ghost use Rattle.xw_feas.specs.State.{State};
-    ghost use Rattle.xw_fill.specs.OfState.{light_count};
+    ghost use Rattle.xw_search.specs.OfState.{light_count};
     ghost use Rattle.xw_lines.specs.Sends.{Sends};
 
     ghost line: { State → ℕ → List ℕ };

@@ -3,7 +3,7 @@ ghost use Rattle.std.specs.Prelude.{◌≡◌, ◌⊎◌, ℕ, ◌*◌, ◌%◌,
 ghost use Rattle.xw_words.specs.Dictionary.{most_words};
 
 use crate::fault::WordFault;
-use crate::marks::Marks;
+use crate::marks::MarkList;
 use crate::table::{MOST_WORDS, Table};
 use std::alloc::{AllocError, Global};
 use xw_bits::bit_row::BitRow;
@@ -41,7 +41,7 @@ fn lengthen(row: &mut BitRow, words: usize)
 fn reserve_words(
     active: &mut BitRow,
     regraded: &mut BitRow,
-    marks: &mut Vec<Marks>,
+    marks: &mut MarkList,
     letters: &mut Vec<Letter>,
     word_len: usize,
     words: usize,
@@ -58,18 +58,18 @@ fn reserve_words(
     ensures regraded_bits { (i : ℕ) → slice_index_or regraded.new.bits i false ≡ slice_index_or regraded.old.bits i false }
     ensures regraded_stays { OnErr result (regraded.new.bits ≡ regraded.old.bits) }
     ensures marks_stay { marks.new.items ≡ marks.old.items }
-    ensures marks_capacity { vec_capacity marks.old ≤ vec_capacity marks.new }
+    ensures marks_room_stays { marks.old.room ≤ marks.new.room }
     ensures items { letters.new.items ≡ letters.old.items }
     ensures capacity { vec_capacity letters.old ≤ vec_capacity letters.new }
     ensures room { OnOk result (words ≤ active.new.room) }
     ensures regraded_long { OnOk result (words ≤ length regraded.new.bits) }
-    ensures marks_room { OnOk result (words ≤ vec_capacity marks.new) }
+    ensures marks_room { OnOk result (words ≤ marks.new.room) }
     ensures letters_room { OnOk result (words * word_len ≤ vec_capacity letters.new) }
 {
     let more = words - active.len();
     active.reserve(words)?;
     regraded.reserve(words)?;
-    marks.reserve_exact(more)?;
+    marks.reserve(more)?;
     letters.reserve_exact(more * word_len)?;
     lengthen(regraded, words);
     Ok(())

@@ -5,20 +5,18 @@ ghost use Rattle.std.specs.List.{list_any};
 ghost use Rattle.xw_words.specs.Dictionary.{entry_at, all_limited, is_left as spec_is_left, is_turned as spec_is_turned};
 ghost use Rattle.xw_words.specs.Marks.{no_marks, are_left};
 
-use crate::marks::{Marks, left_bits};
+use crate::marks::MarkList;
 use crate::table::Table;
 use xw_bits::bit_row::BitRow;
 
 /// Sets the flag of each word that is not struck and not below a grade, and clears the others.
-fn limit_flags(active: &mut BitRow, marks: &[Marks], least: u8)
-    requires { length active.old.bits ≡ length marks.now }
-    ensures bits { active.new.bits ≡ map (are_left least) marks.now }
+fn limit_flags(active: &mut BitRow, marks: &MarkList, least: u8)
+    requires { length active.old.bits ≡ length marks.now.items }
+    ensures bits { active.new.bits ≡ map (are_left least) marks.now.items }
     ensures room { active.new.room ≡ active.old.room }
 {
     for chunk in 0..marks.len().div_ceil(64) {
-        let first = 64 * chunk;
-        let end = marks.len().min(first + 64);
-        active.set_chunk(chunk, left_bits(&marks[first..end], least));
+        active.set_chunk(chunk, marks.left_chunk(chunk, least));
     }
 }
 
@@ -30,7 +28,7 @@ impl Table {
         ensures word_len { self.new.word_len ≡ self.old.word_len }
         ensures reserved { self.new.reserved ≡ self.old.reserved }
     {
-        limit_flags(&mut self.active, self.marks.as_slice(), least);
+        limit_flags(&mut self.active, &self.marks, least);
     }
 
     /// A bit for each word of a chunk of 64 words: whether it is not struck and not below a grade. The
@@ -39,9 +37,7 @@ impl Table {
         requires { 64 * chunk < length self.now.entries }
         ensures { (k : ℕ) → k < 64 → 64 * chunk + k < length self.now.entries → has_bit result k ≡ spec_is_left least (entry_at self.now.entries (64 * chunk + k)) }
     {
-        let known = self.len();
-        let first = 64 * chunk;
-        left_bits(&self.marks[first..known.min(first + 64)], least)
+        self.marks.left_chunk(chunk, least)
     }
 
     /// Whether word `index` is active but would be left out at this least grade, or the other way round.
@@ -49,7 +45,7 @@ impl Table {
         requires { index < length self.now.entries }
         ensures { result ≡ spec_is_turned least (entry_at self.now.entries index) }
     {
-        let left = self.marks(index).is_left(least);
+        let left = self.marks.at(index).is_left(least);
         if self.is_active(index) { !left } else { left }
     }
 

@@ -1,5 +1,5 @@
 use Rattle.xw_session.specs.Opening.{puzzle_of}
-use Rattle.xw_cli.proofs.Puts.{not_put_for}
+use Rattle.xw_cli.proofs.Steps.{not_put_for}
 use Rattle.xw_cli.proofs.end.write_puzzle_if.Goals as goal
 
 pub returns-in-Err-clause-err : goal.returns-in-Err-clause-err

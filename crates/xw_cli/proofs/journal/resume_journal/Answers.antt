@@ -5,7 +5,8 @@ use Rattle.xw_disk.specs.Disk.{open_, started}
 use Rattle.xw_journal.specs.File.{form_of, kept_lines}
 use Rattle.xw_desk.specs.Desk.{Asks, ReportsIf}
 use Rattle.xw_cli.specs.Journals.{Begins, IsNoJournal, drops}
-use Rattle.xw_cli.specs.SessionFiles.{Replays, cut_line}
+use Rattle.xw_cli.specs.SessionFiles.{Replays}
+use Rattle.xw_cli_files.specs.ReplayReports.{cut_line}
 use Rattle.xw_cli.proofs.journal.resume_journal.Goals as goal
 
 pub returns-in_err-refused-clause-err : goal.returns-in_err-refused-clause-err

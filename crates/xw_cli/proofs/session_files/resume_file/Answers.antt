@@ -3,7 +3,8 @@ use Rattle.std.specs.Prelude.{Ok}
 use Rattle.xw_journal.specs.File.{is_cut, kept_lines}
 use Rattle.xw_disk.specs.Disk.{read}
 use Rattle.xw_desk.specs.Desk.{Asks, ReportsIf}
-use Rattle.xw_cli.specs.SessionFiles.{Replays, cut_line}
+use Rattle.xw_cli.specs.SessionFiles.{Replays}
+use Rattle.xw_cli_files.specs.ReplayReports.{cut_line}
 use Rattle.xw_cli.proofs.session_files.resume_file.Goals as goal
 
 pub returns : goal.returns

@@ -6,7 +6,7 @@ use Rattle.xw_grid.specs.Edit.{with_entry}
 use Rattle.xw_feas.specs.State.{with_letters}
 use Rattle.xw_grid.proofs.LightLemmas.{length-line}
 use Rattle.xw_grid.proofs.ChangeLemmas.{SameShape-entry}
-use Rattle.xw_feas.proofs.ShapeLemmas.{light_small, light_cell, entry_made, with_letters-more, SameShape-then}
+use Rattle.xw_feas.proofs.ShapeLemmas.{light_small, light_cell, with_letters-more, SameShape-then}
 use Rattle.xw_feas.proofs.place.enter_letters.Goals as goal
 
 pub cell-requires : goal.cell-requires
@@ -16,6 +16,15 @@ cell-requires c =
     let within : c.args.index < length (lights_of grid) = omega (arith, c.requires.index, ap length shape.lights) in
     let is : c.args.light ≡ get_or (lights_of grid) c.args.index no_light = c.requires.light ∙ ap (λ lights. get_or lights c.args.index no_light) (sym shape.lights) in
     light_small grid c.args.index c.loop-k.k c.args.light c.well_formed-in-loop-k.ensures within is (omega (arith, c.loop-k-test.true, c.requires.size))
+
+pub enter-requires : goal.enter-requires
+enter-requires c =
+    let grid = c.loop-k.grid in
+    let shape = c.loop-k.invariant.shape in
+    let light = c.args.light in
+    let within : c.args.index < length (lights_of grid) = omega (arith, c.requires.index, ap length shape.lights) in
+    let is : light ≡ get_or (lights_of grid) c.args.index no_light = c.requires.light ∙ ap (λ lights. get_or lights c.args.index no_light) (sym shape.lights) in
+    ap (is_open grid) c.cell.ensures ∙ light_cell grid c.args.index c.loop-k.k light within is (omega (arith, c.loop-k-test.true, c.requires.size))
 
 pub loop-k-preserved : goal.loop-k-preserved
 loop-k-preserved c =
@@ -29,8 +38,7 @@ loop-k-preserved c =
     let below : k < light.size = omega (arith, c.loop-k-test.true, c.requires.size) in
     let cell = step light.name.direction light.start k in
     let opened = light_cell grid c.args.index k light within is below in
-    let now : c.set.new.self ≡ with_entry grid cell (Some letter) =
-    entry_made grid c.set.new.self c.cell.result (Some letter) c.set.result (ap (is_open grid) c.cell.ensures ∙ opened) c.set.ensures.ok c.set.ensures.refused ∙ ap (λ cell. with_entry grid cell (Some letter)) c.cell.ensures in
+    let now : c.enter.new.self ≡ with_entry grid cell (Some letter) = c.enter.ensures ∙ ap (λ cell. with_entry grid cell (Some letter)) c.cell.ensures in
     record {
       written = rw now (sym (with_letters-more grid light c.args.word.now k letter below c.loop-k-test.true (get_or_read c.args.word.now k letter c.loop-k-test.true c.index-word-k.is 0)) ∙ c.loop-k.invariant.written);
       shape = rw now (SameShape-then c.args.grid.now grid (with_entry grid cell (Some letter)) shape (SameShape-entry grid cell (Some letter) c.well_formed-in-loop-k.ensures opened));

@@ -9,7 +9,7 @@ use Rattle.xw_feas.proofs.write.enter_list.Goals as goal
 pub enter-requires : goal.enter-requires
 enter-requires c =
     let written = c.written-item.result in
-    c.loop-written.invariant.faults written.0 ∙ ap (λ w. fault_at c.args.grid.now w.0) c.written-item.is ∙ c.requires c.loop-written.written-index written c.loop-written-test.true
+    taking_is_open c.loop-written.grid written.0 c.well_formed-in-loop-written.ensures (c.loop-written.invariant.faults written.0 ∙ ap (λ w. fault_at c.args.grid.now w.0) c.written-item.is ∙ c.requires c.loop-written.written-index written c.loop-written-test.true)
 
 pub loop-written-preserved : goal.loop-written-preserved
 loop-written-preserved c =

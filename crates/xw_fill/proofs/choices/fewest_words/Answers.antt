@@ -1,5 +1,5 @@
 use Rattle.std.proofs.Common.{sym, ◌∙◌}
-use Rattle.xw_fill.specs.Position.{position_of}
+use Rattle.xw_search.specs.Position.{position_of}
 use Rattle.xw_fill.proofs.SearchLemmas.{chosen-Some}
 use Rattle.xw_fill.proofs.choices.fewest_words.Goals as goal
 

@@ -1,9 +1,10 @@
 use Rattle.std.proofs.Common.{◌≡◌, ◌<◌, false, sym, ◌∙◌, ap, arith, inl, inr}
 use Rattle.std.proofs.lemmas.Bool.{false≢true, cases_eq}
-use Rattle.xw_fill.specs.Position.{position_of}
-use Rattle.xw_fill.specs.Search.{light_count}
-use Rattle.xw_fill.specs.Inner.EnteredSince.{noted, is_spelled_again}
-use Rattle.xw_fill.proofs.RepeatLemmas.{not_again, repeat_again, no_new_repeat}
+use Rattle.xw_search.specs.Position.{position_of}
+use Rattle.xw_search.specs.Lights.{light_count, is_spelled_again}
+use Rattle.xw_fill.specs.Inner.EnteredSince.{noted}
+use Rattle.xw_fill.proofs.RepeatLemmas.{not_again, no_new_repeat}
+use Rattle.xw_search.proofs.RepeatLemmas.{repeat_again}
 use Rattle.xw_fill.proofs.entered_since.has_new_repeat.Goals as goal
 use Rattle.xw_fill.proofs.entered_since.has_new_repeat.Goals.{then-is_some+then-not-is_within+else-has_same, else-is_some, else-is_some-via-then-is_some+else-not-is_within, else-is_some-via-else-is_some}
 

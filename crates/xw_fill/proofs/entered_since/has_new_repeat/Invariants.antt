@@ -1,6 +1,7 @@
 use Rattle.std.proofs.Common.{◌≡◌, ℕ, ◌<◌, false}
-use Rattle.xw_fill.specs.Position.{position_of}
-use Rattle.xw_fill.specs.Inner.EnteredSince.{noted, is_spelled_again}
+use Rattle.xw_search.specs.Position.{position_of}
+use Rattle.xw_fill.specs.Inner.EnteredSince.{noted}
+use Rattle.xw_search.specs.Lights.{is_spelled_again}
 use Rattle.xw_fill.proofs.entered_since.has_new_repeat.Given as goal
 
 abbrev pub invariant-loop-light : goal.invariant-loop-light

@@ -1,7 +1,7 @@
 use Rattle.std.proofs.Common.{◌<◌, sym, ◌∙◌, arith}
 use Rattle.std.proofs.lemmas.Bool.{and_from}
-use Rattle.xw_fill.specs.Position.{position_of}
-use Rattle.xw_fill.specs.Search.{light_count}
+use Rattle.xw_search.specs.Position.{position_of}
+use Rattle.xw_search.specs.Lights.{light_count}
 use Rattle.xw_fill.proofs.RepeatLemmas.{again-from}
 use Rattle.xw_fill.proofs.entered_since.has_same.Goals as goal
 

@@ -1,8 +1,8 @@
 use Rattle.std.proofs.Common.{◌≡◌, false, not, ◌&&◌}
 use Rattle.std.specs.Prelude.{◌==◌}
-use Rattle.xw_fill.specs.Position.{position_of}
-use Rattle.xw_fill.specs.Below.{any_below}
-use Rattle.xw_fill.specs.Search.{spell_same}
+use Rattle.xw_search.specs.Position.{position_of}
+use Rattle.xw_search.specs.Below.{any_below}
+use Rattle.xw_search.specs.Lights.{spell_same}
 use Rattle.xw_fill.proofs.entered_since.has_same.Given as goal
 
 abbrev pub invariant-loop-other : goal.invariant-loop-other

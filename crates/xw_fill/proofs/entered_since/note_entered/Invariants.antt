@@ -1,6 +1,6 @@
 use Rattle.std.proofs.Common.{◌≡◌, ℕ, ◌<◌, ◌≤◌, None, length, get_or}
-use Rattle.xw_fill.specs.Position.{position_of}
-use Rattle.xw_fill.specs.Search.{is_entered}
+use Rattle.xw_search.specs.Position.{position_of}
+use Rattle.xw_search.specs.Lights.{is_entered}
 use Rattle.xw_fill.proofs.EnteredSinceLemmas.{IsNotedAgain}
 use Rattle.xw_fill.proofs.entered_since.note_entered.Given as goal
 

@@ -1,5 +1,5 @@
-use Rattle.xw_fill.proofs.Shaped.{shaped}
-use Rattle.xw_fill.proofs.BelowLemmas.{Contains-among}
+use Rattle.xw_search.proofs.Shaped.{shaped}
+use Rattle.xw_search.proofs.BelowLemmas.{Contains-among}
 use Rattle.xw_fill.proofs.FillLemmas.{fill_is_feasible}
 use Rattle.xw_fill.proofs.laws.feasible_law.Goals as goal
 

@@ -1,6 +1,6 @@
 use Rattle.std.proofs.Common.{arith}
 use Rattle.xw_fill.specs.Search.{unentered_count}
-use Rattle.xw_fill.proofs.Shaped.{shaped}
+use Rattle.xw_search.proofs.Shaped.{shaped}
 use Rattle.xw_fill.proofs.FillLemmas.{fill_is_found, found_is_fill, reached-start}
 use Rattle.xw_fill.proofs.laws.fill_law.Goals as goal
 

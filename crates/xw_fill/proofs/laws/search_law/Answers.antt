@@ -1,4 +1,4 @@
-use Rattle.xw_fill.proofs.Shaped.{shaped}
+use Rattle.xw_search.proofs.Shaped.{shaped}
 use Rattle.xw_fill.proofs.LawLemmas.{search_is}
 use Rattle.xw_fill.proofs.laws.search_law.Goals as goal
 

@@ -1,10 +1,10 @@
 use Rattle.std.proofs.Common.{◌≡◌, ℕ, ◌<◌, true, ap, ◌∙◌}
 use Rattle.std.proofs.lemmas.List.{get_or-replicate}
-use Rattle.xw_fill.specs.Position.{position_of}
-use Rattle.xw_fill.specs.Search.{light_count}
-use Rattle.xw_fill.specs.NamedFill.{flags}
+use Rattle.xw_search.specs.Position.{position_of}
+use Rattle.xw_search.specs.Lights.{light_count}
+use Rattle.xw_search.specs.NamedFill.{flags}
 use Rattle.xw_fill.proofs.Naming.{if_ok_same}
-use Rattle.xw_fill.proofs.AllowanceLemmas.{counted_granted}
+use Rattle.xw_search.proofs.AllowanceLemmas.{counted_granted}
 use Rattle.xw_fill.proofs.named_lights.all_by_letters.Goals as goal
 
 pub returns-clause-ok : goal.returns-clause-ok

@@ -1,8 +1,8 @@
 use Rattle.std.specs.Prelude.{Ok}
 use Rattle.std.proofs.Common.{true, subst, arith, ap}
 use Rattle.xw_feas.specs.State.{State}
-use Rattle.xw_fill.specs.NamedFill.{IsAutofilled}
-use Rattle.xw_fill.proofs.AllowanceLemmas.{counted_granted, counted-then}
+use Rattle.xw_search.specs.NamedFill.{IsAutofilled}
+use Rattle.xw_search.proofs.AllowanceLemmas.{counted_granted, counted-then}
 use Rattle.xw_fill.proofs.named_lights.fill_all.Goals as goal
 
 pub returns-in-Filled-clause-counted : goal.returns-in-Filled-clause-counted

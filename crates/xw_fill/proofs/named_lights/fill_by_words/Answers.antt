@@ -2,7 +2,7 @@ use Rattle.std.proofs.Common.{◌≡◌, ◌-◌, arith, subst}
 use Rattle.std.specs.Prelude.{IfOk}
 use Rattle.xw_feas.specs.Board.{board_of}
 use Rattle.xw_fill.specs.Filling.{IsFilling}
-use Rattle.xw_fill.proofs.Shaped.{shaped}
+use Rattle.xw_search.proofs.Shaped.{shaped}
 use Rattle.xw_fill.proofs.LawLemmas.{idle_ok}
 use Rattle.xw_fill.proofs.Naming.{filled_ok}
 use Rattle.xw_fill.proofs.named_lights.fill_by_words.Goals as goal

@@ -1,6 +1,6 @@
 use Rattle.std.proofs.Common.{◌∙◌, subst}
 use Rattle.std.specs.Prelude.{IfOk}
-use Rattle.xw_fill.specs.NamedFill.{flags, IsAutofilled}
+use Rattle.xw_search.specs.NamedFill.{flags, IsAutofilled}
 use Rattle.xw_fill.proofs.named_lights.fill_flagged.Goals as goal
 
 pub returns-clause-ok : goal.returns-clause-ok

@@ -1,8 +1,8 @@
 use Rattle.std.proofs.Common.{length, sym, ◌∙◌, subst}
 use Rattle.std.proofs.lemmas.Bool.{eqb-true}
 use Rattle.std.proofs.lemmas.List.{nil_from_length}
-use Rattle.xw_fill.proofs.StateLemmas.{in_grid_light}
-use Rattle.xw_fill.specs.NamedFill.{flags, is_named, IsAutofilled}
+use Rattle.xw_search.proofs.StateLemmas.{in_grid_light}
+use Rattle.xw_search.specs.NamedFill.{flags, is_named, IsAutofilled}
 use Rattle.xw_fill.proofs.Naming.{autofilled_same}
 use Rattle.xw_fill.proofs.named_lights.fill_named.Goals as goal
 

@@ -1,9 +1,10 @@
 use Rattle.std.proofs.Common.{◌≡◌, ◌<◌, length, not, true, ap, sym, ◌∙◌, arith}
 use Rattle.std.specs.Prelude.{is_some}
 use Rattle.std.proofs.lemmas.Bool.{false≢true}
-use Rattle.xw_fill.specs.Position.{position_of}
-use Rattle.xw_fill.specs.FeasibleWords.{feasible_words}
-use Rattle.xw_fill.specs.Search.{light_count, chosen_below, chosen}
+use Rattle.xw_search.specs.Position.{position_of}
+use Rattle.xw_search.specs.FeasibleWords.{feasible_words}
+use Rattle.xw_search.specs.Lights.{light_count}
+use Rattle.xw_fill.specs.Search.{chosen_below, chosen}
 use Rattle.xw_fill.proofs.ScanLemmas.{chosen-entered, chosen-better, chosen-as_good}
 use Rattle.xw_fill.proofs.scan.chosen.Goals as goal
 use Rattle.xw_fill.proofs.scan.chosen.Goals.{then-not-is_entered+then-is_none, then-is_none-via-then-is_none, then-is_none-via-else-is_none+then-count-fewest, then-not-is_entered+else-is_none+else-count-fewest, else-not-is_entered}

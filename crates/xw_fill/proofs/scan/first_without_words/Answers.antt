@@ -1,8 +1,9 @@
 use Rattle.std.proofs.Common.{sym, arith}
-use Rattle.xw_fill.specs.Position.{position_of}
-use Rattle.xw_fill.specs.Search.{lacks_words, light_count}
-use Rattle.xw_fill.proofs.BelowLemmas.{first_below-here, first_below-more}
-use Rattle.xw_fill.proofs.ScanLemmas.{lacks_words-none, lacks_words-some}
+use Rattle.xw_search.specs.Position.{position_of}
+use Rattle.xw_search.specs.Lights.{lacks_words, light_count}
+use Rattle.xw_search.proofs.BelowLemmas.{first_below-here, first_below-more}
+use Rattle.xw_fill.proofs.ScanLemmas.{lacks_words-none}
+use Rattle.xw_search.proofs.LightLemmas.{lacks_words-some}
 use Rattle.xw_fill.proofs.scan.first_without_words.Goals as goal
 
 pub returns-then-word_count-eq0 : goal.returns-then-word_count-eq0

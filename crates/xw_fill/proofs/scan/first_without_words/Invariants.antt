@@ -1,7 +1,7 @@
-use Rattle.xw_fill.specs.Position.{position_of}
+use Rattle.xw_search.specs.Position.{position_of}
 use Rattle.std.proofs.Common.{◌≡◌, None}
-use Rattle.xw_fill.specs.Below.{first_below}
-use Rattle.xw_fill.specs.Search.{lacks_words}
+use Rattle.xw_search.specs.Below.{first_below}
+use Rattle.xw_search.specs.Lights.{lacks_words}
 use Rattle.xw_fill.proofs.scan.first_without_words.Given as goal
 
 abbrev pub invariant-loop-light : goal.invariant-loop-light

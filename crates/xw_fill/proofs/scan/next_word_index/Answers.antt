@@ -1,8 +1,8 @@
-use Rattle.xw_fill.specs.Position.{position_of}
+use Rattle.xw_search.specs.Position.{position_of}
 use Rattle.std.proofs.Common.{sym, ◌∙◌, ap, Some}
-use Rattle.xw_fill.proofs.Shaped.{distinct_words}
+use Rattle.xw_search.proofs.Shaped.{distinct_words}
 use Rattle.xw_fill.proofs.WordsLemmas.{next_listed, next_none}
-use Rattle.xw_fill.proofs.StateLemmas.{in_grid_light}
+use Rattle.xw_search.proofs.StateLemmas.{in_grid_light}
 use Rattle.xw_fill.proofs.scan.next_word_index.Goals as goal
 
 pub returns-in-None : goal.returns-in-None

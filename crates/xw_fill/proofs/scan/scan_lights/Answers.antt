@@ -1,11 +1,12 @@
 use Rattle.std.proofs.Common.{◌≡◌, ◌<◌, ◌+◌, length, not, true, false, ap, sym, ◌∙◌, arith, add-one}
 use Rattle.std.specs.Prelude.{is_some}
 use Rattle.std.proofs.lemmas.Bool.{false≢true, or_from}
-use Rattle.xw_fill.specs.Position.{position_of}
-use Rattle.xw_fill.specs.FeasibleWords.{feasible_words}
-use Rattle.xw_fill.specs.Below.{any_below}
-use Rattle.xw_fill.specs.Search.{light_count, lacks_words, is_entered}
-use Rattle.xw_fill.proofs.ScanLemmas.{lacks_words-none, lacks_words-some, chosen-entered, chosen-better, chosen-as_good, scanned-blocked, scanned-open}
+use Rattle.xw_search.specs.Position.{position_of}
+use Rattle.xw_search.specs.FeasibleWords.{feasible_words}
+use Rattle.xw_search.specs.Below.{any_below}
+use Rattle.xw_search.specs.Lights.{light_count, lacks_words, is_entered}
+use Rattle.xw_fill.proofs.ScanLemmas.{lacks_words-none, chosen-entered, chosen-better, chosen-as_good, scanned-blocked, scanned-open}
+use Rattle.xw_search.proofs.LightLemmas.{lacks_words-some}
 use Rattle.xw_fill.proofs.scan.scan_lights.Goals as goal
 use Rattle.xw_fill.proofs.scan.scan_lights.Goals.{then-not-entered+then-is_none, then-is_none-via-then-is_none, then-is_none-via-else-is_none+then-count-least, then-not-entered+else-is_none+else-count-least, else-not-entered}
 

@@ -1,8 +1,9 @@
 use Rattle.std.proofs.Common.{◌≡◌, ℕ, length, false, Some}
-use Rattle.xw_fill.specs.Position.{position_of}
-use Rattle.xw_fill.specs.Below.{any_below}
-use Rattle.xw_fill.specs.FeasibleWords.{feasible_words}
-use Rattle.xw_fill.specs.Search.{lacks_words, chosen_below}
+use Rattle.xw_search.specs.Position.{position_of}
+use Rattle.xw_search.specs.Below.{any_below}
+use Rattle.xw_search.specs.FeasibleWords.{feasible_words}
+use Rattle.xw_search.specs.Lights.{lacks_words}
+use Rattle.xw_fill.specs.Search.{chosen_below}
 use Rattle.xw_fill.proofs.scan.scan_lights.Given as goal
 
 abbrev pub invariant-loop-light : goal.invariant-loop-light

@@ -1,5 +1,5 @@
 use Rattle.std.proofs.Common.{sym, ◌∙◌}
-use Rattle.xw_fill.specs.Position.{position_of}
+use Rattle.xw_search.specs.Position.{position_of}
 use Rattle.xw_fill.proofs.EnteredSinceLemmas.{noted-none}
 use Rattle.xw_fill.proofs.ScanLemmas.{outlook-blocked, outlook-open}
 use Rattle.xw_fill.proofs.search.begin.Goals as goal

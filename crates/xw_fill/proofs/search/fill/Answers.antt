@@ -4,9 +4,10 @@ use Rattle.xw_feas.specs.State.{State}
 use Rattle.xw_fill.specs.Filling.{IsFilling, HasFill}
 use Rattle.xw_fill.specs.Inner.EnteredSince.{noted}
 use Rattle.xw_fill.specs.Inner.OfState.{AreEntered}
-use Rattle.xw_fill.specs.OfState.{light_count, outlook}
-use Rattle.xw_fill.specs.Position.{position_of}
-use Rattle.xw_fill.proofs.FeasibleWordsLemmas.{AreAnswers-along}
+use Rattle.xw_search.specs.OfState.{light_count}
+use Rattle.xw_fill.specs.OfState.{outlook}
+use Rattle.xw_search.specs.Position.{position_of}
+use Rattle.xw_search.proofs.FeasibleWordsLemmas.{AreAnswers-along}
 use Rattle.xw_fill.proofs.Searching.{on_err, unless_filled}
 use Rattle.xw_fill.proofs.search.fill.Goals as goal
 

@@ -1,18 +1,18 @@
 use Rattle.std.proofs.Common.{◌≡◌, suc, refl, ◌+◌, ◌≤◌, sym, length, length-append, [], ◌∷◌, ◌++◌, ap, ◌∙◌, subst, arith}
 use Rattle.std.specs.Option.{option_to_list}
-use Rattle.xw_fill.specs.Position.{position_of}
+use Rattle.xw_search.specs.Position.{position_of}
 use Rattle.xw_fill.specs.Filling.{IsFilling}
 use Rattle.xw_fill.specs.Inner.EnteredSince.{noted, AreEntered, StayNoted}
-use Rattle.xw_fill.specs.Inner.Stack.{first_or}
+use Rattle.xw_search.specs.Stack.{first_or}
 use Rattle.xw_fill.specs.Inner.Stepping.{HasStepped}
 use Rattle.xw_fill.specs.Inner.Tries.{IsMade}
 use Rattle.xw_fill.specs.declared.tries.Try.{Try}
-use Rattle.xw_fill.specs.declared.search.Filling.TheVariants.{Filled, NoFill}
+use Rattle.xw_search.specs.declared.filling.Filling.TheVariants.{Filled, NoFill}
 use Rattle.xw_fill.specs.declared.search.Next.{Next}
 use Rattle.xw_fill.specs.declared.search.Next.TheVariants.{Done, Spent, Words}
-use Rattle.xw_fill.proofs.StackLemmas.{stands_empty}
+use Rattle.xw_search.proofs.StackLemmas.{stands_empty}
 use Rattle.xw_fill.proofs.Searching.{IsSearching, IsSound-formed, searching-start, searching-returned, searching-spent, searching-open, searching-placed, searching-failed, searching-done, searching-none, filling-fill, searching-popped, searching-empty, searching-alive, searching-count, outcome_filling, last-index, due-more}
-use Rattle.xw_fill.proofs.StateLemmas.{DiffersInEntries-itself, DiffersInEntries-then}
+use Rattle.xw_search.proofs.StateLemmas.{DiffersInEntries-itself, DiffersInEntries-then}
 use Rattle.xw_fill.proofs.Trail.{after_try, AreNotedAlong, noted-last, noted-back, noted-more}
 use Rattle.xw_fill.proofs.search.fill_from.Invariants.{steps}
 use Rattle.xw_fill.proofs.search.fill_from.Goals as goal

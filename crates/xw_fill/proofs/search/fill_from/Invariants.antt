@@ -1,9 +1,9 @@
 use Rattle.std.proofs.Common.{◌≡◌, length, ◌+◌, ◌-◌, ◌*◌, ◌≤◌, ℕ}
-use Rattle.xw_fill.specs.Position.{position_of, DiffersInEntries}
+use Rattle.xw_search.specs.Position.{position_of, DiffersInEntries}
 use Rattle.xw_fill.specs.declared.search.Next.{Next}
 use Rattle.xw_fill.specs.declared.search.Next.TheVariants.{Done, Spent, Words}
-use Rattle.xw_fill.specs.Search.{light_count}
-use Rattle.xw_fill.specs.Inner.Stack.{first_or, LeadThrough}
+use Rattle.xw_search.specs.Lights.{light_count}
+use Rattle.xw_search.specs.Stack.{first_or, LeadThrough}
 use Rattle.xw_fill.specs.Inner.Tries.{IsMade}
 use Rattle.xw_fill.proofs.Trail.{AreNotedAlong}
 use Rattle.xw_fill.proofs.Searching.{IsSearching}

@@ -1,15 +1,15 @@
 use Rattle.std.proofs.Common.{◌<◌, suc, sym, ◌∙◌, ap, subst}
-use Rattle.xw_fill.specs.Position.{position_of}
-use Rattle.xw_fill.specs.Search.{light_count, is_entered}
+use Rattle.xw_search.specs.Position.{position_of}
+use Rattle.xw_search.specs.Lights.{light_count, is_entered}
 use Rattle.xw_fill.specs.Inner.EnteredSince.{noted, AreEntered, SpellApart, StayNoted}
 use Rattle.xw_fill.specs.Inner.Tries.{word_of}
-use Rattle.xw_fill.proofs.LetterSearch.{position_at}
-use Rattle.xw_fill.proofs.Shaped.{shaped}
+use Rattle.xw_search.proofs.LetterSearch.{position_at}
+use Rattle.xw_search.proofs.Shaped.{shaped}
 use Rattle.xw_fill.proofs.EnteredSinceLemmas.{apart-stay}
 use Rattle.xw_fill.proofs.RepeatLemmas.{placed-apart}
 use Rattle.xw_fill.proofs.ScanLemmas.{outlook-blocked, outlook-open}
 use Rattle.xw_fill.proofs.SearchLemmas.{placed-entered}
-use Rattle.xw_fill.proofs.StackLemmas.{count_more}
+use Rattle.xw_search.proofs.StackLemmas.{count_more}
 use Rattle.xw_fill.proofs.Trail.{feasible_agrees}
 use Rattle.xw_fill.proofs.TryingLemmas.{try_placed, try_died}
 use Rattle.xw_fill.proofs.search.try_word.Goals as goal

@@ -1,7 +1,7 @@
 use Rattle.std.proofs.Common.{◌≡◌, get_or, [], true, sym, subst}
 use Rattle.std.specs.Prelude.{is_none}
 use Rattle.xw_feas.specs.State.{State}
-use Rattle.xw_fill.specs.Position.{position_of, placed}
+use Rattle.xw_search.specs.Position.{position_of, placed}
 use Rattle.xw_fill.specs.Words.{spellings_at, IsNextWord, HasNoMore}
 use Rattle.xw_fill.specs.Suggesting.{first_blocked}
 use Rattle.xw_fill.proofs.SuggestingLemmas.{index_to_try-here, index_to_try-none}

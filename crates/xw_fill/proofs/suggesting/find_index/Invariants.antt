@@ -1,5 +1,5 @@
 use Rattle.std.proofs.Common.{◌≡◌, ℕ, ◌<◌, ◌-◌, length, get_or, false, []}
-use Rattle.xw_fill.specs.Position.{position_of}
+use Rattle.xw_search.specs.Position.{position_of}
 use Rattle.xw_fill.specs.Suggesting.{can_be_tried}
 use Rattle.xw_fill.specs.Words.{spellings_at}
 use Rattle.xw_fill.proofs.suggesting.find_index.Given as goal

@@ -1,9 +1,9 @@
 use Rattle.std.proofs.Common.{rules, sym, ◌∙◌, ap}
-use Rattle.xw_fill.specs.Position.{position_of}
-use Rattle.xw_fill.specs.Search.{light_count, lacks_words}
-use Rattle.xw_fill.proofs.BelowLemmas.{first_below-some}
+use Rattle.xw_search.specs.Position.{position_of}
+use Rattle.xw_search.specs.Lights.{light_count, lacks_words}
+use Rattle.xw_search.proofs.BelowLemmas.{first_below-some}
 use Rattle.xw_fill.proofs.SearchLemmas.{chosen-Some}
-use Rattle.xw_fill.proofs.FeasibleWordsLemmas.{AreAnswers-along}
+use Rattle.xw_search.proofs.FeasibleWordsLemmas.{AreAnswers-along}
 use Rattle.xw_fill.proofs.suggesting.suggest.Goals as goal
 
 pub find_index-requires-clause-light : goal.find_index-requires-clause-light

@@ -2,7 +2,7 @@ use Rattle.std.proofs.Common.{◌+◌, ◌<◌, ◌≤◌, length, take, None, s
 use Rattle.std.proofs.lemmas.List.{length-set, take_more_set}
 use Rattle.xw_feas.specs.Board.{board_of, light_at}
 use Rattle.xw_feas.proofs.ShapeLemmas.{light_small}
-use Rattle.xw_fill.proofs.StateLemmas.{in_grid_light, light_size}
+use Rattle.xw_search.proofs.StateLemmas.{in_grid_light, light_size}
 use Rattle.xw_fill.proofs.ScanLemmas.{IsTakingBack, take_back-init, take_back-step, take_back-pass, take_back-end}
 use Rattle.xw_fill.proofs.trial.clear_blanks.Goals as goal
 use Rattle.xw_fill.proofs.trial.clear_blanks.Goals.{then-trial-pos, else-trial-pos}

@@ -1,4 +1,5 @@
-use Rattle.xw_fill.proofs.StateLemmas.{in_grid_light, known_within, placing_known}
+use Rattle.xw_search.proofs.StateLemmas.{in_grid_light}
+use Rattle.xw_fill.proofs.StateLemmas.{known_within, placing_known}
 use Rattle.xw_fill.proofs.trial.place_word.Goals as goal
 
 pub place_word_at-requires-clause-light : goal.place_word_at-requires-clause-light

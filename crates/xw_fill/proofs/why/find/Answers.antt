@@ -1,4 +1,4 @@
-use Rattle.xw_fill.specs.Reason.{entries_of}
+use Rattle.xw_search.specs.Writing.{entries_of}
 use Rattle.xw_fill.proofs.EntryLemmas.{IsPart-itself}
 use Rattle.xw_fill.proofs.ReasonLemmas.{good_by, back_by}
 use Rattle.xw_fill.proofs.why.find.Goals as goal

@@ -2,10 +2,10 @@ use Rattle.std.proofs.Common.{◌≡◌, ◌∙◌, subst, refl, sym, true, arit
 use Rattle.std.proofs.lemmas.Bool.{false≢true}
 use Rattle.std.proofs.lemmas.List.Elements.{All-weaker}
 use Rattle.xw_grid.specs.Grid.{is_open}
-use Rattle.xw_fill.specs.Position.{position_of}
-use Rattle.xw_fill.proofs.StateLemmas.{DiffersInEntries-itself, DiffersInEntries-then}
-use Rattle.xw_fill.specs.Reason.{entries_of, no_entries, IsPart}
-use Rattle.xw_fill.specs.Sparing.{CanBeWritten}
+use Rattle.xw_search.specs.Position.{position_of}
+use Rattle.xw_search.proofs.StateLemmas.{DiffersInEntries-itself, DiffersInEntries-then}
+use Rattle.xw_search.specs.Writing.{entries_of, CanBeWritten}
+use Rattle.xw_fill.specs.Reason.{no_entries, IsPart}
 use Rattle.xw_fill.proofs.EntryLemmas.{IsPart-none, IsPart-itself}
 use Rattle.xw_fill.proofs.ReasonLemmas.{light_there, dead_count, alive_count, good_by, written_by, reason_none, reason_spared, back-more, back-all}
 use Rattle.xw_fill.proofs.why.leave_reason.Goals as goal

@@ -2,8 +2,8 @@ use Rattle.std.proofs.Common.{◌∙◌, sym, ap, arith}
 use Rattle.xw_feas.specs.State.{State}
 use Rattle.xw_grid.specs.Light.{index_named}
 use Rattle.xw_feas.proofs.WordsLemmas.{named_within}
-use Rattle.xw_fill.specs.Position.{position_of}
-use Rattle.xw_fill.proofs.FeasibleWordsLemmas.{AreAnswers-along}
+use Rattle.xw_search.specs.Position.{position_of}
+use Rattle.xw_search.proofs.FeasibleWordsLemmas.{AreAnswers-along}
 use Rattle.xw_fill.proofs.ReasonLemmas.{alive_count}
 use Rattle.xw_fill.proofs.why.reason.Goals as goal
 

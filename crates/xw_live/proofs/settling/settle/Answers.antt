@@ -5,7 +5,7 @@ use Rattle.std.proofs.Math.Logic.{∥∥₁_elim}
 use mathlib.Core.Logic.{∥∥₁_prop}
 use Rattle.xw_words.specs.Dictionary.{Dictionary, known_words}
 use Rattle.xw_feas.specs.State.{State}
-use Rattle.xw_net.specs.Delta.{before_of, word_of}
+use Rattle.xw_net.specs.Change.{before_of, word_of}
 use Rattle.xw_net.specs.Net.{StoodFor, known_counts, sets_of}
 use Rattle.xw_net.specs.Fit.{HasRoomBetween}
 use Rattle.xw_live.proofs.Keeping.{kept_from}
@@ -16,10 +16,10 @@ unfolding sets_of
 settle-requires-clause-cells c = omega (arith, c.requires.cells)
 
 pub settle-requires-clause-stood : goal.settle-requires-clause-stood
-settle-requires-clause-stood c = subst (λ (words : Dictionary). StoodFor (before_of c.args.position.now.lights c.args.change.now) (word_of c.args.change.now) (known_counts words) c.args.net.now) (sym c.new-rows.ensures.words) c.requires.stood
+settle-requires-clause-stood c = subst (λ (words : Dictionary). StoodFor (before_of c.args.position.now.lights c.args.position.now.notes) (word_of c.args.position.now.notes) (known_counts words) c.args.net.now) (sym c.new-rows.ensures.words) c.requires.stood
 
 pub settle-requires-clause-room : goal.settle-requires-clause-room
-settle-requires-clause-room c = subst (λ (words : Dictionary). HasRoomBetween (before_of c.args.position.now.lights c.args.change.now) c.args.position.now.lights (known_counts words) c.args.net.now c.args.net.now.spare) (sym c.new-rows.ensures.words) c.requires.room
+settle-requires-clause-room c = subst (λ (words : Dictionary). HasRoomBetween (before_of c.args.position.now.lights c.args.position.now.notes) c.args.position.now.lights (known_counts words) c.args.net.now c.args.net.now.spare) (sym c.new-rows.ensures.words) c.requires.room
 
 pub returns-clause-kept : goal.returns-clause-kept
 returns-clause-kept c before action change known =

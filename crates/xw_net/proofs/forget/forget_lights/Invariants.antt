@@ -5,7 +5,7 @@ use Rattle.xw_feas.specs.Flags.{set_has}
 use Rattle.xw_net.specs.Marks.{IsPositionIn, slot_at}
 use Rattle.xw_net.specs.Renumber.{same_before}
 use Rattle.xw_net.specs.Inner.Forget.{lose, lost_from, nowhere}
-use Rattle.xw_net.specs.Delta.{before_of, word_of}
+use Rattle.xw_net.specs.Change.{before_of, word_of}
 use Rattle.xw_net.proofs.forget.forget_lights.Given as goal
 
 abbrev pub invariant-loop-light : goal.invariant-loop-light

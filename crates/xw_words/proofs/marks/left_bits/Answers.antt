@@ -39,10 +39,10 @@ left_by_byte least byte = elim (cases_lt byte 128) [
 
 pub returns : goal.returns
 returns c k lt =
-    let bytes = c.bytes_of-bytes.result in
+    let bytes = c.args.bytes in
     let least = c.args.least in
-    let long : length bytes ≡ 64 = c.bytes_of-bytes.ensures.len in
-    let within : k < length bytes = omega (arith, lt, c.requires, long) in
+    let long : length bytes ≡ 64 = c.fits-bytes.0 in
+    let within : k < length bytes = omega (arith, lt, long) in
     let graded = ap (λ flags. mask_l flags % 2 ^ 64) (tops_compared w8 leb (replicate 64 least) bytes ∙ zip2_splat_left leb least 64 bytes long)
     ∙ mask_l-mod (map (leb least) bytes) 64 (omega (arith, length-map bytes (leb least), long)) in
     let kept = bitmask_splat w8 ltb bytes 64 128 long (omega arith) in
@@ -51,4 +51,3 @@ returns c k lt =
     ∙ (λ i. has_bit-mask (map (leb least) bytes) k i && has_bit-mask (map (λ b. ltb b 128) bytes) k i)
     ∙ (λ i. get_or-map (leb least) bytes k 0 false within i && get_or-map (λ b. ltb b 128) bytes k 0 false within i)
     ∙ left_by_byte least (get_or bytes k 0)
-    ∙ ap (are_left least) (c.bytes_of-bytes.ensures.bytes k lt)

@@ -1,24 +1,31 @@
-use Rattle.std.proofs.Common.{sym, ◌∙◌}
-use Rattle.xw_feas.specs.Pending.{in_place_action}
+use Rattle.std.proofs.Common.{refl, sym, ◌∙◌, subst}
+use Rattle.xw_feas.specs.declared.effect.Effect.{Effect}
+use Rattle.xw_feas.specs.declared.pending.InPlace.{InPlace}
+use Rattle.xw_feas.specs.Effect.{IsToldBy, IsCommitted}
 use Rattle.xw_feas.specs.EngineState.{state_of}
-use Rattle.xw_feas.specs.State.{State}
-use Rattle.xw_feas.proofs.Noting.{kept_listed}
-use Rattle.xw_feas.proofs.EffectLemmas.{list_foretold, list_made, list_told, foretold_made}
+use Rattle.xw_feas.specs.Pending.{in_place_action, IsInPlace}
+use Rattle.xw_feas.specs.Shape.{fault_at}
+use Rattle.xw_feas.specs.State.{entered}
+use Rattle.xw_feas.proofs.EffectLemmas.{written_committed}
+use Rattle.xw_feas.proofs.ShapeLemmas.{SameShape-itself}
 use Rattle.xw_feas.proofs.engine_state.EngineState.commit.Goals as goal
 
-pub returns-then-is_list-clause-told : goal.returns-then-is_list-clause-told
-returns-then-is_list-clause-told c =
+pub returns-then-keeps : goal.returns-then-keeps
+returns-then-keeps c =
     let old = c.args.self.now in
-    let action = in_place_action c.args.edit.now in
-    let now : State = record { grid = c.change.new.grid; words = c.change.new.bank.words } in
-    let foretold = list_foretold (state_of old) old.lights c.foretell-told.new.self action c.foretell-told.result (sym c.is_list.ensures ∙ c.if-is_list.true) c.foretell-told.ensures.told in (
-      c.keep_changed.ensures.count,
-      list_told (state_of old) old.lights old.light_list action foretold.0 _ foretold.1
-          (c.keep_changed.ensures.kept ∙ kept_listed old.grid now.grid foretold.0 c.foretell-told.new.self.noted.items (list_made (state_of old) now action foretold.0 foretold.1 c.change.ensures.made) foretold.2),
-    )
+    record {
+      made = c.keeps.ensures c.if-keeps.true c.requires;
+      lights = refl;
+      shape = SameShape-itself old.grid;
+      counts = λ len. refl;
+      told = subst (λ (effect : Effect). IsToldBy (state_of old) (state_of old) old.lights c.note_nothing.new.self (in_place_action (state_of old) c.args.edit.now) effect) (sym c.note_nothing.ensures.effect) (record { layout = refl; words = refl });
+    }
 
-pub returns-clause-told : goal.returns-clause-told
-returns-clause-told c =
+pub enter-requires : goal.enter-requires
+enter-requires c = subst (IsInPlace (state_of c.args.self.now)) c.in-Enter.is c.requires
+
+pub returns-in-Enter : goal.returns-in-Enter
+returns-in-Enter c =
     let old = c.args.self.now in
-    let now : State = record { grid = c.change.new.grid; words = c.change.new.bank.words } in
-    foretold_made (state_of old) old.lights c.foretell-told.new.self (in_place_action c.args.edit.now) now old.light_list c.change.ensures.made c.foretell-told.result (sym c.is_list.ensures ∙ c.if-is_list.false) c.foretell-told.ensures.told
+    subst (λ (edit : InPlace). IsCommitted old c.enter.new.self (in_place_action (state_of old) edit)) (sym c.in-Enter.is)
+    (written_committed old c.enter.new.self (entered c.in-Enter.cell c.in-Enter.letter) c.enter.ensures.made c.enter.ensures.lights c.enter.ensures.words c.enter.ensures.shape c.enter.ensures.effect c.enter.ensures.told)

@@ -1,11 +1,11 @@
 use Rattle.std.proofs.Common.{sym, ap, subst, ◌∙◌, ◌<◌}
 use Rattle.xw_feas.specs.Board.{Board, light_at}
-use Rattle.xw_fill.specs.Position.{Position, position_of}
-use Rattle.xw_fill.specs.Search.{light_count}
+use Rattle.xw_search.specs.Position.{Position, position_of}
+use Rattle.xw_search.specs.Lights.{light_count}
 use Rattle.xw_fill.specs.Inner.Trial.{taken_back, AreBlanks}
 use Rattle.xw_fill.specs.declared.trial.Trial.{Trial}
-use Rattle.xw_fill.proofs.LetterSearch.{position_at}
-use Rattle.xw_fill.proofs.Shaped.{shaped}
+use Rattle.xw_search.proofs.LetterSearch.{position_at}
+use Rattle.xw_search.proofs.Shaped.{shaped}
 use Rattle.xw_fill.proofs.Trail.{feasible_agrees}
 use Rattle.xw_fill.proofs.TrialLemmas.{taken_back-agreed}
 use Rattle.xw_fill.proofs.trial.Trial.place.Goals as goal

@@ -1,5 +1,5 @@
 use Rattle.std.proofs.Common.{◌∙◌}
-use Rattle.xw_fill.proofs.StateLemmas.{DiffersInEntries-then, same_state}
+use Rattle.xw_search.proofs.StateLemmas.{DiffersInEntries-then, same_state}
 use Rattle.xw_fill.proofs.trial.Trial.take_back.Goals as goal
 
 pub returns : goal.returns

@@ -1,10 +1,11 @@
 use Rattle.std.proofs.Common.{ap}
 use Rattle.xw_feas.specs.State.{known_placed}
-use Rattle.xw_fill.specs.Position.{Position}
-use Rattle.xw_fill.specs.Search.{light_count}
+use Rattle.xw_search.specs.Position.{Position}
+use Rattle.xw_search.specs.Lights.{light_count}
 use Rattle.xw_fill.specs.Inner.Tries.{IsMade}
-use Rattle.xw_fill.proofs.LetterSearch.{position_at}
-use Rattle.xw_fill.proofs.TryingLemmas.{tried_ok, word_may, word_makes}
+use Rattle.xw_search.proofs.LetterSearch.{position_at}
+use Rattle.xw_search.proofs.TryingLemmas.{tried_ok}
+use Rattle.xw_fill.proofs.TryingLemmas.{word_may, word_makes}
 use Rattle.xw_fill.proofs.tries.TryPlacement.try_place.Goals as goal
 
 pub try_word-requires : goal.try_word-requires

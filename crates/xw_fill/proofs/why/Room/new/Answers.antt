@@ -1,5 +1,6 @@
 use Rattle.std.proofs.Common.{◌∙◌, map, subst, sym, ap}
-use Rattle.xw_fill.specs.Reason.{entries_of, no_entries}
+use Rattle.xw_search.specs.Writing.{entries_of}
+use Rattle.xw_fill.specs.Reason.{no_entries}
 use Rattle.xw_fill.specs.Sparing.{emptied, IsListOf}
 use Rattle.xw_fill.proofs.EntryLemmas.{list_sorted, list_emptied}
 use Rattle.xw_fill.proofs.why.Room.new.Goals as goal

@@ -1,7 +1,7 @@
 use Rattle.std.proofs.Common.{refl, sym, ap, ◌∙◌, arith}
 use Rattle.std.proofs.lemmas.List.{take_all}
 use Rattle.xw_feas.specs.Board.{entry}
-use Rattle.xw_fill.specs.Reason.{entries_of}
+use Rattle.xw_search.specs.Writing.{entries_of}
 use Rattle.xw_fill.proofs.EntryLemmas.{next_entry}
 use Rattle.xw_fill.proofs.why.entries.note_entries.Goals as goal
 

@@ -1,5 +1,5 @@
 use Rattle.std.proofs.Common.{◌≡◌, take}
-use Rattle.xw_fill.specs.Reason.{entries_of}
+use Rattle.xw_search.specs.Writing.{entries_of}
 use Rattle.xw_fill.proofs.why.entries.note_entries.Given as goal
 
 abbrev pub invariant-loop-index : goal.invariant-loop-index

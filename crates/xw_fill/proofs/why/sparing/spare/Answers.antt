@@ -1,6 +1,6 @@
 use Rattle.std.proofs.Common.{ap, ◌∙◌}
 use Rattle.xw_grid.specs.Grid.{Grid, entry as grid_entry}
-use Rattle.xw_fill.proofs.StateLemmas.{differs_open}
+use Rattle.xw_search.proofs.StateLemmas.{differs_open}
 use Rattle.xw_fill.proofs.ReasonLemmas.{light_there, dead_count, alive_count, needed_empty, spared_cell, needed_cell, cell_back}
 use Rattle.xw_fill.proofs.why.sparing.spare.Goals as goal
 

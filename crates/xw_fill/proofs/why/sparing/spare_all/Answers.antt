@@ -3,9 +3,9 @@ use Rattle.std.specs.Prelude.{All}
 use Rattle.std.proofs.lemmas.List.Elements.{All-weaker}
 use Rattle.xw_grid.specs.Grid.{is_open, index_of}
 use Rattle.xw_feas.specs.State.{State}
-use Rattle.xw_fill.specs.Position.{position_of}
-use Rattle.xw_fill.proofs.StateLemmas.{DiffersInEntries-itself, DiffersInEntries-then, differs_open}
-use Rattle.xw_fill.specs.Reason.{entries_of}
+use Rattle.xw_search.specs.Position.{position_of}
+use Rattle.xw_search.proofs.StateLemmas.{DiffersInEntries-itself, DiffersInEntries-then, differs_open}
+use Rattle.xw_search.specs.Writing.{entries_of}
 use Rattle.xw_fill.specs.Sparing.{IsNeeded}
 use Rattle.xw_fill.proofs.EntryLemmas.{IsPart-itself, IsPart-then}
 use Rattle.xw_fill.proofs.ReasonLemmas.{light_there, needed_along}

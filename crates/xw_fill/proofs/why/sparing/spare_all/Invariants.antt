@@ -1,8 +1,9 @@
 use Rattle.std.proofs.Common.{◌≡◌, true}
 use Rattle.std.specs.Prelude.{count_by, is_some}
-use Rattle.xw_fill.specs.Position.{position_of, DiffersInEntries}
-use Rattle.xw_fill.specs.Search.{lacks_words}
-use Rattle.xw_fill.specs.Reason.{entries_of, IsPart}
+use Rattle.xw_search.specs.Position.{position_of, DiffersInEntries}
+use Rattle.xw_search.specs.Lights.{lacks_words}
+use Rattle.xw_search.specs.Writing.{entries_of}
+use Rattle.xw_fill.specs.Reason.{IsPart}
 use Rattle.xw_fill.proofs.why.sparing.spare_all.Given as goal
 
 abbrev pub invariant-loop-light : goal.invariant-loop-light

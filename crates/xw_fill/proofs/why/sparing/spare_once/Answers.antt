@@ -1,6 +1,6 @@
 use Rattle.std.proofs.Common.{◌≡◌, ◌∙◌, ◌+◌, sym, true, subst}
 use Rattle.xw_grid.specs.Grid.{is_open, index_of}
-use Rattle.xw_fill.proofs.StateLemmas.{differs_open}
+use Rattle.xw_search.proofs.StateLemmas.{differs_open}
 use Rattle.xw_fill.proofs.ReasonLemmas.{IsSparing, light_there, sparing-begun, sparing-spared, sparing-needed, sparing-all, of_item}
 use Rattle.xw_fill.proofs.why.sparing.spare_once.Goals.{then-spare, else-spare}
 use Rattle.xw_fill.proofs.why.sparing.spare_once.Goals as goal

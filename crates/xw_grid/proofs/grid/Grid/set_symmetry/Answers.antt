@@ -1,8 +1,5 @@
 use Rattle.std.proofs.Common.{rules}
 use Rattle.xw_grid.proofs.grid.Grid.set_symmetry.Goals as goal
 
-pub invariant_of-self : goal.invariant_of-self
-invariant_of-self c = search rules
-
 pub returns-clause-ok : goal.returns-clause-ok
 returns-clause-ok c = search rules

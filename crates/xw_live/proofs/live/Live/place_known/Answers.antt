@@ -1,7 +1,7 @@
 use Rattle.std.proofs.Common.{sym}
 use Rattle.xw_feas.specs.EngineState.{state_of as position_state_of}
 use Rattle.xw_feas.specs.State.{known_placed}
-use Rattle.xw_net.specs.Delta.{IsChange}
+use Rattle.xw_net.specs.Change.{IsChange}
 use Rattle.xw_live.specs.Engine.{IsKept}
 use Rattle.xw_live.specs.Live.{state_of}
 use Rattle.xw_live.proofs.Following.{entries_follow, entries_change, entries_cells}
@@ -11,14 +11,14 @@ use Rattle.xw_live.proofs.live.Live.place_known.Goals as goal
 pub settle-self-requires : goal.settle-self-requires
 settle-self-requires c =
     let old = c.args.self.now in
-    entries_follow old.position c.place_known.new.self (known_placed (state_of old) c.args.light c.args.index) old.net old.kept c.place_known.ensures.made c.place_known.ensures.told c.place_known.ensures.shape c.place_known.ensures.words _ c.as_slice.ensures
+    entries_follow old.position c.place_known.new.self (known_placed (state_of old) c.args.light c.args.index) old.net old.kept c.place_known.ensures.made c.place_known.ensures.effect c.place_known.ensures.told c.place_known.ensures.shape c.place_known.ensures.words
 
 pub invariant_of-self : goal.invariant_of-self
 invariant_of-self c =
     let old = c.args.self.now in
     let now = c.place_known.new.self in
     let action = known_placed (state_of old) c.args.light c.args.index in
-    let change : IsChange (state_of old) (position_state_of now) action _ = entries_change old.position now action old.net old.kept c.place_known.ensures.made c.place_known.ensures.told _ c.as_slice.ensures in
+    let change : IsChange (state_of old) (position_state_of now) action _ = entries_change old.position now action old.net old.kept c.place_known.ensures.made c.place_known.ensures.effect c.place_known.ensures.told in
     let kept : IsKept (position_state_of now) c.settle-self.new.net = c.settle-self.ensures.kept (state_of old) action change old.kept.settled in
     record {
       kept = kept;
@@ -31,7 +31,7 @@ returns-clause-done c =
     let old = c.args.self.now in
     let now = c.place_known.new.self in
     let action = known_placed (state_of old) c.args.light c.args.index in
-    let change : IsChange (state_of old) (position_state_of now) action _ = entries_change old.position now action old.net old.kept c.place_known.ensures.made c.place_known.ensures.told _ c.as_slice.ensures in
+    let change : IsChange (state_of old) (position_state_of now) action _ = entries_change old.position now action old.net old.kept c.place_known.ensures.made c.place_known.ensures.effect c.place_known.ensures.told in
     record {
       made = c.place_known.ensures.made;
       letters = c.keep_letters.ensures;

@@ -8,7 +8,7 @@ use Rattle.xw_feas.specs.State.{State, after, letter_set}
 use Rattle.xw_feas.specs.Trying.{MayTryLetter, IsTried, levels_after}
 use Rattle.xw_net.specs.Entered.{IsTriedOn}
 use Rattle.xw_net.specs.Seen.{AreSeen}
-use Rattle.xw_feas.proofs.TryingLemmas.{letter_made}
+use Rattle.xw_feas.proofs.TryingLemmas.{tried_takes}
 use Rattle.xw_net.proofs.Levels.RememberedWords.{seen_moved}
 use Rattle.xw_live.specs.Levels.{SameCells, states_before}
 use Rattle.xw_live.specs.Live.{state_of}
@@ -16,6 +16,11 @@ use Rattle.xw_live.proofs.Outcomes.{IsOutcome, kept_then, levels_then, cells_the
 use Rattle.xw_live.proofs.Placements.{last_in, last_moved, some_placement}
 use Rattle.xw_live.proofs.TriedPlacements.{tried_letter, tried_inside, same_but_entries}
 use Rattle.xw_live.proofs.searching.LiveSearchable.try_letter.Goals as goal
+
+pub enter-requires : goal.enter-requires
+enter-requires c =
+    let s : state_of c.keep_level.new.self ≡ state_of c.args.self.now = λ i. record { grid = c.in_ok-keep_level.ensures.grid i; words = c.in_ok-keep_level.ensures.words i } in
+    tried_takes (state_of c.keep_level.new.self) c.args.cell c.args.letter c.keep_level.new.self.position.formed.grid (subst (λ (state : State). MayTryLetter state c.args.cell c.args.letter) (sym s) c.requires)
 
 pub try_level-requires-clause-last : goal.try_level-requires-clause-last
 try_level-requires-clause-last c =
@@ -26,7 +31,7 @@ try_level-requires-clause-last c =
     let s : state_of c.keep_level.new.self ≡ state_of c.args.self.now = λ i. record { grid = c.in_ok-keep_level.ensures.grid i; words = c.in_ok-keep_level.ensures.words i } in
     let may = subst (λ (state : State). MayTryLetter state c.args.cell c.args.letter) (sym s) c.requires in
     let shape = c.enter.ensures.shape in
-    let made : after (state_of c.keep_level.new.self) (letter_set c.args.cell c.args.letter) ≡ Ok (position_state_of c.enter.new.self) = letter_made was there c.args.cell c.args.letter c.enter.result live.position.formed.grid may c.enter.ensures.made c.enter.ensures.refused in
+    let made : after (state_of c.keep_level.new.self) (letter_set c.args.cell c.args.letter) ≡ Ok (position_state_of c.enter.new.self) = c.enter.ensures.made in
     let is_tried : IsTriedOn (position_state_of c.enter.new.self) c.enter.new.self.notes.written c.keep_level.new.self.net =
     tried_letter was there c.args.cell c.args.letter c.enter.new.self.notes.written live.net live.position.formed c.enter.new.self.formed may made c.enter.ensures.told.cells shape c.enter.ensures.words live.kept.settled in
     let last = last_moved (state_of old) was old.net live.net old.levels.made.items live.levels.made.items (sym s) (sym c.in_ok-keep_level.ensures.net) c.in_ok-keep_level.ensures.last in
@@ -43,7 +48,7 @@ try_level-requires-clause-inside c =
     let s : state_of c.keep_level.new.self ≡ state_of c.args.self.now = λ i. record { grid = c.in_ok-keep_level.ensures.grid i; words = c.in_ok-keep_level.ensures.words i } in
     let may = subst (λ (state : State). MayTryLetter state c.args.cell c.args.letter) (sym s) c.requires in
     let shape = c.enter.ensures.shape in
-    let made : after (state_of c.keep_level.new.self) (letter_set c.args.cell c.args.letter) ≡ Ok (position_state_of c.enter.new.self) = letter_made was there c.args.cell c.args.letter c.enter.result live.position.formed.grid may c.enter.ensures.made c.enter.ensures.refused in
+    let made : after (state_of c.keep_level.new.self) (letter_set c.args.cell c.args.letter) ≡ Ok (position_state_of c.enter.new.self) = c.enter.ensures.made in
     let is_tried : IsTriedOn (position_state_of c.enter.new.self) c.enter.new.self.notes.written c.keep_level.new.self.net =
     tried_letter was there c.args.cell c.args.letter c.enter.new.self.notes.written live.net live.position.formed c.enter.new.self.formed may made c.enter.ensures.told.cells shape c.enter.ensures.words live.kept.settled in
     tried_inside was there (letter_set c.args.cell c.args.letter) c.enter.new.self.notes.written live.position.formed made c.enter.ensures.told.cells
@@ -57,7 +62,7 @@ try_level-requires-clause-tried c =
     let s : state_of c.keep_level.new.self ≡ state_of c.args.self.now = λ i. record { grid = c.in_ok-keep_level.ensures.grid i; words = c.in_ok-keep_level.ensures.words i } in
     let may = subst (λ (state : State). MayTryLetter state c.args.cell c.args.letter) (sym s) c.requires in
     let shape = c.enter.ensures.shape in
-    let made : after (state_of c.keep_level.new.self) (letter_set c.args.cell c.args.letter) ≡ Ok (position_state_of c.enter.new.self) = letter_made was there c.args.cell c.args.letter c.enter.result live.position.formed.grid may c.enter.ensures.made c.enter.ensures.refused in
+    let made : after (state_of c.keep_level.new.self) (letter_set c.args.cell c.args.letter) ≡ Ok (position_state_of c.enter.new.self) = c.enter.ensures.made in
     let is_tried : IsTriedOn (position_state_of c.enter.new.self) c.enter.new.self.notes.written c.keep_level.new.self.net =
     tried_letter was there c.args.cell c.args.letter c.enter.new.self.notes.written live.net live.position.formed c.enter.new.self.formed may made c.enter.ensures.told.cells shape c.enter.ensures.words live.kept.settled in
     is_tried
@@ -71,7 +76,7 @@ try_level-requires-clause-seen c =
     let s : state_of c.keep_level.new.self ≡ state_of c.args.self.now = λ i. record { grid = c.in_ok-keep_level.ensures.grid i; words = c.in_ok-keep_level.ensures.words i } in
     let may = subst (λ (state : State). MayTryLetter state c.args.cell c.args.letter) (sym s) c.requires in
     let shape = c.enter.ensures.shape in
-    let made : after (state_of c.keep_level.new.self) (letter_set c.args.cell c.args.letter) ≡ Ok (position_state_of c.enter.new.self) = letter_made was there c.args.cell c.args.letter c.enter.result live.position.formed.grid may c.enter.ensures.made c.enter.ensures.refused in
+    let made : after (state_of c.keep_level.new.self) (letter_set c.args.cell c.args.letter) ≡ Ok (position_state_of c.enter.new.self) = c.enter.ensures.made in
     let is_tried : IsTriedOn (position_state_of c.enter.new.self) c.enter.new.self.notes.written c.keep_level.new.self.net =
     tried_letter was there c.args.cell c.args.letter c.enter.new.self.notes.written live.net live.position.formed c.enter.new.self.formed may made c.enter.ensures.told.cells shape c.enter.ensures.words live.kept.settled in
     let last = c.in_ok-keep_level.ensures.last in
@@ -89,7 +94,7 @@ invariant_of-self c =
     let s : state_of c.keep_level.new.self ≡ state_of c.args.self.now = λ i. record { grid = c.in_ok-keep_level.ensures.grid i; words = c.in_ok-keep_level.ensures.words i } in
     let may = subst (λ (state : State). MayTryLetter state c.args.cell c.args.letter) (sym s) c.requires in
     let shape = c.enter.ensures.shape in
-    let made : after (state_of c.keep_level.new.self) (letter_set c.args.cell c.args.letter) ≡ Ok (position_state_of c.enter.new.self) = letter_made was there c.args.cell c.args.letter c.enter.result live.position.formed.grid may c.enter.ensures.made c.enter.ensures.refused in
+    let made : after (state_of c.keep_level.new.self) (letter_set c.args.cell c.args.letter) ≡ Ok (position_state_of c.enter.new.self) = c.enter.ensures.made in
     let is_tried : IsTriedOn (position_state_of c.enter.new.self) c.enter.new.self.notes.written c.keep_level.new.self.net =
     tried_letter was there c.args.cell c.args.letter c.enter.new.self.notes.written live.net live.position.formed c.enter.new.self.formed may made c.enter.ensures.told.cells shape c.enter.ensures.words live.kept.settled in
     let last = last_moved (state_of old) was old.net live.net old.levels.made.items live.levels.made.items (sym s) (sym c.in_ok-keep_level.ensures.net) c.in_ok-keep_level.ensures.last in
@@ -111,7 +116,7 @@ invariant_of-self-2 c =
     let s : state_of c.keep_level.new.self ≡ state_of c.args.self.now = λ i. record { grid = c.in_ok-keep_level.ensures.grid i; words = c.in_ok-keep_level.ensures.words i } in
     let may = subst (λ (state : State). MayTryLetter state c.args.cell c.args.letter) (sym s) c.requires in
     let shape = c.enter.ensures.shape in
-    let made : after (state_of c.keep_level.new.self) (letter_set c.args.cell c.args.letter) ≡ Ok (position_state_of c.enter.new.self) = letter_made was there c.args.cell c.args.letter c.enter.result live.position.formed.grid may c.enter.ensures.made c.enter.ensures.refused in
+    let made : after (state_of c.keep_level.new.self) (letter_set c.args.cell c.args.letter) ≡ Ok (position_state_of c.enter.new.self) = c.enter.ensures.made in
     let is_tried : IsTriedOn (position_state_of c.enter.new.self) c.enter.new.self.notes.written c.keep_level.new.self.net =
     tried_letter was there c.args.cell c.args.letter c.enter.new.self.notes.written live.net live.position.formed c.enter.new.self.formed may made c.enter.ensures.told.cells shape c.enter.ensures.words live.kept.settled in
     let last = last_moved (state_of old) was old.net live.net old.levels.made.items live.levels.made.items (sym s) (sym c.in_ok-keep_level.ensures.net) c.in_ok-keep_level.ensures.last in
@@ -133,7 +138,7 @@ returns-clause-tried c =
     let s : state_of c.keep_level.new.self ≡ state_of c.args.self.now = λ i. record { grid = c.in_ok-keep_level.ensures.grid i; words = c.in_ok-keep_level.ensures.words i } in
     let may = subst (λ (state : State). MayTryLetter state c.args.cell c.args.letter) (sym s) c.requires in
     let shape = c.enter.ensures.shape in
-    let made : after (state_of c.keep_level.new.self) (letter_set c.args.cell c.args.letter) ≡ Ok (position_state_of c.enter.new.self) = letter_made was there c.args.cell c.args.letter c.enter.result live.position.formed.grid may c.enter.ensures.made c.enter.ensures.refused in
+    let made : after (state_of c.keep_level.new.self) (letter_set c.args.cell c.args.letter) ≡ Ok (position_state_of c.enter.new.self) = c.enter.ensures.made in
     let is_tried : IsTriedOn (position_state_of c.enter.new.self) c.enter.new.self.notes.written c.keep_level.new.self.net =
     tried_letter was there c.args.cell c.args.letter c.enter.new.self.notes.written live.net live.position.formed c.enter.new.self.formed may made c.enter.ensures.told.cells shape c.enter.ensures.words live.kept.settled in
     let last = last_moved (state_of old) was old.net live.net old.levels.made.items live.levels.made.items (sym s) (sym c.in_ok-keep_level.ensures.net) c.in_ok-keep_level.ensures.last in
@@ -152,7 +157,7 @@ returns-clause-levels c =
     let s : state_of c.keep_level.new.self ≡ state_of c.args.self.now = λ i. record { grid = c.in_ok-keep_level.ensures.grid i; words = c.in_ok-keep_level.ensures.words i } in
     let may = subst (λ (state : State). MayTryLetter state c.args.cell c.args.letter) (sym s) c.requires in
     let shape = c.enter.ensures.shape in
-    let made : after (state_of c.keep_level.new.self) (letter_set c.args.cell c.args.letter) ≡ Ok (position_state_of c.enter.new.self) = letter_made was there c.args.cell c.args.letter c.enter.result live.position.formed.grid may c.enter.ensures.made c.enter.ensures.refused in
+    let made : after (state_of c.keep_level.new.self) (letter_set c.args.cell c.args.letter) ≡ Ok (position_state_of c.enter.new.self) = c.enter.ensures.made in
     let is_tried : IsTriedOn (position_state_of c.enter.new.self) c.enter.new.self.notes.written c.keep_level.new.self.net =
     tried_letter was there c.args.cell c.args.letter c.enter.new.self.notes.written live.net live.position.formed c.enter.new.self.formed may made c.enter.ensures.told.cells shape c.enter.ensures.words live.kept.settled in
     let last = last_moved (state_of old) was old.net live.net old.levels.made.items live.levels.made.items (sym s) (sym c.in_ok-keep_level.ensures.net) c.in_ok-keep_level.ensures.last in

@@ -9,7 +9,7 @@ use Rattle.xw_grid.specs.Light.{lights_of}
 use Rattle.xw_feas.specs.Board.{Board, board_of, light_at}
 use Rattle.xw_feas.specs.Flags.{set_has}
 use Rattle.xw_feas.proofs.BoardLemmas.{length-lights, length-open_cells}
-use Rattle.xw_net.specs.Delta.{fields_of, Fields}
+use Rattle.xw_net.specs.Change.{fields_of, Fields}
 use Rattle.xw_net.specs.declared.net.Net.{Net}
 use Rattle.xw_net.specs.Marks.{AreSlotsApart}
 use Rattle.xw_net.specs.Nets.{pending_in, queued_in}

@@ -7,8 +7,8 @@ use Rattle.xw_net.specs.Room.{counts_of, HasRoom}
 use Rattle.xw_net.proofs.Nets.CopiedNets.{blank_reusable, settled_reusable}
 use Rattle.xw_net.proofs.net.Net.copy.Goals as goal
 
-pub copy_arrays-requires-clause-can : goal.copy_arrays-requires-clause-can
-copy_arrays-requires-clause-can c =
+pub copy_from-requires : goal.copy_from-requires
+copy_from-requires c =
     let net = c.in_ok-net.net in
     let words = c.args.bank.now.words in
     let grid = c.args.grid.now in

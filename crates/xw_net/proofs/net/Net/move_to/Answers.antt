@@ -8,7 +8,7 @@ use Rattle.xw_grid.specs.declared.lights.Light.{Light}
 use Rattle.xw_grid.specs.Light.{lights_of}
 use Rattle.xw_net.specs.Room.{counts_of, row_at, HaveBits}
 use Rattle.xw_net.specs.Fit.{AreFitted, AreNear, IsAtRest, IsTurned}
-use Rattle.xw_net.specs.Delta.{before_of, word_of}
+use Rattle.xw_net.specs.Change.{before_of, word_of}
 use Rattle.xw_net.proofs.Nets.MovedNets.{moved_net, near_fitted, near_whole}
 use Rattle.std.proofs.lemmas.Grind.{common_steps}
 use Rattle.xw_net.proofs.net.Net.move_to.Goals as goal

@@ -8,7 +8,7 @@ use Rattle.xw_net.specs.Opened.MayGain.{if_touched, if_queued}
 use Rattle.xw_net.specs.Spread.{no_positions}
 use Rattle.xw_net.specs.Worklist.{ListOfLights}
 use Rattle.xw_net.specs.Begin.{HasLength, Prepares, filled_of}
-use Rattle.xw_net.specs.Delta.{word_of, fields_of}
+use Rattle.xw_net.specs.Change.{word_of, fields_of}
 use Rattle.xw_net.proofs.Lists.ListsOfLights.{seeds_grow, grows_more}
 use Rattle.xw_net.proofs.Revivals.LettersComeBack.{spread_grows}
 use Rattle.xw_net.proofs.net.Net.open.Goals as goal

@@ -4,7 +4,7 @@ use Rattle.xw_net.specs.Nets.{IsShaped, HasBits}
 use Rattle.xw_net.specs.Update.{IsSized}
 use Rattle.xw_net.specs.Filled.{AreLong, HasRowRoom}
 use Rattle.xw_net.specs.Room.{counts_of}
-use Rattle.xw_net.specs.Delta.{before_of, word_of}
+use Rattle.xw_net.specs.Change.{before_of, word_of}
 use Rattle.xw_net.proofs.Nets.NetsAtRest.{stood_rest, stood_rows, stood_base}
 use Rattle.xw_net.proofs.Nets.SizesAtRest.{rest_shaped, rest_chained, rest_bits, rest_base, rest_room, rest_queued, rest_marked}
 use Rattle.xw_net.proofs.net.Net.revive.Goals as goal

@@ -5,7 +5,7 @@ use Rattle.xw_feas.specs.Board.{Board, board_of, light_at}
 use Rattle.xw_feas.specs.Flags.{set_has}
 use Rattle.xw_feas.specs.State.{State, Action}
 use Rattle.xw_net.specs.declared.net.Net.{Net}
-use Rattle.xw_net.specs.Delta.{word_of, fields_of, Fields, IsChange, AreReadsOf}
+use Rattle.xw_net.specs.Change.{word_of, fields_of, Fields, IsChange, AreReadsOf}
 use Rattle.xw_net.specs.Revival.{IsMatching, same_light}
 use Rattle.xw_net.specs.Marks.{IsSetting}
 use Rattle.xw_net.specs.Nets.{marks_of, word_stands, letter_stands, held_in, restart_in, pending_in, queued_in, IsQueue}

@@ -5,7 +5,7 @@ use Rattle.xw_feas.specs.EngineState.{state_of}
 use Rattle.xw_feas.specs.Standing.{HasRows}
 use Rattle.xw_feas.proofs.BoardLemmas.{length-open_cells}
 use Rattle.xw_feas.proofs.ShapeLemmas.{HasRows-shape}
-use Rattle.xw_feas.proofs.TryingLemmas.{letter_made}
+use Rattle.xw_feas.proofs.TryingLemmas.{tried_takes}
 use Rattle.xw_plain.proofs.Levels.{alike_then}
 use Rattle.xw_plain.proofs.plain.Plain.enter_letter.Goals as goal
 
@@ -31,7 +31,5 @@ invariant_of-self c =
       alike = alike_then engine.levels.items engine.position.grid now c.enter.ensures.shape engine.alike;
     }
 
-pub returns-clause-made : goal.returns-clause-made
-returns-clause-made c =
-    let before = state_of c.args.self.now.position in
-    letter_made before (state_of c.enter.new.self) c.args.cell c.args.letter c.enter.result c.args.self.now.position.formed.grid c.requires c.enter.ensures.made c.enter.ensures.refused
+pub enter-requires : goal.enter-requires
+enter-requires c = tried_takes (state_of c.args.self.now.position) c.args.cell c.args.letter c.args.self.now.position.formed.grid c.requires

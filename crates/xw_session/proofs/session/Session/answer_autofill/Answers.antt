@@ -1,7 +1,7 @@
 use Rattle.std.proofs.Common.{subst, refl}
 use Rattle.xw_grid.specs.Puzzle.{texts_view}
-use Rattle.xw_fill.specs.declared.search.Filling.TheVariants as fillings
-use Rattle.xw_fill.specs.NamedFill.{IsAutofilled}
+use Rattle.xw_search.specs.declared.filling.Filling.TheVariants as fillings
+use Rattle.xw_search.specs.NamedFill.{IsAutofilled}
 use Rattle.xw_commands.specs.declared.search.Search.TheVariants as searches
 use Rattle.xw_session.specs.State.{SessionState}
 use Rattle.xw_session.specs.Reply.{filling_line}

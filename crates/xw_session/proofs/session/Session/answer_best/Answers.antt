@@ -1,7 +1,7 @@
 use Rattle.std.proofs.Common.{subst}
 use Rattle.xw_grid.specs.Puzzle.{texts_view}
-use Rattle.xw_fill.specs.declared.best.Best.TheVariants as bests
-use Rattle.xw_fill.specs.Best.{IsBest}
+use Rattle.xw_best.specs.declared.best.Best.TheVariants as bests
+use Rattle.xw_best.specs.Best.{IsBest}
 use Rattle.xw_commands.specs.declared.search.Search.TheVariants as searches
 use Rattle.xw_session.specs.State.{SessionState}
 use Rattle.xw_session.specs.Best.{best_lines}

@@ -1,7 +1,7 @@
 use Rattle.std.proofs.Common.{◌≡◌, List, Ok, Err, ap, subst}
 use Rattle.std.specs.Prelude.{if◌then◌else◌}
 use Rattle.xw_grid.specs.Puzzle.{texts_view}
-use Rattle.xw_fill.specs.NamedFill.{AreLights}
+use Rattle.xw_search.specs.NamedFill.{AreLights}
 use Rattle.xw_commands.specs.declared.command.LightArg.{LightArg}
 use Rattle.xw_commands.specs.declared.query.Query.TheVariants as queries
 use Rattle.xw_answers.specs.declared.refusal.CommandRefusal.TheVariants as refusals

@@ -2,7 +2,7 @@ use Rattle.std.proofs.Common.{◌≡◌, ℕ, ap, sym, ◌∙◌, subst, refl, L
 use Rattle.std.specs.Prelude.{Some, flat_map}
 use Rattle.xw_grid.specs.Grid.{Grid}
 use Rattle.xw_feas.specs.declared.edit.Refusal.{Refusal}
-use Rattle.xw_fill.specs.Listing.{unlisted_of}
+use Rattle.xw_search.specs.Listing.{unlisted_of}
 use Rattle.xw_lines.specs.Sends.{Sends}
 use Rattle.xw_commands.specs.declared.query.Query.TheVariants as queries
 use Rattle.xw_answers.specs.declared.refusal.CommandRefusal.TheVariants as refusals

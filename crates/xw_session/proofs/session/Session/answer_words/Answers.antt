@@ -2,8 +2,8 @@ use Rattle.std.proofs.Common.{◌≡◌, ◌∙◌, ℕ, List, Some, ap, subst}
 use Rattle.std.specs.Prelude.{length}
 use Rattle.xw_grid.specs.Light.{lights_of, index_named}
 use Rattle.xw_lines.specs.Sends.{Sends}
-use Rattle.xw_fill.specs.Position.{position_of}
-use Rattle.xw_fill.specs.FeasibleWords.{feasible_words}
+use Rattle.xw_search.specs.Position.{position_of}
+use Rattle.xw_search.specs.FeasibleWords.{feasible_words}
 use Rattle.xw_commands.specs.declared.query.Query.TheVariants as queries
 use Rattle.xw_answers.specs.declared.refusal.CommandRefusal.TheVariants as refusals
 use Rattle.xw_feas.specs.declared.edit.Refusal.TheVariants as edits

@@ -1,7 +1,7 @@
 use Rattle.std.proofs.Common.{ℕ, ◌≡◌, length, Some, subst}
 use Rattle.xw_grid.specs.Light.{lights_of, index_named}
-use Rattle.xw_fill.specs.Position.{position_of}
-use Rattle.xw_fill.specs.FeasibleWords.{feasible_words}
+use Rattle.xw_search.specs.Position.{position_of}
+use Rattle.xw_search.specs.FeasibleWords.{feasible_words}
 use Rattle.xw_session.specs.State.{SessionState}
 use Rattle.xw_session.proofs.Engine.{counted}
 use Rattle.xw_session.proofs.session.Session.counted_by.Goals as goal

@@ -2,8 +2,8 @@ use Rattle.std.proofs.Common.{ℕ, List, Ok, ◌≡◌, subst}
 use Rattle.xw_letters.specs.LetterSet.{letters_in}
 use Rattle.xw_grid.specs.declared.cell.Cell.{Cell}
 use Rattle.xw_grid.specs.Grid.{index_of}
-use Rattle.xw_fill.specs.Position.{position_of}
-use Rattle.xw_fill.specs.FeasibleLetters.{feasible_letters}
+use Rattle.xw_search.specs.Position.{position_of}
+use Rattle.xw_search.specs.FeasibleLetters.{feasible_letters}
 use Rattle.xw_session.specs.State.{SessionState}
 use Rattle.xw_session.specs.Reply.{on_open}
 use Rattle.xw_session.proofs.Engine.{open_letters}

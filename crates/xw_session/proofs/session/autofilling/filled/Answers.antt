@@ -1,7 +1,7 @@
 use Rattle.std.proofs.Common.{List, ◌∙◌, subst, arith}
 use Rattle.std.specs.Prelude.{IfOk, IfErr}
 use Rattle.xw_grid.specs.declared.cell.LightName.{LightName}
-use Rattle.xw_fill.specs.NamedFill.{IsAutofilled, IsRefusal, is_named}
+use Rattle.xw_search.specs.NamedFill.{IsAutofilled, IsRefusal, is_named}
 use Rattle.xw_session.proofs.Naming.{on_ok, unsearched}
 use Rattle.xw_session.proofs.session.autofilling.filled.Goals as goal
 

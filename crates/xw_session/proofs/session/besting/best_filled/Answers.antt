@@ -1,12 +1,12 @@
 use Rattle.std.proofs.Common.{◌≡◌, ℕ, Bool, List, ◌∙◌, ap, subst, arith}
 use Rattle.std.specs.Prelude.{IfOk, IfErr, Result, Ok, Err}
 use Rattle.xw_grid.specs.declared.cell.LightName.{LightName}
-use Rattle.xw_fill.specs.NamedFill.{IsRefusal, is_named}
-use Rattle.xw_fill.specs.Best.{IsBest}
-use Rattle.xw_fill.specs.OneSearch.{IsOfOneSearch, IsBestWithin}
-use Rattle.xw_fill.specs.declared.allowance.Allowance.{Allowance}
-use Rattle.xw_fill.specs.declared.best.Best.{Best}
-use Rattle.xw_fill.specs.declared.best.Best.TheVariants.{Limit}
+use Rattle.xw_search.specs.NamedFill.{IsRefusal, is_named}
+use Rattle.xw_best.specs.Best.{IsBest}
+use Rattle.xw_best.specs.OneSearch.{IsOfOneSearch, IsBestWithin}
+use Rattle.xw_search.specs.declared.allowance.Allowance.{Allowance}
+use Rattle.xw_best.specs.declared.best.Best.{Best}
+use Rattle.xw_best.specs.declared.best.Best.TheVariants.{Limit}
 use Rattle.xw_feas.specs.State.{State}
 use Rattle.xw_feas.specs.declared.edit.Refusal.{Refusal}
 use Rattle.xw_session.proofs.Naming.{on_ok, unsearched}

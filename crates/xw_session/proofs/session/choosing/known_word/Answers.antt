@@ -2,7 +2,7 @@ use Rattle.std.proofs.Common.{◌≡◌, length, ap, sym, ◌∙◌, [], ◌<◌
 use Rattle.std.proofs.lemmas.List.{length-map, get_or-map}
 use Rattle.xw_words.specs.Dictionary.{Dictionary, Entry, known_words, entry_at, no_entry}
 use Rattle.xw_feas.specs.Board.{board_of, light_at}
-use Rattle.xw_fill.proofs.StateLemmas.{in_grid_light, light_size}
+use Rattle.xw_search.proofs.StateLemmas.{in_grid_light, light_size}
 use Rattle.xw_session.proofs.session.choosing.known_word.Goals as goal
 
 pub word-requires : goal.word-requires

@@ -3,8 +3,8 @@ use Rattle.std.proofs.lemmas.Bool.{ne_eqb, eq-eqb}
 use Rattle.xw_letters.specs.Letter.{folded}
 use Rattle.xw_words.specs.Dictionary.{Dictionary, index_of_word}
 use Rattle.xw_feas.specs.Board.{board_of, light_at}
-use Rattle.xw_fill.proofs.Shaped.{shaped}
-use Rattle.xw_fill.proofs.StateLemmas.{in_grid_light, light_size}
+use Rattle.xw_search.proofs.Shaped.{shaped}
+use Rattle.xw_search.proofs.StateLemmas.{in_grid_light, light_size}
 use Rattle.xw_session.proofs.Choosing.{of_other_length, of_this_length}
 use Rattle.xw_session.proofs.session.choosing.spelled_index.Goals as goal
 

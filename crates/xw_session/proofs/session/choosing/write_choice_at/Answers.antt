@@ -1,7 +1,7 @@
 use Rattle.std.proofs.Common.{◌≡◌, ◌<◌, List, ℕ, length, get_or, [], ◌∷◌, ap, sym, ◌∙◌, subst}
 use Rattle.xw_feas.specs.State.{State}
-use Rattle.xw_fill.specs.Position.{position_of}
-use Rattle.xw_fill.specs.Search.{light_count}
+use Rattle.xw_search.specs.Position.{position_of}
+use Rattle.xw_search.specs.Lights.{light_count}
 use Rattle.xw_fill.specs.Words.{spellings_at}
 use Rattle.xw_lines.specs.Sends.{Sends}
 use Rattle.xw_answers.specs.Text.{line_of}

@@ -2,12 +2,12 @@ use Rattle.std.proofs.Common.{◌≡◌, ℕ, ◌++◌, ◌∷◌, [], ◌+◌, 
 use Rattle.std.specs.Prelude.{flat_map, IfSome}
 use Rattle.std.proofs.lemmas.Result.{err_from_is_err_and}
 use Rattle.xw_feas.specs.State.{State}
-use Rattle.xw_fill.specs.Position.{position_of}
-use Rattle.xw_fill.specs.FeasibleWords.{feasible_words}
+use Rattle.xw_search.specs.Position.{position_of}
+use Rattle.xw_search.specs.FeasibleWords.{feasible_words}
 use Rattle.xw_fill.specs.Words.{spellings_at, words_left, IsNextWord, HasNoMore}
 use Rattle.xw_fill.specs.Choices.{fewest_after}
 use Rattle.xw_fill.specs.Suggesting.{IsTriedAt}
-use Rattle.xw_fill.proofs.Shaped.{distinct_words}
+use Rattle.xw_search.proofs.Shaped.{distinct_words}
 use Rattle.xw_fill.proofs.WordsLemmas.{feasible_known_words}
 use Rattle.xw_lines.specs.Device.{Begins, HasFailed}
 use Rattle.xw_lines.proofs.SendsLemmas.{next_stops}

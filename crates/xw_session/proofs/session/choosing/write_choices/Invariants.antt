@@ -1,6 +1,6 @@
 use Rattle.std.proofs.Common.{◌≡◌, ◌++◌, ℕ, List, take}
 use Rattle.std.specs.Prelude.{flat_map}
-use Rattle.xw_fill.specs.Position.{position_of}
+use Rattle.xw_search.specs.Position.{position_of}
 use Rattle.xw_fill.specs.Words.{words_left}
 use Rattle.xw_session.specs.Choices.{choice_line, choice_lines}
 use Rattle.xw_session.proofs.session.choosing.write_choices.Given as goal

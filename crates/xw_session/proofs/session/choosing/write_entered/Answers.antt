@@ -2,11 +2,11 @@ use Rattle.std.proofs.Common.{◌≡◌, ◌<◌, ◌≤◌, ◌∷◌, [], List
 use Rattle.std.specs.Prelude.{flat_map}
 use Rattle.std.proofs.lemmas.List.{take_all}
 use Rattle.xw_grid.specs.Grid.{Grid}
-use Rattle.xw_fill.specs.Position.{position_of}
-use Rattle.xw_fill.specs.FeasibleWords.{feasible_words}
-use Rattle.xw_fill.specs.Search.{spelling}
+use Rattle.xw_search.specs.Position.{position_of}
+use Rattle.xw_search.specs.FeasibleWords.{feasible_words}
+use Rattle.xw_search.specs.Lights.{spelling}
 use Rattle.xw_fill.specs.Choices.{fewest_after}
-use Rattle.xw_fill.proofs.StateLemmas.{in_grid_light}
+use Rattle.xw_search.proofs.StateLemmas.{in_grid_light}
 use Rattle.xw_fill.proofs.ChoiceLemmas.{entered_after}
 use Rattle.xw_lines.specs.Sends.{Sends}
 use Rattle.xw_answers.specs.Text.{line_of, pattern_of, light_of}

@@ -1,8 +1,8 @@
 use Rattle.std.proofs.Common.{◌≡◌, ◌<◌, ◌∙◌, ℕ, false, get_or, [], sym, subst}
 use Rattle.std.specs.Prelude.{IfSome}
 use Rattle.xw_feas.specs.State.{State}
-use Rattle.xw_fill.specs.Position.{position_of}
-use Rattle.xw_fill.specs.Search.{light_count, is_entered}
+use Rattle.xw_search.specs.Position.{position_of}
+use Rattle.xw_search.specs.Lights.{light_count, is_entered}
 use Rattle.xw_fill.specs.Choices.{fewest_after}
 use Rattle.xw_fill.specs.Suggesting.{IsTriedAt}
 use Rattle.xw_fill.specs.Words.{spellings_at}

@@ -1,7 +1,7 @@
 use Rattle.std.proofs.Common.{◌++◌, ◌∙◌, ℕ, List, [], refl, sym, ap, subst, append-nil, append_assoc}
 use Rattle.std.specs.Prelude.{flat_map}
 use Rattle.std.proofs.lemmas.Result.{err_from_is_err_and}
-use Rattle.xw_fill.specs.NamedFill.{AreLights}
+use Rattle.xw_search.specs.NamedFill.{AreLights}
 use Rattle.xw_commands.specs.declared.command.LightArg.{LightArg}
 use Rattle.xw_session.specs.Reply.{name_of_light}
 use Rattle.xw_session.specs.NamedSearch.{names_of}

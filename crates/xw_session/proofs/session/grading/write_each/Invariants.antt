@@ -1,6 +1,6 @@
 use Rattle.std.proofs.Common.{◌≡◌, ◌++◌, ℕ, List}
 use Rattle.std.specs.Prelude.{flat_map}
-use Rattle.xw_fill.specs.NamedFill.{AreLights}
+use Rattle.xw_search.specs.NamedFill.{AreLights}
 use Rattle.xw_session.specs.NamedSearch.{names_of}
 use Rattle.xw_session.specs.Grades.{named_line}
 use Rattle.xw_session.proofs.session.grading.write_each.Given as goal

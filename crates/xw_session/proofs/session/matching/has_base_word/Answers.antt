@@ -5,7 +5,7 @@ use Rattle.xw_words.specs.Dictionary.{Dictionary, matching_answer}
 use Rattle.xw_grid.specs.Grid.{Grid}
 use Rattle.xw_feas.specs.Board.{board_of}
 use Rattle.xw_feas.specs.Feasible.{base_words_at}
-use Rattle.xw_fill.proofs.StateLemmas.{in_grid_light}
+use Rattle.xw_search.proofs.StateLemmas.{in_grid_light}
 use Rattle.xw_answers.specs.Text.{pattern_of, light_of}
 use Rattle.xw_answers.proofs.BaseWords.{base_words_match, named_pattern}
 use Rattle.xw_session.proofs.session.matching.has_base_word.Goals as goal

@@ -26,7 +26,7 @@ invariant_of-self c =
       short = kept.short;
       long = kept.long;
       letters = ap length c.append.ensures.items ∙ length-append r.letters.items word ∙ (let e : length r.letters.items + length word ≡ (length flags + 1) * r.word_len = omega (arith, kept.letters, fits) in e) ∙ ap (λ n. n * r.word_len) (sym longer);
-      marks = ap length c.append_marks.ensures.items ∙ length_push r.marks.items c.new.result ∙ ap (λ n. n + 1) kept.marks ∙ sym longer;
+      marks = ap length c.push-2.ensures.items ∙ length_push r.marks.items c.new.result ∙ ap (λ n. n + 1) kept.marks ∙ sym longer;
       regraded = kept.regraded;
       regraded_whole = kept.regraded_whole;
       regraded_past = λ i le. kept.regraded_past i (omega (arith, le, longer));
@@ -37,7 +37,7 @@ invariant_of-self c =
       index_heads = λ some. omega (arith, kept.index_heads some, heads);
       index_room = omega (arith, kept.index_room, c.insert.ensures.room);
       letters_room = omega (arith, kept.letters_room, c.append.ensures.capacity);
-      marks_room = omega (arith, kept.marks_room, c.append_marks.ensures.capacity);
+      marks_room = omega (arith, kept.marks_room, c.push-2.ensures.room);
       active_room = omega (arith, kept.active_room, c.push.ensures.room);
     }
 
@@ -50,7 +50,7 @@ returns-clause-entries c =
     let new = c.new.result in
     let letters = c.append.new.letters.items in
     let flags = c.push.new.self.bits in
-    let marks = c.append_marks.new.marks.items in
+    let marks = c.push-2.new.self.items in
     let fits : length word ≡ len = c.requires.length ∙ sym (ap (λ (table : Table). table.word_len) c.self.view_is) in
     let known : List Entry = entries_of len r.letters.items r.active.bits r.regraded.bits r.marks.items in
     let alive : entry_of word true false new ≡ entry_of word true false (record { grade = new.grade; struck = false }) =
@@ -59,7 +59,7 @@ returns-clause-entries c =
     ap (λ grade. entry_of word true false (record { grade = grade; struck = false })) (c.new.ensures.grade ∙ c.grade_or-grade.ensures.grade) in
     ap (λ ls. entries_of len ls flags r.regraded.bits marks) c.append.ensures.items
     ∙ ap (λ fs. entries_of len (r.letters.items ++ word) fs r.regraded.bits marks) c.push.ensures.bits
-    ∙ ap (entries_of len (r.letters.items ++ word) (r.active.bits ++ true ∷ []) r.regraded.bits) c.append_marks.ensures.items
+    ∙ ap (entries_of len (r.letters.items ++ word) (r.active.bits ++ true ∷ []) r.regraded.bits) c.push-2.ensures.items
     ∙ entries_of-push len r.letters.items word r.active.bits r.regraded.bits r.marks.items true new kept.letters kept.marks fits kept.regraded_past
     ∙ ap (λ entry. known ++ entry ∷ []) (alive ∙ graded)
     ∙ ap (λ (table : Table). table.entries ++ new_entry c.args.least word c.args.grade ∷ []) c.self.view_is

@@ -12,13 +12,13 @@ pub invariant_of-self : goal.invariant_of-self
 invariant_of-self c =
     let r = c.self.inside in
     let kept = c.self.invariant in
-    let limited : c.limit_flags.new.active.bits ≡ map (are_left c.args.least) r.marks.items = c.limit_flags.ensures.bits ∙ ap (map (are_left c.args.least)) c.as_slice.ensures.value in
+    let limited : c.limit_flags.new.active.bits ≡ map (are_left c.args.least) r.marks.items = c.limit_flags.ensures.bits in
     IsKeptTable-marked r c.limit_flags.new.active r.regraded r.marks r.weights kept (ap length limited ∙ length-map r.marks.items (are_left c.args.least) ∙ kept.marks) refl kept.regraded_past refl (omega (arith, c.limit_flags.ensures.room)) (omega arith)
 
 pub returns-clause-entries : goal.returns-clause-entries
 returns-clause-entries c =
     let r = c.self.inside in
-    let limited : c.limit_flags.new.active.bits ≡ map (are_left c.args.least) r.marks.items = c.limit_flags.ensures.bits ∙ ap (map (are_left c.args.least)) c.as_slice.ensures.value in
+    let limited : c.limit_flags.new.active.bits ≡ map (are_left c.args.least) r.marks.items = c.limit_flags.ensures.bits in
     ap (λ (flags : List Bool). entries_of r.word_len r.letters.items flags r.regraded.bits r.marks.items) limited
     ∙ entries_of-limited r.word_len r.letters.items r.active.bits r.regraded.bits r.marks.items c.args.least c.self.invariant.marks
     ∙ ap (λ (table : Table). all_limited c.args.least table.entries) c.self.view_is

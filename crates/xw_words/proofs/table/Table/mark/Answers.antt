@@ -15,4 +15,4 @@ invariant_of-self c =
     (ap length c.put.ensures.bits ∙ length-set r.active.bits index c.args.active)
     (ap length c.put-2.ensures.bits ∙ length-set r.regraded.bits index c.args.regraded)
     (subst (AreClearFrom (length r.active.bits)) (sym c.put-2.ensures.bits) (AreClearFrom-set (length r.active.bits) r.regraded.bits index c.args.regraded within kept.regraded_past))
-    (length-set r.marks.items index c.args.marks) (omega (arith, c.put.ensures.room)) (omega arith)
+    (ap length c.put-3.ensures.items ∙ length-set r.marks.items index c.args.marks) (omega (arith, c.put.ensures.room)) (omega (arith, c.put-3.ensures.room))

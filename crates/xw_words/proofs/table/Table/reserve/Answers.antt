@@ -15,7 +15,7 @@ module _ (r s : Inside) (kept : IsKeptTable r) (len : s.word_len ≡ r.word_len)
       (subst (λ fs. IsIndex (word_in r.word_len r.letters.items) (length fs) s.index) (sym bits) index))
 
   still_kept : (0 < s.reserved → 2 ≤ r.word_len) → length r.active.bits ≤ s.reserved → s.reserved ≤ 1048576
-      → s.reserved * r.word_len ≤ vec_capacity s.letters → s.reserved ≤ vec_capacity s.marks → s.reserved ≤ s.active.room → s.reserved ≤ length s.regraded.bits → (0 < s.reserved → 0 < length s.index.heads) → s.reserved ≤ s.index.room → IsKeptTable s
+      → s.reserved * r.word_len ≤ vec_capacity s.letters → s.reserved ≤ s.marks.room → s.reserved ≤ s.active.room → s.reserved ≤ length s.regraded.bits → (0 < s.reserved → 0 < length s.index.heads) → s.reserved ≤ s.index.room → IsKeptTable s
   still_kept long within reserved_few letters_room marks_room active_room regraded_long index_heads index_room = record {
     short = omega (arith, kept.short, len);
     letters = ap length letters ∙ kept.letters ∙ ap (λ n. length r.active.bits * n) (sym len) ∙ ap (λ fs. length fs * s.word_len) (sym bits);
@@ -44,7 +44,7 @@ invariant_of-self-in_err-reserve_words c =
     let r = c.self.inside in
     let kept = c.self.invariant in
     still_kept r _ kept refl c.reserve_words.ensures.items c.reserve_words.ensures.bits c.reserve_words.ensures.regraded_whole c.reserve_words.ensures.regraded_bits c.reserve_words.ensures.marks_stay (reserved_index r c.deref.result.now c.reserve.new.self kept c.deref.ensures.value c.reserve.ensures.index)
-    kept.long kept.within kept.reserved_few (omega (arith, kept.letters_room, c.reserve_words.ensures.capacity)) (omega (arith, kept.marks_room, c.reserve_words.ensures.marks_capacity)) (omega (arith, kept.active_room, c.reserve_words.ensures.room_stays)) (omega (arith, kept.regraded, ap length c.in_err-reserve_words.ensures.regraded_stays))
+    kept.long kept.within kept.reserved_few (omega (arith, kept.letters_room, c.reserve_words.ensures.capacity)) (omega (arith, kept.marks_room, c.reserve_words.ensures.marks_room_stays)) (omega (arith, kept.active_room, c.reserve_words.ensures.room_stays)) (omega (arith, kept.regraded, ap length c.in_err-reserve_words.ensures.regraded_stays))
     (λ some. omega (arith, kept.index_heads some, c.reserve.ensures.heads_stay)) (omega (arith, kept.index_room, c.reserve.ensures.room_stays))
 
 pub invariant_of-self-2 : goal.invariant_of-self-2

@@ -6,7 +6,7 @@ use Rattle.xw_words.proofs.table.limiting.limit_flags.Goals as goal
 pub returns-clause-bits : goal.returns-clause-bits
 returns-clause-bits c =
     let flags = c.loop-chunk.active.bits in
-    let marks = c.args.marks.now in
+    let marks = c.args.marks.now.items in
     let is_left = are_left c.args.least in
     let long = c.loop-chunk.invariant.long in
     same_lists flags (map is_left marks) (long ∙ sym (length-map marks is_left)) (λ k d lt.

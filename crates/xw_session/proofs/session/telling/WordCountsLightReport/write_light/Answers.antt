@@ -3,7 +3,7 @@ use Rattle.std.specs.Prelude.{slice_get}
 use Rattle.std.proofs.lemmas.Option.{slice_get-get_or}
 use Rattle.xw_grid.specs.declared.lights.Light.{Light}
 use Rattle.xw_grid.specs.Light.{lights_of, no_light}
-use Rattle.xw_fill.proofs.StateLemmas.{in_grid_light}
+use Rattle.xw_search.proofs.StateLemmas.{in_grid_light}
 use Rattle.xw_lines.specs.Sends.{Sends}
 use Rattle.xw_session.proofs.Report.{counted_line}
 use Rattle.xw_session.proofs.session.telling.WordCountsLightReport.write_light.Goals as goal

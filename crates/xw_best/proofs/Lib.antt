@@ -1,0 +1,4 @@
+pub mod LeastLemmas
+pub mod CandidateLemmas
+pub mod GradeLemmas
+pub mod ClimbLemmas

@@ -1,9 +1,0 @@
-use Rattle.std.proofs.Common.{◌≡◌, ◌∙◌, append_assoc}
-use Rattle.xw_desk.proofs.Writing.{reports_as}
-use Rattle.xw_cli.specs.SessionFiles.{left_line}
-use Rattle.xw_cli.proofs.session_files.tell_left.Goals as goal
-
-pub returns-clause-told : goal.returns-clause-told
-returns-clause-told g c =
-    let line : c.as_bytes.result.now ≡ left_line c.args.file.now c.args.place.now = c.as_bytes.ensures.value ∙ (c.in_ok-text.ensures.ok ∙ simp append_assoc) in
-    reports_as _ _ _ _ line c.report.ensures

@@ -1,0 +1,7 @@
+pub mod Keeping
+pub mod ReplayReports
+pub mod WordLists
+pub mod JournalFiles
+pub mod Saved
+pub mod Put
+pub mod Converted

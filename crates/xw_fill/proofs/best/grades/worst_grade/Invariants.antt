@@ -1,6 +1,0 @@
-use Rattle.xw_fill.specs.NamedFill.{flags}
-use Rattle.xw_fill.proofs.LeastLemmas.{IsWorst}
-use Rattle.xw_fill.proofs.best.grades.worst_grade.Given as goal
-
-abbrev pub invariant-loop-light : goal.invariant-loop-light
-invariant-loop-light g l = record { worst : IsWorst l.light (flags l.flagged) (g.E.Feasible.state l.engine) l.worst }

@@ -1,6 +1,0 @@
-use Rattle.std.proofs.Common.{◌≡◌}
-use Rattle.xw_fill.specs.Listing.{duplicates_below}
-use Rattle.xw_fill.proofs.listing.duplicates.Given as goal
-
-abbrev pub invariant-loop-light : goal.invariant-loop-light
-invariant-loop-light g l = l.found.items ≡ duplicates_below (g.E.Feasible.state l.engine) l.light

@@ -1,5 +1,0 @@
-use Rattle.std.proofs.Common.{rules}
-use Rattle.xw_fill.proofs.listing.is_unlisted.Goals as goal
-
-pub returns-then-is_entered : goal.returns-then-is_entered
-returns-then-is_entered g c = search rules

@@ -1,8 +1,0 @@
-use Rattle.std.proofs.Common.{◌≡◌, false}
-use Rattle.xw_fill.specs.Position.{position_of}
-use Rattle.xw_fill.specs.Below.{any_below}
-use Rattle.xw_fill.proofs.CheckLemmas.{is_twin}
-use Rattle.xw_fill.proofs.named_lights.checks.is_spelled_again.Given as goal
-
-abbrev pub invariant-loop-other : goal.invariant-loop-other
-invariant-loop-other g l = any_below (is_twin (position_of (g.E.Feasible.state l.engine)) l.light) l.other ≡ false

@@ -1,0 +1,13 @@
+pub mod Allowance
+pub mod Below
+pub mod Position
+pub mod FeasibleWords
+pub mod FeasibleLetters
+pub mod Lights
+pub mod Linked
+pub mod Listing
+pub mod NamedFill
+pub mod Progress
+pub mod OfState
+pub mod Stack
+pub mod Writing
