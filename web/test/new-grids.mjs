@@ -407,6 +407,23 @@ const CASES = {
     return `${good} and ${bad} grids`;
   },
 
+  'a limit that boards break costs more'() {
+    // an empty square of nine by nine cells has 18 words
+    const board = new Board(new Frame(9, 9, 'none'));
+    board.hold([]);
+    const risenBy = (words, boards) => {
+      const cost = new Cost(board, wholeLimits({ words }, 9, 9), { count: () => 1000 });
+      cost.begin();
+      const before = cost.of();
+      for (let at = 0; at < boards; at++) cost.learn();
+      return Math.round(100 * (cost.of() - before)) / 100;
+    };
+    // 10 words over the limit, at 7 each: 6 in 100 more after one such board, three times as much at last
+    expect(risenBy(8, 1) === 4.2, `after one board the words cost ${risenBy(8, 1)} more`);
+    expect(risenBy(8, 1000) === 140, `after many boards the words cost ${risenBy(8, 1000)} more`);
+    expect(risenBy(18, 1000) === 0, `a limit that is kept costs ${risenBy(18, 1000)} more`);
+  },
+
   'lights that weak words match alone'() {
     // a square of three by three cells
     const costOf = (count) => {

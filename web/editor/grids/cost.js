@@ -6,7 +6,7 @@ import { Ease } from './ease.js';
 /** @typedef {{ words: number, blocks: number, threes: number, cheaters: number, lumps: number, long: number, dead: number, cut: number }} Figures */
 /** @typedef {keyof Figures} Fault what a board has too much of */
 
-// The prices. A fault that spoils a grid costs so much that no board has it at the end, if another can be had.
+// The prices at first. A fault that spoils a grid costs so much that no board has it at the end, if another can be had.
 export const PRICES = {
   // each word, block and so on over its limit, and each cell by which a light is too long
   words: 7, blocks: 7, threes: 6, cheaters: 7, lumps: 7, long: 6,
@@ -20,6 +20,11 @@ export const PRICES = {
   lack: 1.6,
 };
 
+// What has a limit. The price of each one over it rises with each board that breaks the limit and falls with each other one, from that above to so many times as
+// much. So no more than one board in seven breaks a limit in the long run, however tight it is.
+const LIMITED = /** @type {const} */ (['words', 'blocks', 'threes', 'cheaters', 'lumps']);
+const [RISE, FALL, MOST_TIMES] = [1.06, 0.99, 3];
+
 const over = (/** @type {number} */ count, /** @type {number} */ most) => (count > most ? count - most : 0);
 
 export class Cost {
@@ -31,6 +36,8 @@ export class Cost {
   #reach;
   // by how many cells entries are longer than other lights may be
   #spared = 0;
+  // the price of each word, block and so on over its limit, as the boards so far have it
+  #prices = { ...PRICES };
   /** @type {Figures} */
   figures = { words: 0, blocks: 0, threes: 0, cheaters: 0, lumps: 0, long: 0, dead: 0, cut: 0 };
 
@@ -73,6 +80,14 @@ export class Cost {
     this.#ease.keep();
   }
 
+  // Learns from the board as it stands: what boards often have too much of costs more.
+  learn() {
+    for (const name of LIMITED) {
+      const price = this.#prices[name] * (this.figures[name] > this.#limits[name] ? RISE : FALL);
+      this.#prices[name] = Math.min(MOST_TIMES * PRICES[name], Math.max(PRICES[name], price));
+    }
+  }
+
   // What the board has too much of, by the figures.
   /** @returns {Fault[]} */
   get faults() {
@@ -83,9 +98,10 @@ export class Cost {
   #priceOfCounts() {
     const { words, blocks, threes, cheaters, lumps, long } = this.figures;
     const limits = this.#limits;
-    return long * PRICES.long + threes * PRICES.anyThree + cheaters * PRICES.anyCheater + over(limits.words, words) * PRICES.spareWord
-      + over(words, limits.words) * PRICES.words + over(blocks, limits.blocks) * PRICES.blocks + over(threes, limits.threes) * PRICES.threes
-      + over(cheaters, limits.cheaters) * PRICES.cheaters + over(lumps, limits.lumps) * PRICES.lumps;
+    const prices = this.#prices;
+    return long * prices.long + threes * prices.anyThree + cheaters * prices.anyCheater + over(limits.words, words) * prices.spareWord
+      + over(words, limits.words) * prices.words + over(blocks, limits.blocks) * prices.blocks + over(threes, limits.threes) * prices.threes
+      + over(cheaters, limits.cheaters) * prices.cheaters + over(lumps, limits.lumps) * prices.lumps;
   }
 
   #count() {

@@ -8,6 +8,8 @@ import { Search } from './search.js';
 
 // the seed of the short searches that tell how well a grid fills, so that they are the same for all grids
 const JUDGED_SEED = 1;
+// the most placements that look for any fill, where one of good words was not found
+const MOST_ANY = 2000;
 
 /** @typedef {import('./grid.js').Grid} Grid */
 
@@ -68,13 +70,14 @@ export class Making {
   }
 
   // How well a short search fills a grid: how it ends, what is proved, and the scores of the words that it enters. Without scores no fill is better than another.
-  /** @param {{ lines: string[], placements: number, isScored: boolean }} sent */
-  fill({ lines, placements, isScored }) {
+  // `isFilled` says that the grid is known to have a fill, so none is looked for that has weak words.
+  /** @param {{ lines: string[], placements: number, isScored: boolean, isFilled?: boolean }} sent */
+  fill({ lines, placements, isScored, isFilled = false }) {
     replay(lines);
     const entries = new Set(ask('lights').filter(isWhole).map(({ light }) => light));
     const { answer: first, bound } = isScored ? outcome('best', placements, JUDGED_SEED) : { answer: 'limit', bound: null };
     // a grid without a good fill may have another
-    const answer = first === 'limit' ? outcome('autofill', placements, JUDGED_SEED).answer : first;
+    const answer = first === 'limit' && !isFilled ? outcome('autofill', isScored ? Math.min(placements, MOST_ANY) : placements, JUDGED_SEED).answer : first;
     const entered = answer === 'filled' ? ask('lights').filter(({ light }) => !entries.has(light)) : [];
     return { answer, bound: bound ?? Infinity, scores: entered.map(({ letters }) => scoreOf(letters)) };
   }

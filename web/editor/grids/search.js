@@ -60,6 +60,7 @@ export class Search {
     const placing = this.#placings.next();
     const cost = placing.score + this.#anneal(this.#begun(placing.places));
     const grid = this.#asGrid(cost);
+    this.#cost.learn();
     this.#placings.tell(placing, cost, grid);
     if (grid) this.#around.set(grid, placing);
     return grid;

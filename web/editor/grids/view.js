@@ -197,7 +197,7 @@ export class GridsView {
    */
   async #fill(search, worker, { trial, placements }) {
     const { scored: isScored, weak } = this.#editor.list;
-    const { answer, bound, scores } = await worker.call('fillGrid', { lines: linesOf(trial.grid), placements, isScored });
+    const { answer, bound, scores } = await worker.call('fillGrid', { lines: linesOf(trial.grid), placements, isScored, isFilled: trial.isFilled });
     search.trials.tell(trial, { answer, bound, figures: figuresOf(scores, weak) });
     if (answer === 'nofill') this.#lose(search, trial.grid);
     else if (this.#isOn(search.turn)) this.#showBest(search, trial);
