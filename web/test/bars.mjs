@@ -43,6 +43,8 @@ const SEED = [9];
 const SUNDAY = [21, 17, 17, 15, 15, 13, 13];
 const [SUNDAY_AFTER, SUNDAY_BEST] = [15, 30];
 const TIMES = [1, 2, 3, 4, 5, 6];
+// how many milliseconds pass between the list and the first key
+const WARM = 5000;
 
 const room = mkdtempSync(join(tmpdir(), 'xw-bars-'));
 const lines = readFileSync(list, 'latin1').toUpperCase().split(/\r?\n/).filter(Boolean).map((line) => line.split(';'));
@@ -103,6 +105,8 @@ async function openPage(browser) {
   await takeList(browser);
   await browser.until(`/^${scores.size.toLocaleString('en')} words|, ${scores.size.toLocaleString('en')} words/.test(document.getElementById('facts').textContent)`);
   await browser.value("document.getElementById('grid').focus()");
+  // the workers load the words meanwhile, as they do while a setter types
+  await pause(WARM);
 }
 
 const recordFor = ([pattern, name]) => (folder ? readFileSync(join(folder, `${name}.xw`), 'latin1') : recordOf(rowsOf(PATTERNS.find((one) => one.name === pattern)), 'half'));

@@ -159,18 +159,17 @@ export class GridsView {
     const search = { turn, wanted: this.#wanted, trials: new Trials(), cards: new WeakMap(), unfilled: [], lost: 0, told: [] };
     this.#isBusy = true;
     this.#say('looking for grids …');
-    const workers = await Promise.all(this.#workers());
-    const seeds = workers.map((_, at) => SEEDS * (workers.length * this.#seed + at) + 1);
-    this.#seed++;
-    const begun = await Promise.all(workers.map((worker, at) => worker.call('beginGrids', { wanted: search.wanted, seed: seeds[at], weak: this.#weak })));
-    if (this.#isOn(turn) && !begun.includes(true)) return this.#end('The entries cannot stand together within these limits: try another size or symmetry, or fewer entries.');
-    await Promise.all(workers.map(async (worker, at) => {
-      while (this.#isOn(turn)) {
+    const [first, weak] = [SEEDS * MOST_WORKERS * this.#seed++ + 1, this.#weak];
+    // each worker begins once it has the words
+    await Promise.all(this.#workers().map(async (opened, at) => {
+      const worker = await opened;
+      const isPossible = await worker.call('beginGrids', { wanted: search.wanted, seed: first + SEEDS * at, weak });
+      while (isPossible && this.#isOn(turn)) {
         const next = search.trials.next();
         await (next ? this.#fill(search, worker, next) : this.#find(search, worker, at));
       }
     }));
-    return undefined;
+    if (this.#isOn(turn)) this.#end('The entries cannot stand together within these limits: try another size or symmetry, or fewer entries.');
   }
 
   // Looks for grids in a worker for some time.
@@ -186,7 +185,7 @@ export class GridsView {
     for (const grid of unfilled) this.#lose(search, grid);
     if (!this.#isOn(search.turn)) return;
     this.#say(this.#summary(search));
-    if (!at && !search.trials.count) await this.#showMisses(search, worker);
+    if (at === search.told.findIndex(Boolean) && !search.trials.count) await this.#showMisses(search, worker);
   }
 
   // Has a worker fill a grid, and shows the best ones.
