@@ -20,8 +20,8 @@ export const PRICES = {
   lack: 1.6,
 };
 
-// What has a limit. The price of each one over it rises with each board that breaks the limit and falls with each other one, from that above to so many times as
-// much. So no more than one board in seven breaks a limit in the long run, however tight it is.
+// What has a limit. After a board that breaks it, what is over it costs 6 in 100 more, and after any other board 1 in 100 less: never less than above, nor more than
+// three times that. So about one board in seven breaks a limit in the long run, more if it is too tight for such prices, and fewer if it is easy to keep.
 const LIMITED = /** @type {const} */ (['words', 'blocks', 'threes', 'cheaters', 'lumps']);
 const [RISE, FALL, MOST_TIMES] = [1.06, 0.99, 3];
 

@@ -159,7 +159,8 @@ export class GridsView {
     const search = { turn, wanted: this.#wanted, trials: new Trials(), cards: new WeakMap(), unfilled: [], lost: 0, told: [] };
     this.#isBusy = true;
     this.#say('looking for grids …');
-    const [first, weak] = [SEEDS * MOST_WORKERS * this.#seed++ + 1, this.#weak];
+    const [first, weak] = [SEEDS * MOST_WORKERS * this.#seed + 1, this.#weak];
+    this.#seed++;
     // each worker begins once it has the words
     await Promise.all(this.#workers().map(async (opened, at) => {
       const worker = await opened;
