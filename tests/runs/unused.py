@@ -76,7 +76,6 @@ xw_desk/proofs/Checks: not_read
 xw_desk/proofs/Writing: reasoned unreasoned
 xw_feas/proofs/EditsLemmas: block_refused refusal_made
 xw_feas/proofs/FormedLemmas: formed_steps
-xw_feas/proofs/JudgeLemmas: grid_of_after
 xw_feas/proofs/Noting: same_length
 xw_feas/proofs/ShapeLemmas: made_steps shape_steps
 xw_files/proofs/CellLemmas: map-none

@@ -3,14 +3,13 @@
 //! short says nothing of the other cells.
 ghost use Rattle.std.specs.Prelude.{◌≡◌, ℕ, ◌*◌, ◌<◌, ◌≤◌, ◌⊎◌, Bool, true, Some, Ok, IfSome, IfNone, slice_get};
 ghost use Rattle.xw_grid.specs.declared.cell.Cell.{Cell as SpecCell};
+ghost use Rattle.xw_grid.specs.Edit.{toggle_block};
 ghost use Rattle.xw_grid.specs.Grid.{Grid as SpecGrid, cell_at as spec_cell_at};
 ghost use Rattle.xw_grid.specs.Light.{begins_some, number_at};
-ghost use Rattle.xw_feas.specs.State.{action_of, grid_after};
 ghost use Rattle.xw_answers.specs.Numbering.{AreNumbered, IsApart, start_named as spec_start_named};
 
 use std::alloc::Global;
 use xw_commands::command::LightArg;
-use xw_feas::edit::Edit;
 use xw_grid::lights::begins;
 use xw_grid::{Cell, Direction, Grid};
 
@@ -115,15 +114,12 @@ fn forget_near(grid: &Grid, known: &mut Vec<Option<bool>>, cell: Cell)
     }
 }
 
-/// Forgets the cells that an edit can change.
-pub fn forget(grid: &Grid, known: &mut Vec<Option<bool>>, edit: &Edit<'_>)
+/// Forgets the cells whose numbers a block at a cell can change.
+pub fn forget_block(grid: &Grid, known: &mut Vec<Option<bool>>, cell: Cell)
     requires { AreNumbered grid.now known.old.items }
     ensures same { AreNumbered grid.now known.new.items }
-    ensures made { (new : SpecGrid) → grid_after grid.now (action_of edit.now) ≡ Ok new → AreNumbered new known.new.items }
+    ensures made { (new : SpecGrid) → toggle_block grid.now cell ≡ Ok new → AreNumbered new known.new.items }
 {
     grid.well_formed();
-    match *edit {
-        Edit::Block(cell) => forget_near(grid, known, cell),
-        _ => known.clear(),
-    }
+    forget_near(grid, known, cell);
 }

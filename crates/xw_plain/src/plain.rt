@@ -71,41 +71,6 @@ fn settle_anew(
     settle_position(position, words, letters);
 }
 
-/// Makes an edit that no rule refuses, with rows of flags that fit after it. It allocates the rows first, so a failed
-/// allocation changes nothing. The letters tell the prover the number of cells.
-fn make(
-    alloc: Global,
-    position: &mut EngineState,
-    words: &mut Vec<Flags>,
-    letters: &Vec<LetterSet>,
-    edit: &Pending<'_>,
-) -> Result<(), Refusal>
-    requires rows { HasRows (board_of position.old.grid) position.old.bank.words words.old.items letters.now.items }
-    requires pending { IsPending (position_state_of position.old) edit.now }
-    ensures made { OnOk result (after (position_state_of position.old) (pending_action (position_state_of position.old) edit.now) ≡ Ok (position_state_of position.new)) }
-    ensures rows { OnOk result (HasRows (board_of position.new.grid) position.new.bank.words words.new.items letters.now.items) }
-    ensures refused { IfErr result (λ refusal. IsRefused (position_state_of position.old) (pending_action (position_state_of position.old) edit.now) refusal) }
-    ensures same { OnErr result (position_state_of position.new ≡ position_state_of position.old) }
-    ensures kept { OnErr result (words.new ≡ words.old) }
-{
-    let _ = letters;
-    match edit {
-        Pending::InPlace(edit) => position.commit(edit),
-        Pending::Shape(edit) => {
-            let (grid, lights) = position.shaped(alloc, edit)?;
-            *words = make_grid_rows(alloc, &grid, &lights, &position.bank)?;
-            position.reshape(edit, grid, lights);
-        }
-        Pending::New(word, grade) => {
-            let rows = make_grown_rows(alloc, position, word.len())?;
-            position.reserve(word)?;
-            position.append(word, *grade);
-            *words = rows;
-        }
-    }
-    Ok(())
-}
-
 /// An engine that computes all answers from scratch after each edit.
 ///
 /// It keeps a flag for each word of each light, a set of letters for each cell, the sets from before the last edit, and the
@@ -167,7 +132,8 @@ impl Plain {
         }
     }
 
-    /// Applies an edit, computes the answers, and forgets the levels.
+    /// Applies an edit, computes the answers, and forgets the levels. It allocates rows of flags that fit after the edit first, so
+    /// a failed allocation changes nothing.
     fn apply(&mut self, edit: &Edit<'_>) -> Result<(), Refusal>
         ensures { IsApplied self.old self.new (action_of edit.now) result }
     {
@@ -176,13 +142,21 @@ impl Plain {
             Ok(pending) => pending,
             Err(refusal) => return Err(refusal),
         };
-        make(
-            self.alloc,
-            &mut self.position,
-            &mut self.words,
-            &self.letters,
-            &pending,
-        )?;
+        match &pending {
+            Pending::InPlace(edit) => self.position.commit(edit),
+            Pending::Shape(edit) => {
+                let (grid, lights) = self.position.shaped(self.alloc, edit)?;
+                let rows = make_grid_rows(self.alloc, &grid, &lights, &self.position.bank)?;
+                self.position.reshape(edit, grid, lights);
+                self.words = rows;
+            }
+            Pending::New(word, grade) => {
+                let rows = make_grown_rows(self.alloc, &self.position, word.len())?;
+                self.position.reserve(word)?;
+                self.position.append(word, *grade);
+                self.words = rows;
+            }
+        }
         settle_anew(
             &self.position,
             &mut self.words,

@@ -1,13 +1,13 @@
 -- Lines that are executed with one update of the engine.
 use Rattle.std.proofs.Common.{◌≡◌, ◌∙◌, ap, sym, inl, inr, refl, ℕ, ◌+◌, ◌<◌, true, List, [], ◌∷◌, ◌++◌, length, Option, Some, None, subst, append_assoc, append-nil, length-append, arith}
-use Rattle.std.specs.Prelude.{Bool, Result, Ok, Err, IfSome, IfNone, OnOk, OnErr}
+use Rattle.std.specs.Prelude.{Result, Ok, Err, IfSome, OnOk, OnErr}
 use Rattle.std.specs.Borrow.{Bor}
 use Rattle.std.specs.Option.{is_some}
 use Rattle.xw_grid.specs.declared.fault.GridFault.{GridFault}
 use Rattle.xw_grid.specs.Grid.{Grid}
 use Rattle.xw_feas.specs.declared.edit.Edit.{Edit}
 use Rattle.xw_feas.specs.declared.edit.Refusal.{Refusal}
-use Rattle.xw_feas.specs.State.{State, Action, action_of, after as state_after, with_grid, grid_after}
+use Rattle.xw_feas.specs.State.{State, action_of, after as state_after, with_grid, grid_after}
 use Rattle.xw_commands.specs.declared.command.Command.{Command}
 use Rattle.xw_commands.specs.declared.command.Command.TheVariants as commands
 use Rattle.xw_commands.specs.declared.query.Query.TheVariants as queries
@@ -26,7 +26,6 @@ use Rattle.xw_session.specs.declared.session.putting.Target.TheVariants as targe
 use Rattle.xw_session.specs.Put.{CanPut, target_of, with_piece}
 use Rattle.xw_lines.specs.Cut.{lines_of}
 use Rattle.xw_session.specs.Drafting.{IsMade, IsOfGrid, IsRedrawn, is_report}
-use Rattle.xw_answers.specs.Numbering.{AreNumbered}
 use Rattle.xw_session.specs.Reply.{changed, edited, grid_memory, moved, watch_lines}
 use Rattle.xw_session.specs.Answer.{Asks, Edits, IsExecuted, reply_of}
 use Rattle.xw_commands.specs.Command.{command_of}
@@ -59,13 +58,6 @@ module _ (state : SessionState) (old new : Grid) (change : Change) (edit : Edit)
     is = refl;
     effect = ap (drawn state) made.2;
   }
-
--- what is known of the numbers of cells before an edit and after it is known of the grid that it leaves
-pub made-numbered : (old new : Grid) (action : Action) (made : Option (Result (Unit {0}) Refusal)) (known : List (Option Bool)) → IfSome made (λ result. IsMade old action result new) → IfNone made (new ≡ old) → AreNumbered old known
-    → ((after : Grid) → grid_after old action ≡ Ok after → AreNumbered after known) → AreNumbered new known
-made-numbered old new action None known some none before after = subst (λ (grid : Grid). AreNumbered grid known) (sym none) before
-made-numbered old new action (Some (Ok done)) known some none before after = after new some.1
-made-numbered old new action (Some (Err refusal)) known some none before after = subst (λ (grid : Grid). AreNumbered grid known) (sym some.2) before
 
 -- ---- other commands
 

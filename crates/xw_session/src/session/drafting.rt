@@ -7,7 +7,7 @@
 ghost use Rattle.std.specs.Prelude.{◌≡◌, ◌+◌, ◌<◌, ◌^◌, length, true, false, Result, IfSome, IfNone};
 ghost use Rattle.xw_grid.specs.Light.{lights_of};
 ghost use Rattle.xw_grid.specs.Puzzle.{texts_view};
-ghost use Rattle.xw_feas.specs.State.{action_of, letter_set, cell_cleared, word_placed};
+ghost use Rattle.xw_feas.specs.State.{action_of, letter_set, cell_cleared, word_placed, block_toggled, bar_toggled, symmetry_chosen};
 ghost use Rattle.xw_commands.specs.declared.change.Change.{Change as SpecChange};
 ghost use Rattle.xw_commands.specs.declared.command.Command.TheVariants as commands;
 ghost use Rattle.xw_session.specs.Answer.{Asks, IsExecuted};
@@ -23,7 +23,7 @@ use crate::session::changing::start_in;
 use crate::session::ending::Ended;
 use std::alloc::Global;
 use std::marker::Model;
-use xw_answers::numbering::{forget, start_named};
+use xw_answers::numbering::{forget_block, start_named};
 use xw_answers::refusal::CommandRefusal;
 use xw_commands::command::LightArg;
 use xw_commands::{Change, Command, Query};
@@ -31,7 +31,7 @@ use xw_feas::edit::{Edit, Refusal};
 use xw_feas::feasible::Feasible;
 use xw_feas::place::place;
 use xw_grid::puzzle::{Puzzle, Texts};
-use xw_grid::{Cell, Circles, Clues, Grid, LightName, Lights};
+use xw_grid::{Cell, Circles, Clues, Grid, LightName, Lights, Side, Symmetry};
 use xw_letters::Letter;
 use xw_text::lines::first_line;
 
@@ -60,23 +60,6 @@ fn clear_cell(grid: &mut Grid, cell: Cell) -> Result<(), Refusal>
     grid.well_formed();
     grid.clear(cell)?;
     Ok(())
-}
-
-/// Makes an edit of a grid that may change its lights. Returns `None` if it is another edit.
-fn reshape(grid: &mut Grid, edit: &Edit<'_>) -> Option<Result<(), Refusal>>
-    ensures some { IfSome result (λ made. IsMade grid.old (action_of edit.now) made grid.new) }
-    ensures none { IfNone result (grid.new ≡ grid.old) }
-{
-    let made = match *edit {
-        Edit::Block(cell) => grid.toggle_block(cell),
-        Edit::Bar(cell, side) => grid.toggle_bar(cell, side),
-        Edit::Symmetry(kind) => grid.set_symmetry(kind),
-        _ => return None,
-    };
-    match made {
-        Ok(()) => Some(Ok(())),
-        Err(fault) => Some(Err(Refusal::Grid(fault))),
-    }
 }
 
 /// A copy of the grid that a replay edits, its lights if they were found, and what is known of the numbers of its cells.
@@ -163,6 +146,39 @@ impl Draft {
         }
     }
 
+    /// Toggles the block of a cell.
+    fn toggle_block(&mut self, cell: Cell) -> Result<(), Refusal>
+        ensures { IsMade self.old (block_toggled cell) result self.new }
+    {
+        self.lights = None;
+        self.asked = 0;
+        forget_block(&self.grid, &mut self.known, cell);
+        self.grid.toggle_block(cell)?;
+        Ok(())
+    }
+
+    /// Toggles the bar of an edge.
+    fn toggle_bar(&mut self, cell: Cell, side: Side) -> Result<(), Refusal>
+        ensures { IsMade self.old (bar_toggled cell side) result self.new }
+    {
+        self.lights = None;
+        self.asked = 0;
+        self.known.clear();
+        self.grid.toggle_bar(cell, side)?;
+        Ok(())
+    }
+
+    /// Chooses the symmetry of the grid.
+    fn set_symmetry(&mut self, kind: Symmetry) -> Result<(), Refusal>
+        ensures { IsMade self.old (symmetry_chosen kind) result self.new }
+    {
+        self.lights = None;
+        self.asked = 0;
+        self.known.clear();
+        self.grid.set_symmetry(kind)?;
+        Ok(())
+    }
+
     /// Makes an edit. Returns `None`, and changes nothing, if it needs the engine, or if an allocation fails.
     fn make(&mut self, edit: &Edit<'_>) -> Option<Result<(), Refusal>>
         ensures some { IfSome result (λ made. IsMade self.old (action_of edit.now) made self.new) }
@@ -179,12 +195,10 @@ impl Draft {
                 Some(clear_cell(&mut self.grid, cell))
             }
             Edit::Place(name, word) => self.place(name, word),
-            _ => {
-                forget(&self.grid, &mut self.known, edit);
-                self.lights = None;
-                self.asked = 0;
-                reshape(&mut self.grid, edit)
-            }
+            Edit::Block(cell) => Some(self.toggle_block(cell)),
+            Edit::Bar(cell, side) => Some(self.toggle_bar(cell, side)),
+            Edit::Symmetry(kind) => Some(self.set_symmetry(kind)),
+            Edit::Write(_) | Edit::Add(..) | Edit::Strike(_) | Edit::Least(_) => None,
         }
     }
 
