@@ -200,6 +200,7 @@ pub plan_at : (state : State) (grade : ℕ) (plan : Plan) → IsPlan (position_o
 plan_at state grade plan is = record {
   watched = record { long = is.watched.long; are = is.watched.are };
   targets = record { sound = is.targets.sound; all = is.targets.all };
+  crossings = is.crossings;
 }
 
 -- what a search that found a fill left

@@ -13,7 +13,7 @@ same_above w zero half lt = absurd (omega arith)
 same_above w (suc k) half lt = bit_at-suc (w - 1) k ∙ ap (λ n. bit_at n k) half ∙ sym (bit_at-suc w k)
 
 -- a number less one has the 1s above its lowest
-above_lowest : (t w k : ℕ) → 0 < w → bit_at w t ≡ 1 → ((i : ℕ) → i < t → bit_at w i ≡ 0) → t < k → bit_at (w - 1) k ≡ bit_at w k
+pub above_lowest : (t w k : ℕ) → 0 < w → bit_at w t ≡ 1 → ((i : ℕ) → i < t → bit_at w i ≡ 0) → t < k → bit_at (w - 1) k ≡ bit_at w k
 above_lowest zero w k some set low lt =
     let odd : w % 2 ≡ 1 = sym (bit_at_lowest w) ∙ set in
     same_above w k (omega arith) lt
@@ -24,6 +24,17 @@ above_lowest (suc t) w (suc k) some set low lt =
     bit_at-suc (w - 1) k ∙ ap (λ n. bit_at n k) half
     ∙ above_lowest t (w / 2) k (omega arith) (sym (bit_at-suc w t) ∙ set) (λ i below. sym (bit_at-suc w i) ∙ low (suc i) (omega arith)) (omega arith)
     ∙ sym (bit_at-suc w k)
+
+-- a number less one has a 0 in place of its lowest 1
+pub at_lowest : (t w : ℕ) → 0 < w → bit_at w t ≡ 1 → ((i : ℕ) → i < t → bit_at w i ≡ 0) → bit_at (w - 1) t ≡ 0
+at_lowest zero w some set low =
+    let odd : w % 2 ≡ 1 = sym (bit_at_lowest w) ∙ set in
+    bit_at_lowest (w - 1) ∙ omega arith
+at_lowest (suc t) w some set low =
+    let even : w % 2 ≡ 0 = sym (bit_at_lowest w) ∙ low 0 (omega arith) in
+    let half : (w - 1) / 2 ≡ w / 2 - 1 = omega arith in
+    bit_at-suc (w - 1) t ∙ ap (λ n. bit_at n t) half
+    ∙ at_lowest t (w / 2) (omega arith) (sym (bit_at-suc w t) ∙ set) (λ i below. sym (bit_at-suc w i) ∙ low (suc i) (omega arith))
 
 -- ---- a word without its lowest mark
 

@@ -85,6 +85,19 @@ impl BitRow {
         })
     }
 
+    /// A copy of the row. Returns an error if an allocation fails.
+    pub fn copy(&self) -> Result<BitRow, AllocError>
+        ensures { IfOk result (λ copy. copy.bits ≡ self.now.bits) }
+    {
+        Ok(BitRow {
+            words: self.words.clone()?,
+            summary: self.summary.clone()?,
+            len: self.len,
+            reserved: self.words.len(),
+            counted: self.counted,
+        })
+    }
+
     /// The number of bits, set or clear.
     pub fn len(&self) -> usize
         ensures value { result ≡ length self.now.bits }
@@ -231,6 +244,13 @@ impl BitRow {
         Ok(())
     }
 
+    /// Whether the row has at least the room of another one.
+    pub fn has_room_of(&self, other: &BitRow) -> bool
+        ensures { result ≡ true → other.now.room ≤ self.now.room }
+    {
+        other.reserved <= self.reserved
+    }
+
     /// Appends a bit. The caller reserves the room first.
     pub fn push(&mut self, bit: bool)
         requires { length self.old.bits < self.old.room }
@@ -306,13 +326,14 @@ impl BitRow {
     }
 
     /// Whether operations on the block at `chunk` are faster than those on its chunks: the row has eight
-    /// chunks from this one on, and the first four may have set bits. The contract promises nothing for
-    /// `false`.
+    /// chunks from this one on, and at least three of them may have set bits. The contract promises
+    /// nothing for `false`.
     pub fn is_dense(&self, chunk: usize) -> bool
         requires { 64 * chunk < length self.now.bits }
         ensures { result ≡ true → 64 * chunk + 448 < length self.now.bits }
     {
-        self.words.len() - chunk >= 8 && (self.summary[chunk / 64] >> (chunk % 64)) & 15 == 15
+        self.words.len() - chunk >= 8
+            && ((self.summary[chunk / 64] >> (chunk % 64)) & 255).count_ones() >= 3
     }
 
     /// Sets or clears the bit at index `i`.

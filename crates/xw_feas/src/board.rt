@@ -1,7 +1,7 @@
 //! The part of a grid that feasibility depends on: the open cells, the letters in them, and the
 //! lights. Cells are addressed by their index in reading order, and lights by their index in the
 //! grid's order of lights.
-ghost use Rattle.std.specs.Prelude.{◌≡◌, ◌⊎◌, ◌<◌, ◌≤◌, ◌&&◌, ℕ, Some, length, slice_index, slice_get, All, unwrap_or, IfSome};
+ghost use Rattle.std.specs.Prelude.{◌≡◌, ◌⊎◌, ◌+◌, ◌<◌, ◌≤◌, ◌&&◌, ℕ, Some, length, slice_index, slice_get, All, unwrap_or, IfSome};
 ghost use Rattle.xw_letters.specs.Letter.{IsLetter, is_capital};
 ghost use Rattle.xw_letters.specs.LetterSet.{has};
 ghost use Rattle.xw_grid.specs.Grid.{is_open_square as spec_is_open_square, letter_in as spec_letter_in};
@@ -50,6 +50,13 @@ impl Cells {
         ensures { result ≡ slice_index self.now k }
     {
         self.first + k * self.stride
+    }
+
+    /// The difference between the indices of two consecutive cells.
+    pub fn stride(&self) -> usize
+        ensures { (k : ℕ) → k + 1 < length self.now → slice_index self.now (k + 1) ≡ slice_index self.now k + result }
+    {
+        self.stride
     }
 }
 
@@ -201,13 +208,10 @@ fn cells_of(grid: &Grid, light: Light) -> Cells
     requires { Fits grid.now light }
     ensures { result ≡ indices_of grid.now light }
 {
-    match grid.index(light.start) {
-        Some(first) => Cells {
-            first,
-            stride: stride(grid, light.name.direction),
-            len: light.size as usize,
-        },
-        None => unreachable!(),
+    Cells {
+        first: grid.index_inside(light.start),
+        stride: stride(grid, light.name.direction),
+        len: light.size as usize,
     }
 }
 

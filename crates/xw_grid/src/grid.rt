@@ -181,7 +181,7 @@ impl Grid {
 
     /// The index of a cell inside the grid.
     #[tactic(auto, using(crate::proofs::GridLemmas::inside_steps))]
-    pub(crate) fn index_inside(&self, cell: Cell) -> usize
+    pub fn index_inside(&self, cell: Cell) -> usize
         requires { is_inside self.now cell ≡ true }
         ensures index { result ≡ index_of self.now cell }
         ensures small { result < 65025 }

@@ -1,9 +1,9 @@
 -- The letters of a set as the bits of its number.
-use Rattle.std.proofs.Common.{◌≡◌, ℕ, zero, suc, ◌+◌, ◌-◌, ◌/◌, ◌^◌, ◌<◌, ◌≤◌, true, false, cond, eqb, length, map, take, count_by, refl, ap, sym, ◌∙◌, inl, inr, w32, arith, count_ones}
+use Rattle.std.proofs.Common.{◌≡◌, ℕ, zero, suc, ◌+◌, ◌-◌, ◌/◌, ◌^◌, ◌<◌, ◌≤◌, Bool, true, false, not, ◌&&◌, cond, eqb, bit_and, subst, length, map, take, count_by, refl, ap, sym, ◌∙◌, inl, inr, w32, arith, count_ones}
 use Rattle.std.specs.Prelude.{filter}
 use Rattle.std.specs.Int.{bit_at, trailing_zeros}
 use Rattle.std.specs.List.{range_with_len}
-use Rattle.std.proofs.lemmas.Bool.{cases_lt, both_ways, eq-eqb}
+use Rattle.std.proofs.lemmas.Bool.{cases_Bool, cases_eq, cases_lt, both_ways, eq-eqb, ne_eqb}
 use Rattle.std.proofs.lemmas.Bool.Decides.{nat_tests}
 use Rattle.std.proofs.lemmas.Nat.{shr_le}
 use Rattle.std.proofs.lemmas.Nat.Bits.{bit_at-trailing_zeros, bit_at-zero, bit_at_above}
@@ -14,7 +14,8 @@ use Rattle.xw_letters.specs.LetterSet.{has, letters_in}
 use Rattle.xw_bits.specs.Bits.{has_bit}
 use Rattle.xw_bits.proofs.BitLemmas.{ones_of_word}
 use Rattle.xw_bits.proofs.SetBitLemmas.{has_bit-shifted}
-use Rattle.xw_letters.proofs.LetterSetLemmas.{letter_is_capital, length-alphabet, count-more}
+use Rattle.xw_bits.proofs.Marks.{above_lowest, at_lowest}
+use Rattle.xw_letters.proofs.LetterSetLemmas.{letter_is_capital, capital_is_letter, has-common, length-alphabet, count-more}
 
 has_at : (set index : ℕ) → index < 26 → has set (65 + index) ≡ has_bit set index
 unfolding has_bit
@@ -66,6 +67,59 @@ module _ (set from : ℕ) where
     none_before other low high =
         let found = bit_at-trailing_zeros w32 (set / 2 ^ from) some fits in
         shifted other low (omega (arith, first_index.0)) ∙ ap (λ x. eqb x 1) (found.2 (other - from) (omega arith))
+
+and_self : (b : Bool) → (b && b) ≡ (b && true)
+and_self true = refl
+and_self false = refl
+
+-- ---- the letters of a set without the first
+module _ (set : ℕ) (some : 0 < set) (small : set < 2 ^ 26) where
+  lowest : (trailing_zeros w32 set < 32) × (bit_at set (trailing_zeros w32 set) ≡ 1) × ((i : ℕ) → i < trailing_zeros w32 set → bit_at set i ≡ 0)
+  lowest = bit_at-trailing_zeros w32 set some (omega arith)
+
+  pub first_within : trailing_zeros w32 set < 26
+  first_within = elim (cases_lt (trailing_zeros w32 set) 26) [
+    | inl lt ↦ lt
+    | inr past ↦ absurd (omega (arith, lowest.1, bit_at_above set 26 (trailing_zeros w32 set) small past))
+  ]
+
+  pub first_there : has set (65 + trailing_zeros w32 set) ≡ true
+  unfolding has_bit
+  first_there = has_at set (trailing_zeros w32 set) first_within ∙ eq-eqb (bit_at set (trailing_zeros w32 set)) 1 lowest.1
+
+  pub first_is_first : (other : ℕ) → other < trailing_zeros w32 set → has set (65 + other) ≡ false
+  unfolding has_bit
+  first_is_first other before = has_at set other (omega (arith, before, first_within)) ∙ ap (λ x. eqb x 1) (lowest.2 other before)
+
+  taken_at : (index : ℕ) → index < 26 → (has set (65 + index) && has (set - 1) (65 + index)) ≡ (has set (65 + index) && not (eqb (65 + index) (65 + trailing_zeros w32 set)))
+  unfolding has_bit
+  taken_at index within = elim (cases_lt index (trailing_zeros w32 set)) [
+    | inl before ↦
+        ap (λ b. b && has (set - 1) (65 + index)) (first_is_first index before)
+        ∙ sym (ap (λ b. b && not (eqb (65 + index) (65 + trailing_zeros w32 set))) (first_is_first index before))
+    | inr from ↦ elim (cases_eq index (trailing_zeros w32 set)) [
+      | inl here ↦
+          let gone : has (set - 1) (65 + index) ≡ false = has_at (set - 1) index within ∙ ap (λ x. eqb x 1) (ap (bit_at (set - 1)) here ∙ at_lowest (trailing_zeros w32 set) set some lowest.1 lowest.2) in
+          let same : eqb (65 + index) (65 + trailing_zeros w32 set) ≡ true = eq-eqb (65 + index) (65 + trailing_zeros w32 set) (ap (λ n. 65 + n) here) in
+          ap (λ b. has set (65 + index) && b) gone ∙ sym (ap (λ b. has set (65 + index) && not b) same)
+      | inr apart ↦
+          let kept : has (set - 1) (65 + index) ≡ has set (65 + index) =
+          has_at (set - 1) index within ∙ ap (λ x. eqb x 1) (above_lowest (trailing_zeros w32 set) set index some lowest.1 lowest.2 (omega arith)) ∙ sym (has_at set index within) in
+          let other : eqb (65 + index) (65 + trailing_zeros w32 set) ≡ false = ne_eqb (65 + index) (65 + trailing_zeros w32 set) (λ e. apart (omega (arith, e))) in
+          ap (λ b. has set (65 + index) && b) kept ∙ and_self (has set (65 + index)) ∙ sym (ap (λ b. has set (65 + index) && not b) other)
+    ]
+  ]
+
+  pub first_taken : (letter : ℕ) → has (bit_and set (set - 1)) letter ≡ (has set letter && not (eqb letter (65 + trailing_zeros w32 set)))
+  first_taken letter =
+      has-common set (set - 1) letter
+      ∙ elim (cases_Bool (is_capital letter)) [
+        | inl is ↦
+            let at = capital_is_letter letter is in
+            let place : 65 + (letter - 65) ≡ letter = omega (arith, at.0) in
+            subst (λ l. (has set l && has (set - 1) l) ≡ (has set l && not (eqb l (65 + trailing_zeros w32 set)))) place (taken_at (letter - 65) (omega (arith, at.1)))
+        | inr none ↦ rw none refl
+      ]
 
 -- the number of the first letters of the alphabet that are in a set
 counted : (set k : ℕ) → k ≤ 26 → length (filter (has set) (take k alphabet)) ≡ count_by (λ b. b) (map (λ i. has_bit set i) (range_with_len 0 k))

@@ -152,6 +152,23 @@ impl LetterSet {
         Some(from + rest.trailing_zeros())
     }
 
+    /// Removes the first letter in alphabetical order, and returns its index in the alphabet; `None` if the set is empty.
+    pub fn take_first(&mut self) -> Option<u32>
+        ensures set { IfSome result (λ index. (index < 26) × (has self.old (65 + index) ≡ true)) }
+        ensures first { IfSome result (λ index. (other : ℕ) → other < index → has self.old (65 + other) ≡ false) }
+        ensures removed { IfSome result (λ index. (other : ℕ) → has self.new other ≡ (has self.old other && not (other == 65 + index))) }
+        ensures fewer { IfSome result (λ index. self.new < self.old) }
+        ensures none { IfNone result ((letter : ℕ) → has self.old letter ≡ false) }
+        ensures same { IfNone result (self.new ≡ self.old) }
+    {
+        if self.bits == 0 {
+            return None;
+        }
+        let index = self.bits.trailing_zeros();
+        self.bits &= self.bits - 1;
+        Some(index)
+    }
+
     /// The number of letters in the set.
     pub fn len(self) -> usize
         ensures { result ≡ length (letters_in self) }

@@ -4,5 +4,6 @@ pub mod Lending
 pub mod Next
 pub mod Outcomes
 pub mod Placements
+pub mod Remembered
 pub mod Saving
 pub mod TriedPlacements

@@ -1,24 +1,24 @@
 -- The placements of a search: put behind others, taken from their end, and led to by another net.
-use Rattle.std.proofs.Common.{◌≡◌, ℕ, ◌-◌, ◌*◌, ◌^◌, ◌<◌, true, false, List, [], ◌∷◌, ◌++◌, length, get_or, if◌then◌else◌, Some, refl, sym, ◌∙◌, ap, subst, arith}
+use Rattle.std.proofs.Common.{◌≡◌, ℕ, ◌+◌, ◌-◌, ◌*◌, ◌^◌, ◌<◌, inl, inr, true, false, List, [], ◌∷◌, ◌++◌, length, get_or, if◌then◌else◌, Some, refl, sym, ◌∙◌, ap, subst, arith}
 use Rattle.std.specs.Prelude.{All, Result, Ok, Err, IsOk, OnOk, OnErr, is_ok, replicate}
 use Rattle.std.specs.declared.alloc.AllocError.{AllocError}
-use Rattle.std.proofs.lemmas.List.{length-append}
+use Rattle.std.proofs.Math.Nat.{mul-pos}
 use Rattle.std.proofs.lemmas.List.Elements.{All-push, All-pop}
 use Rattle.xw_words.specs.Dictionary.{known_words}
 use Rattle.xw_grid.specs.EditLaws.{SameShape}
-use Rattle.xw_grid.specs.Grid.{Grid}
+use Rattle.xw_grid.specs.Grid.{Grid, IsGrid}
 use Rattle.xw_feas.specs.Board.{board_of}
 use Rattle.xw_feas.specs.State.{State}
 use Rattle.xw_feas.specs.WellFormed.{IsWellFormed}
 use Rattle.xw_net.specs.Level.{IsWay, IsAsLong}
-use Rattle.xw_net.specs.Seen.{AreSeen}
+use Rattle.xw_net.specs.Seen.{AreKeptOrNone, AreSeen}
 use Rattle.xw_net.specs.declared.net.Net.{Net}
 use Rattle.xw_feas.proofs.ShapeLemmas.{SameShape-itself, SameShape-turned, SameShape-then}
 use Rattle.xw_feas.proofs.BoardLemmas.{length-open_cells}
 use Rattle.xw_net.proofs.Levels.RememberedWords.{seen_begun, seen_moved}
 use Rattle.xw_net.proofs.Levels.SettledAgain.{way_again}
 use Rattle.xw_live.specs.Engine.{IsKept}
-use Rattle.xw_live.specs.Levels.{SameCells, state_before, HasShapeOf, HasSizeOf, IsPlacementIn, first_net, AreWays, AreLevels, IsBegunAt, IsLastOf, IsLastIn, IsLedTo}
+use Rattle.xw_live.specs.Levels.{SameCells, state_before, HasSizeOf, IsPlacementIn, first_net, AreWays, AreRemembered, AreLevels, IsBegunAt, IsLastOf, IsLastIn, IsLedTo}
 use Rattle.xw_live.specs.declared.levels.Placement.{Placement}
 use Rattle.xw_live.specs.declared.levels.Levels.{Levels}
 
@@ -53,15 +53,25 @@ ways_like [] old new as_long ways = tt
 ways_like (placement ∷ []) old new as_long ways = (way_again placement.level old new placement.net.value ways.0 as_long, tt)
 ways_like (placement ∷ other ∷ rest) old new as_long ways = (ways.0, ways_like (other ∷ rest) old new as_long ways.1)
 
+-- ---- the words that are remembered
+
+-- an equal table
+pub remembered_same : (state : State) (old new : List ℕ) → new ≡ old → AreRemembered state old → AreRemembered state new
+remembered_same state old new same are = subst (AreRemembered state) (sym same) are
+
+-- without a table
+pub remembered_none : (state : State) (seen : List ℕ) → seen ≡ [] → AreRemembered state seen
+remembered_none state seen none = λ some. absurd (omega (arith, some, ap length none))
+
 -- ---- the placements of an engine
 
 -- none are made
-pub levels_none : (state : State) (levels : Levels) (net : Net) → levels.made.items ≡ [] → All (HasSizeOf state.grid) levels.spare.items → AreLevels state levels net
-levels_none state levels net none spare = record {
+pub levels_none : (state : State) (levels : Levels) (net : Net) → levels.made.items ≡ [] → All (HasSizeOf state.grid) levels.spare.items → AreRemembered state levels.trail.seen.items → AreLevels state levels net
+levels_none state levels net none spare seen = record {
   made = subst (All (IsPlacementIn state)) (sym none) (λ k d below. absurd (omega (arith, below)));
   ways = subst (λ made. AreWays made net) (sym none) tt;
   spare = spare;
-  seen = λ some. absurd (omega (arith, some, ap length none));
+  seen = seen;
 }
 
 -- the sizes of all that is kept
@@ -77,10 +87,6 @@ pub spare_cleared : (state : State) (levels new : Levels) (net : Net) (grid : Gr
     → length state.grid.squares ≡ length grid.squares → All (HasSizeOf grid) new.spare.items
 spare_cleared state levels new net grid are cleared same = sizes_moved state.grid grid new.spare.items same (cleared state.grid (made_sizes state levels net are) are.spare)
 
--- a list that is not empty
-at_least_one : {X : Type 0} (list : List X) (last : X) → 0 < length (list ++ last ∷ [])
-at_least_one list last = omega (arith, length-append list (last ∷ []))
-
 -- a placement that begins at the state
 pub begun_placement : (state : State) (net : Net) (placement : Placement) → IsWellFormed state → IsKept state net → IsBegunAt state.grid net placement → IsPlacementIn state placement
 begun_placement state net placement formed kept begun = record {
@@ -92,13 +98,13 @@ begun_placement state net placement formed kept begun = record {
 
 -- a placement was begun at the state
 pub levels_begun : (state : State) (old new : Levels) (net : Net) → IsWellFormed state → IsKept state net → AreLevels state old net → IsLastOf state.grid net old.made.items new.made.items → All (HasSizeOf state.grid) new.spare.items
-    → AreSeen (board_of state.grid) (known_words state.words) new.trail.seen.items → AreLevels state new net
+    → AreRemembered state new.trail.seen.items → AreLevels state new net
 levels_begun state old new net formed kept are last spare seen = record {
   made = subst (All (IsPlacementIn state)) (sym last.all_are) (All-push (IsPlacementIn state) old.made.items last.placement are.made (begun_placement state net last.placement formed kept last.begun));
   ways = subst (λ made. AreWays made net) (sym last.all_are)
       (ways_pushed old.made.items last.placement net (subst (AreWays old.made.items) (sym last.begun.net_is) are.ways) (subst (IsWay last.placement.level net) (sym last.begun.net_is) last.begun.way));
   spare = spare;
-  seen = λ some. seen;
+  seen = seen;
 }
 
 -- a placement of the state before is one of a state with the same words and a grid of the same shape
@@ -174,21 +180,21 @@ module _ (state : State) (levels : Levels) (net : Net) (are : AreLevels state le
   pub taken_way : IsWay last.level net last.net.value
   taken_way = (ways_popped others last net (subst (λ made. AreWays made net) all_are are.ways)).1
 
-  pub taken_seen : (seen : List ℕ) → seen ≡ levels.trail.seen.items → AreSeen (board_of last.grid) (known_words state.words) seen
-  taken_seen seen is =
+  pub taken_seen : (seen : List ℕ) → seen ≡ levels.trail.seen.items → AreRemembered (state_before state.words last) seen
+  taken_seen seen is some =
       seen_moved (board_of state.grid) (board_of last.grid) (known_words state.words) seen taken_last.cells.0 taken_last.cells.1
-      (subst (AreSeen (board_of state.grid) (known_words state.words)) (sym is) (are.seen (subst (λ made. 0 < length made) (sym all_are) (at_least_one others last))))
+      (remembered_same state levels.trail.seen.items seen is are.seen some)
 
-  pub levels_taken : (new : Levels) (back : Net) → new.made.items ≡ others → IsAsLong last.net.value back → All (HasSizeOf state.grid) new.spare.items → AreSeen (board_of last.grid) (known_words state.words) new.trail.seen.items → AreLevels (state_before state.words last) new back
+  pub levels_taken : (new : Levels) (back : Net) → new.made.items ≡ others → IsAsLong last.net.value back → All (HasSizeOf state.grid) new.spare.items → AreRemembered (state_before state.words last) new.trail.seen.items → AreLevels (state_before state.words last) new back
   levels_taken new back are_others as_long spare seen = record {
     made = subst (All (IsPlacementIn (state_before state.words last))) (sym are_others)
         (λ k d below. placement_after state (state_before state.words last) (get_or others k d) taken_last.shape taken_last.cells refl (taken_all.0 k d below));
     ways = subst (λ made. AreWays made back) (sym are_others) (ways_like others last.net.value back as_long (ways_popped others last net (subst (λ made. AreWays made net) all_are are.ways)).0);
     spare = sizes_moved state.grid last.grid new.spare.items (sym taken_last.shape.cells) spare;
-    seen = λ some. seen;
+    seen = seen;
   }
 
--- ---- the words that are remembered
+-- ---- when a placement begins
 
 -- as many words of a length as a row has room for
 few_words : (state : State) (len : ℕ) → IsWellFormed state → length (known_words state.words len) < 2 ^ 32
@@ -196,39 +202,39 @@ few_words state len formed =
     let few = (formed.dictionary.words len).few in
     omega (arith, few)
 
--- when a placement begins
-pub seen_at_begin : (state : State) (old new : Levels) (net : Net) → IsWellFormed state → AreLevels state old net → (old.made.items ≡ [] → new.trail.seen.items ≡ replicate (52 * length state.grid.squares) (2 ^ 32 - 1))
-    → (0 < length old.made.items → new.trail.seen.items ≡ old.trail.seen.items) → AreSeen (board_of state.grid) (known_words state.words) new.trail.seen.items
-seen_at_begin state old new net formed are first later = split old.made.items refl where
-  split : (made : List Placement) → old.made.items ≡ made → AreSeen (board_of state.grid) (known_words state.words) new.trail.seen.items
-  split [] none =
-      seen_begun (board_of state.grid) (known_words state.words) new.trail.seen.items formed.board (λ len. few_words state len formed)
-      (first none ∙ ap (λ n. replicate (52 * n) (2 ^ 32 - 1)) (sym (length-open_cells state.grid)))
-  split (placement ∷ rest) some =
-      let below : 0 < length old.made.items = omega (arith, ap length some) in
-      subst (AreSeen (board_of state.grid) (known_words state.words)) (sym (later below)) (are.seen below)
+-- the table is kept, or a new one
+pub seen_at_begin : (state : State) (old new : List ℕ) → IsWellFormed state → AreKeptOrNone (length state.grid.squares) old new → AreRemembered state old → AreRemembered state new
+seen_at_begin state old new formed either are = elim either [
+  | inl same ↦ remembered_same state old new same are
+  | inr none ↦ λ some.
+      seen_begun (board_of state.grid) (known_words state.words) new formed.board (λ len. few_words state len formed)
+      (none ∙ ap (λ n. replicate (52 * n) (2 ^ 32 - 1)) (sym (length-open_cells state.grid)))
+]
+
+-- a grid has a cell
+some_cells : (grid : Grid) → IsGrid grid → 0 < length grid.squares
+some_cells grid is = subst (λ n. 0 < n) (sym is.squares) (mul-pos (omega (arith, is.wide.0)) (omega (arith, is.high.0)))
+
+-- the table has an entry for each letter, since a grid has a cell
+pub seen_for_all : (state : State) (seen : List ℕ) → IsWellFormed state → length seen ≡ 52 * length state.grid.squares → AreRemembered state seen → AreSeen (board_of state.grid) (known_words state.words) seen
+seen_for_all state seen formed long are =
+    let some : 0 < length state.grid.squares = some_cells state.grid formed.grid in
+    are (omega (arith, long, some))
 
 -- a placement was begun, or an allocation failed
 pub levels_either : (state : State) (old new : Levels) (net : Net) (result : Result (Unit {0}) AllocError) → IsWellFormed state → IsKept state net → AreLevels state old net → OnOk result (IsLastOf state.grid net old.made.items new.made.items)
-    → OnErr result (new.made.items ≡ old.made.items) → All (HasSizeOf state.grid) new.spare.items → OnOk result (old.made.items ≡ [] → new.trail.seen.items ≡ replicate (52 * length state.grid.squares) (2 ^ 32 - 1))
-    → (0 < length old.made.items → new.trail.seen.items ≡ old.trail.seen.items) → AreLevels state new net
-levels_either state old new net (Ok done) formed kept are last none spare first later = levels_begun state old new net formed kept are last spare (seen_at_begin state old new net formed are first later)
-levels_either state old new net (Err failed) formed kept are last none spare first later = record {
+    → OnErr result (new.made.items ≡ old.made.items) → All (HasSizeOf state.grid) new.spare.items → AreKeptOrNone (length state.grid.squares) old.trail.seen.items new.trail.seen.items → AreLevels state new net
+levels_either state old new net (Ok done) formed kept are last none spare seen = levels_begun state old new net formed kept are last spare (seen_at_begin state old.trail.seen.items new.trail.seen.items formed seen are.seen)
+levels_either state old new net (Err failed) formed kept are last none spare seen = record {
   made = subst (All (IsPlacementIn state)) (sym none) are.made;
   ways = subst (λ made. AreWays made net) (sym none) are.ways;
   spare = spare;
-  seen = λ some.
-      let below : 0 < length old.made.items = subst (λ made. 0 < length made) none some in
-      subst (AreSeen (board_of state.grid) (known_words state.words)) (sym (later below)) (are.seen below);
+  seen = seen_at_begin state old.trail.seen.items new.trail.seen.items formed seen are.seen;
 }
 
 -- the last placement, seen from an equal state with an equal net
 pub last_moved : (before now : State) (old new : Net) (others all : List Placement) → before ≡ now → old ≡ new → IsLastOf before.grid old others all → IsLastOf now.grid new others all
 last_moved before now old new others all same same_net last = subst (λ (state : State). IsLastOf state.grid new others all) same (subst (λ net. IsLastOf before.grid net others all) same_net last)
-
--- a list with a last placement is not empty
-pub some_placement : (all others : List Placement) (last : Placement) → all ≡ others ++ last ∷ [] → 0 < length all
-some_placement all others last are = subst (λ list. 0 < length list) (sym are) (at_least_one others last)
 
 -- no placements have any size
 pub none_sized : (grid : Grid) (placements : List Placement) → placements ≡ [] → All (HasSizeOf grid) placements

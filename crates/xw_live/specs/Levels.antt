@@ -1,5 +1,5 @@
 -- The placements of a search that can be taken back.
-use Rattle.std.specs.Prelude.{◌≡◌, ◌<◌, List, [], ◌∷◌, ◌++◌, All, map, length}
+use Rattle.std.specs.Prelude.{◌≡◌, ℕ, ◌<◌, List, [], ◌∷◌, ◌++◌, All, map, length}
 use Rattle.xw_words.specs.Dictionary.{Dictionary, known_words}
 use Rattle.std.specs.Coded.{Coded-set, coded_ℕ, coded_bool, coded_list}
 use mathlib.Core.HLevel.{Π_prop, ×_prop}
@@ -8,6 +8,8 @@ use Rattle.xw_grid.specs.Grid.{Grid}
 use Rattle.xw_feas.specs.Board.{Board, board_of}
 use Rattle.xw_feas.specs.Single.{IsWellFormed-prop, SameShape-prop}
 use Rattle.xw_feas.specs.State.{State}
+use Rattle.xw_feas.specs.declared.pending.Pending.{Pending}
+use Rattle.xw_feas.specs.declared.pending.Pending.TheVariants.{InPlace, Shape, New}
 use Rattle.xw_feas.specs.WellFormed.{IsWellFormed}
 use Rattle.xw_net.specs.Level.{IsWay}
 use Rattle.xw_net.specs.Seen.{AreSeen}
@@ -54,12 +56,28 @@ abbrev pub AreWays : List Placement → Net → Type 0
 AreWays [] now = Unit {0}
 AreWays (placement ∷ rest) now = IsWay placement.level (first_net rest now) placement.net.value × AreWays rest now
 
+-- the words that are remembered, if there is a table of them, have the letters that they are remembered for
+abbrev pub AreRemembered : State → List ℕ → Type 0
+AreRemembered state seen = 0 < length seen → AreSeen (board_of state.grid) (known_words state.words) seen
+
+-- the words that are remembered after an edit: only one in place keeps them
+abbrev pub seen_after : Pending → List ℕ → List ℕ
+seen_after (InPlace edit) seen = seen
+seen_after (Shape edit) seen = []
+seen_after (New word grade) seen = []
+
+-- an edit in place leads to a grid of the same shape
+abbrev pub IsOfShape : Pending → Grid → Grid → Type 0
+IsOfShape (InPlace edit) old new = SameShape old new
+IsOfShape (Shape edit) old new = Unit {0}
+IsOfShape (New word grade) old new = Unit {0}
+
 -- the placements lead to a state and its net, one after another
 pub record AreLevels (state : State) (levels : Levels) (net : Net) : Type 0 where
   pub made : All (IsPlacementIn state) levels.made.items
   pub ways : AreWays levels.made.items net
   pub spare : All (HasSizeOf state.grid) levels.spare.items
-  pub seen : 0 < length levels.made.items → AreSeen (board_of state.grid) (known_words state.words) levels.trail.seen.items
+  pub seen : AreRemembered state levels.trail.seen.items
 
 -- ---- the facts are propositions (two proofs of one are equal), so a ghost field can hold them
 

@@ -26,14 +26,16 @@ pub struct Levels {
 }
 
 impl Levels {
-    ghost use Rattle.std.specs.Prelude.{◌≡◌, ◌*◌, ◌-◌, ◌^◌, ◌<◌, [], All, length, replicate, IfOk, OnOk, OnErr};
+    ghost use Rattle.std.specs.Prelude.{◌≡◌, ◌≢◌, ◌*◌, [], All, length, IfOk, OnOk, OnErr};
     ghost use Rattle.xw_grid.specs.Grid.{Grid as SpecGrid};
-    ghost use Rattle.xw_live.specs.Levels.{HasSizeOf, IsLastOf};
+    ghost use Rattle.xw_live.specs.Levels.{HasSizeOf, IsLastOf, seen_after};
+    ghost use Rattle.xw_net.specs.Seen.{AreKeptOrNone};
 
     /// No placements.
     pub fn new(alloc: Global) -> Levels
         ensures made { result.made.items ≡ [] }
         ensures spare { result.spare.items ≡ [] }
+        ensures seen { result.trail.seen.items ≡ [] }
     {
         Levels {
             alloc,
@@ -43,25 +45,41 @@ impl Levels {
         }
     }
 
-    /// Forgets all placements, and keeps their memory.
+    /// Forgets all placements, and keeps their memory and the remembered words.
     pub fn clear(&mut self)
         ensures made { self.new.made.items ≡ [] }
         ensures spare { (grid : SpecGrid) → All (HasSizeOf grid) self.old.made.items → All (HasSizeOf grid) self.old.spare.items → All (HasSizeOf grid) self.new.spare.items }
+        ensures trail { self.new.trail ≡ self.old.trail }
     {
         while let Some(placement) = self.made.pop() {
             let _ = self.spare.push(placement);
         }
     }
 
-    /// Forgets all placements before an edit. Their memory stays if it fits the placements after the edit: one that changes the
-    /// lights or adds a word changes how long rows are, and frees it.
+    /// Forgets all placements before an edit. Their memory and the remembered words stay if they fit the grid after the edit: one
+    /// that changes the lights or adds a word changes how long rows are, and frees them.
     pub fn clear_before(&mut self, edit: &Pending<'_>)
         ensures made { self.new.made.items ≡ [] }
         ensures spare { (grid : SpecGrid) → All (HasSizeOf grid) self.old.made.items → All (HasSizeOf grid) self.old.spare.items → All (HasSizeOf grid) self.new.spare.items }
+        ensures seen { self.new.trail.seen.items ≡ seen_after edit.now self.old.trail.seen.items }
     {
         match edit {
             Pending::InPlace(_) => self.clear(),
             Pending::Shape(_) | Pending::New(..) => *self = Levels::new(self.alloc),
+        }
+    }
+
+    /// Forgets all placements before a grid of the same shape replaces another one. The remembered words stay if the grids have
+    /// the same width: the width decides where the slots of a light are.
+    pub fn clear_between(&mut self, before: &Grid, after: &Grid)
+        ensures made { self.new.made.items ≡ [] }
+        ensures spare { (grid : SpecGrid) → All (HasSizeOf grid) self.old.made.items → All (HasSizeOf grid) self.old.spare.items → All (HasSizeOf grid) self.new.spare.items }
+        ensures kept { after.now.width ≡ before.now.width → self.new.trail.seen.items ≡ self.old.trail.seen.items }
+        ensures forgotten { after.now.width ≢ before.now.width → self.new.trail.seen.items ≡ [] }
+    {
+        self.clear();
+        if after.width() != before.width() {
+            self.trail = Trail::new(self.alloc);
         }
     }
 
@@ -94,12 +112,11 @@ impl Levels {
         ensures last { OnOk result (IsLastOf grid.now net.now self.old.made.items self.new.made.items) }
         ensures none { OnErr result (self.new.made.items ≡ self.old.made.items) }
         ensures spare { All (HasSizeOf grid.now) self.new.spare.items }
-        ensures first { OnOk result (self.old.made.items ≡ [] → self.new.trail.seen.items ≡ replicate (52 * length grid.now.squares) (2 ^ 32 - 1)) }
-        ensures seen { 0 < length self.old.made.items → self.new.trail.seen.items ≡ self.old.trail.seen.items }
+        ensures long { OnOk result (length self.new.trail.seen.items ≡ 52 * length grid.now.squares) }
+        ensures kept { length self.old.trail.seen.items ≡ 52 * length grid.now.squares → self.new.trail.seen.items ≡ self.old.trail.seen.items }
+        ensures seen { AreKeptOrNone (length grid.now.squares) self.old.trail.seen.items self.new.trail.seen.items }
     {
-        if self.made.is_empty() {
-            self.trail.begin(grid.size())?;
-        }
+        self.trail.begin(grid.size())?;
         let mut placement = self.take(grid, net)?;
         placement.level.forget(&mut self.trail);
         placement.level.begin(net)?;

@@ -105,6 +105,7 @@ impl Live {
     fn keep_level(&mut self) -> Result<(), AllocError>
         ensures last { OnOk result (IsLastOf self.old.position.grid self.old.net self.old.levels.made.items self.new.levels.made.items) }
         ensures none { OnErr result (self.new.levels.made.items ≡ self.old.levels.made.items) }
+        ensures seen { OnOk result (AreSeen (board_of self.new.position.grid) (known_words self.new.position.bank.words) self.new.levels.trail.seen.items) }
         ensures grid { self.new.position.grid ≡ self.old.position.grid }
         ensures words { self.new.position.bank.words ≡ self.old.position.bank.words }
         ensures net { self.new.net ≡ self.old.net }
@@ -163,12 +164,13 @@ impl Searchable for Live {
     {
         let least = self.position.bank.least();
         let bank = Snapshot::of(&self.position.bank);
+        self.levels
+            .clear_between(&self.position.grid, &snapshot.grid);
         self.position.exchange(&mut snapshot.grid);
         self.position.choose_least(snapshot.least);
         std::mem::swap(&mut self.net, &mut snapshot.net);
         snapshot.least = least;
         snapshot.bank = bank;
-        self.levels.clear()
     }
 
     fn begin_search(&mut self)

@@ -8,6 +8,7 @@ ghost use Rattle.xw_feas.specs.Effect.{is_idle_by, IsTold};
 ghost use Rattle.xw_net.specs.Change.{fields_of, IsChange};
 ghost use Rattle.xw_net.specs.Cost.{RoseWithinCost};
 ghost use Rattle.xw_live.specs.Engine.{CanFollow, IsKept};
+ghost use Rattle.xw_live.specs.Levels.{IsOfShape};
 ghost use Rattle.xw_net.specs.Net.{IsSettledFor, IsAlike, sets_of};
 
 use std::alloc::Global;
@@ -67,6 +68,7 @@ pub fn apply(
     ensures made { OnOk result (after (state_of position.old) (pending_action (state_of position.old) edit.now) ≡ Ok (state_of position.new)) }
     ensures told { OnOk result (IsTold (state_of position.old) position.new (pending_action (state_of position.old) edit.now)) }
     ensures cells { OnOk result (length position.new.grid.squares ≡ length position.old.grid.squares) }
+    ensures shape { OnOk result (IsOfShape edit.now position.old.grid position.new.grid) }
     ensures follow { OnOk result (is_idle_by position.new.notes.effect ≡ false → CanFollow position.new (fields_of position.new.lights position.new.notes) net.new) }
     ensures refused { IfErr result (λ refusal. IsRefused (state_of position.old) (pending_action (state_of position.old) edit.now) refusal) }
     ensures same { OnErr result (state_of position.new ≡ state_of position.old) }

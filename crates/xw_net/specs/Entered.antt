@@ -1,5 +1,5 @@
 -- Entering letters in empty cells in a search: what changes in a net before it is stripped.
-use Rattle.std.specs.Prelude.{◌≡◌, ◌⊎◌, ℕ, ◌<◌, ◌&&◌, true, false, None, Option, List, Contains, length, slice_index_or}
+use Rattle.std.specs.Prelude.{◌≡◌, ◌⊎◌, ℕ, ◌<◌, ◌&&◌, true, false, None, Some, Option, List, Contains, length, slice_index, slice_index_or}
 use Rattle.xw_words.specs.Dictionary.{Dictionary, Entry}
 use Rattle.xw_grid.specs.declared.cell.Cell.{Cell}
 use Rattle.xw_grid.specs.Grid.{Grid, index_of}
@@ -9,7 +9,7 @@ use Rattle.xw_feas.specs.Flags.{set_has}
 use Rattle.xw_feas.specs.State.{State}
 use Rattle.xw_feas.specs.WellFormed.{IsWellFormed}
 use Rattle.xw_net.specs.Base.{base_row, WasBase}
-use Rattle.xw_net.specs.Begin.{IsNarrowed, only_filled}
+use Rattle.xw_net.specs.Begin.{IsNarrowed}
 use Rattle.xw_net.specs.Filled.{IsFilled}
 use Rattle.xw_net.specs.Marks.{IsSetting}
 use Rattle.xw_net.specs.Net.{IsSettledFor}
@@ -24,6 +24,11 @@ IsNew grid written cell = (listed : Cell) × Contains written (listed, None) × 
 -- the light passes through such a cell
 abbrev pub IsThroughNew : Grid → Board → List (Cell × Option ℕ) → ℕ → Type 0
 IsThroughNew grid board written light = (cell : ℕ) × IsNew grid written cell × IsThrough board cell light
+
+-- if a cell is given, it was written, and was empty before, and so was no other cell of the light
+abbrev pub IsOnlyNew : Grid → Board → List (Cell × Option ℕ) → ℕ → Option ℕ → Type 0
+IsOnlyNew grid board written light filled = (cell : ℕ) → filled ≡ Some cell
+    → IsNew grid written cell × ((position : ℕ) → position < length (light_at board light) → IsNew grid written (slice_index (light_at board light) position) → slice_index (light_at board light) position ≡ cell)
 
 -- the cell has those of its letters that it allows
 abbrev pub IsNarrowedCell : Board → ℕ → List ℕ → List ℕ → Type 0
@@ -43,17 +48,23 @@ pub record IsUnchanged (light : ℕ) (old new : Net) : Type 0 where
   pub base : bits_in new.base.items light ≡ bits_in old.base.items light
   pub flag : slice_index_or new.entered.items light false ≡ slice_index_or old.entered.items light false
 
--- the light has its base words and those of them that it had; `filled` is the cell that got a letter, if only one did
+-- the light has its base words and those of them that it had; `filled` is its cell that got a letter, if only one did
 pub record IsNarrowedTo (board : Board) (entries : ℕ → List Entry) (filled : Option ℕ) (light : ℕ) (old new : Net) : Type 0 where
   pub base : WasBase board entries filled light (bits_in old.base.items light) → bits_in new.base.items light ≡ base_row board entries light
   pub rows : IsNarrowed board None light new.base.items old.rows.items new.rows.items
   pub flag : slice_index_or new.entered.items light false ≡ is_wholly_entered board (light_at board light)
 
+-- the light has its base words and those of them that it had
+pub record IsNarrowedIn (grid : Grid) (board : Board) (entries : ℕ → List Entry) (written : List (Cell × Option ℕ)) (light : ℕ) (old new : Net) : Type 0 where
+  pub filled : Option ℕ
+  pub only : IsOnlyNew grid board written light filled
+  pub narrowed : IsNarrowedTo board entries filled light old new
+
 -- the lights through the cells that got letters are queued and narrowed, the others stay, and these cells have only letters
 -- that they allow
 pub record IsEnteredIn (grid : Grid) (board : Board) (entries : ℕ → List Entry) (written : List (Cell × Option ℕ)) (old new : Net) : Type 0 where
   pub queue : Adds (IsThroughNew grid board written) old.queue new.queue
-  pub on : (light : ℕ) → light < length board.lights → is_marked new.queue.marks light ≡ true → IsNarrowedTo board entries (only_filled grid board written) light old new
+  pub on : (light : ℕ) → light < length board.lights → is_marked new.queue.marks light ≡ true → IsNarrowedIn grid board entries written light old new
   pub off : (light : ℕ) → is_marked new.queue.marks light ≡ false → IsUnchanged light old new
   pub letters : AreNarrowedIn grid board written old.letters.items new.letters.items
   pub rest : new ≡ record old { rows = new.rows; base = new.base; entered = new.entered; letters = new.letters; queue = new.queue }

@@ -1,13 +1,14 @@
 -- The marks that the arrays of a net represent, and the sizes of these arrays.
-use Rattle.std.specs.Prelude.{◌≡◌, ℕ, ◌+◌, ◌-◌, ◌*◌, ◌^◌, ◌<◌, ◌≤◌, Bool, true, false, List, [], ◌∷◌, ◌++◌, Option, Some, None, length, slice_get, slice_index, slice_index_or, vec_len}
+use Rattle.std.specs.Prelude.{◌≡◌, ℕ, ◌+◌, ◌-◌, ◌*◌, ◌^◌, ◌<◌, ◌≤◌, Bool, true, false, All, List, [], ◌∷◌, ◌++◌, Option, Some, None, length, slice_get, slice_index, slice_index_or, vec_len}
 use Rattle.xw_bits.specs.Bits.{RowOfBits}
 use Rattle.xw_words.specs.Dictionary.{Entry}
 use Rattle.xw_feas.specs.Board.{Board, light_at}
 use Rattle.xw_feas.specs.Flags.{set_has, set_sum}
-use Rattle.xw_net.specs.Marks.{Marks, IsPositionIn, cell_at, slot_at}
+use Rattle.xw_net.specs.Marks.{Marks, IsPositionIn, cell_at, side_of, slot_at}
 use Rattle.xw_net.specs.Room.{row_at}
 use Rattle.xw_net.specs.Worklist.{is_waiting}
 use Rattle.xw_net.specs.declared.light_position.LightPosition.{LightPosition}
+use Rattle.xw_net.specs.declared.light_position.Positions.{Positions}
 use Rattle.xw_net.specs.declared.net.Net.{Net}
 
 -- the bits of a row; none if there is no row
@@ -84,6 +85,13 @@ pub record IsThere (board : Board) (here : LightPosition) : Type 0 where
   pub slot : here.slot ≡ slot_at board here.light here.position
   pub in_board : here.cell < length board.open_cells
   pub in_slots : here.slot < 2 * length board.open_cells
+
+-- the positions are those of a light of the board
+pub record ArePositionsIn (board : Board) (positions : Positions) : Type 0 where
+  pub light : positions.light < length board.lights
+  pub cells : positions.cells ≡ light_at board positions.light
+  pub in_board : All (λ cell. cell < length board.open_cells) positions.cells
+  pub side : positions.side ≡ side_of positions.cells
 
 -- the light is in the queue if its flag is set
 abbrev pub Waits : Net → ℕ → Type 0

@@ -1,5 +1,5 @@
 -- The words that a search remembers for letters, and what it finds by them.
-use Rattle.std.specs.Prelude.{◌≡◌, ℕ, ◌+◌, ◌*◌, ◌<◌, Bool, true, List, length, slice_index}
+use Rattle.std.specs.Prelude.{◌≡◌, ◌⊎◌, ℕ, ◌+◌, ◌-◌, ◌*◌, ◌^◌, ◌<◌, Bool, true, List, length, replicate, slice_index}
 use Rattle.xw_letters.specs.LetterSet.{has}
 use Rattle.xw_words.specs.Dictionary.{Entry}
 use Rattle.xw_words.specs.Columns.{has_letter}
@@ -15,6 +15,10 @@ IsSeenAt words position slot seen = (k : ℕ) → k < 26 → slice_index seen (2
 pub record AreSeen (board : Board) (entries : ℕ → List Entry) (seen : List ℕ) : Type 0 where
   pub long : length seen ≡ 52 * length board.open_cells
   pub right : (light position : ℕ) → IsPositionIn board light position → IsSeenAt (entries (length (light_at board light))) position (slot_at board light position) seen
+
+-- the words of before are remembered still, or none, in a table for so many cells
+abbrev pub AreKeptOrNone : ℕ → List ℕ → List ℕ → Type 0
+AreKeptOrNone cells old new = (new ≡ old) ⊎ (new ≡ replicate (52 * cells) (2 ^ 32 - 1))
 
 -- a word of the row has the letter at the position
 abbrev pub HasWord : List Bool → List Entry → ℕ → ℕ → Type 0

@@ -1,6 +1,6 @@
 //! Enters letters in a search: narrows the lights through their cells, and keeps what they had.
-ghost use Rattle.std.specs.Prelude.{◌≡◌, length};
-ghost use Rattle.xw_net.specs.Entered.{IsThroughNew, AreNarrowedIn};
+ghost use Rattle.std.specs.Prelude.{◌≡◌, ◌<◌, true, false, length};
+ghost use Rattle.xw_net.specs.Entered.{IsNew, IsOnlyNew, IsThroughNew, AreNarrowedIn};
 ghost use Rattle.xw_net.specs.Marks.{AreByCell};
 ghost use Rattle.xw_net.specs.Update.{AreInside};
 ghost use Rattle.xw_net.specs.Worklist.{Adds, HasLights};
@@ -11,7 +11,6 @@ use crate::level::{Level, Pool, keep_row};
 use crate::narrow::narrow;
 use crate::net::Net;
 use crate::seeds::mark_through;
-use crate::touch::only_filled;
 use crate::trying::Search;
 use crate::worklist::Worklist;
 use std::alloc::AllocError;
@@ -65,17 +64,58 @@ fn narrow_entered(
     }
 }
 
+/// Whether a cell was written, and was empty before.
+fn is_new(grid: &Grid, written: &[(Cell, Option<Letter>)], cell: usize) -> bool
+    requires { AreInside grid.now written.now }
+    ensures yes { result ≡ true → IsNew grid.now written.now cell }
+    ensures no { result ≡ false → ¬ IsNew grid.now written.now cell }
+{
+    for at in 0..written.len() {
+        let (listed, old) = written[at];
+        if old.is_none() && index_in(grid, listed) == cell {
+            return true;
+        }
+    }
+    false
+}
+
+/// The cell of a light that got a letter, if only one did.
+fn only_new(
+    grid: &Grid,
+    board: &Board<'_>,
+    written: &[(Cell, Option<Letter>)],
+    light: usize,
+) -> Option<usize>
+    requires inside { AreInside grid.now written.now }
+    requires light { light < length board.now.lights }
+    ensures { IsOnlyNew grid.now board.now written.now light result }
+{
+    let cells = board.light(light);
+    let mut found = None;
+    for position in 0..cells.len() {
+        let cell = cells.at(position);
+        if !is_new(grid, written, cell) {
+            continue;
+        }
+        if found.is_some() {
+            return None;
+        }
+        found = Some(cell);
+    }
+    found
+}
+
 impl Net {
     ghost use Rattle.std.specs.Prelude.{◌≡◌, ◌≢◌, ℕ, ◌<◌, true, false, Option, length, OnOk};
-    ghost use Rattle.xw_net.specs.Entered.{IsUnchanged, IsNarrowedTo, IsEnteredIn};
+    ghost use Rattle.xw_net.specs.Entered.{IsUnchanged, IsNarrowedTo, IsNarrowedIn, IsEnteredIn};
     ghost use Rattle.xw_net.specs.Filled.{AreLong};
     ghost use Rattle.xw_net.specs.Level.{IsWay};
     ghost use Rattle.xw_net.specs.Update.{IsSized, KeepsRoom};
     ghost use Rattle.xw_net.specs.Worklist.{is_marked};
     ghost use Rattle.xw_net.specs.declared.net.Net.{Net as SpecNet};
 
-    /// Narrows a light through cells that got letters to its base words. `filled` is the cell, if only one got a letter. Returns
-    /// an error if an allocation fails, and then changes nothing.
+    /// Narrows a light through cells that got letters to its base words. `filled` is the cell, if only one of the light got a
+    /// letter. Returns an error if an allocation fails, and then changes nothing.
     fn narrow_light<R: Rows>(
         &mut self,
         rows: &mut R,
@@ -111,10 +151,11 @@ impl Net {
         &mut self,
         rows: &mut R,
         board: &Board<'_>,
-        filled: Option<usize>,
+        search: Search<'_>,
         level: &mut Level,
         pool: &mut Pool,
     ) -> Result<(), AllocError>
+        requires inside { AreInside search.grid.now search.written.now }
         requires long { AreLong board.now (R.entries rows.old) }
         requires sized { IsSized board.now (R.entries rows.old) self.old }
         ensures entries { R.entries rows.new ≡ R.entries rows.old }
@@ -122,13 +163,14 @@ impl Net {
         ensures sized { IsSized board.now (R.entries rows.old) self.new }
         ensures room { KeepsRoom self.old self.new }
         ensures rest { self.new ≡ record self.old { rows = self.new.rows; base = self.new.base; entered = self.new.entered } }
-        ensures on { OnOk result ((light : ℕ) → light < length board.now.lights → is_marked self.old.queue.marks light ≡ true → IsNarrowedTo board.now (R.entries rows.old) filled light self.old self.new) }
+        ensures on { OnOk result ((light : ℕ) → light < length board.now.lights → is_marked self.old.queue.marks light ≡ true → IsNarrowedIn search.entry.grid.now board.now (R.entries rows.old) search.entry.written.now light self.old self.new) }
         ensures off { (light : ℕ) → is_marked self.old.queue.marks light ≡ false → IsUnchanged light self.old self.new }
     {
         for light in 0..board.light_count() {
             if !self.queue.contains(light) {
                 continue;
             }
+            let filled = only_new(search.grid, board, search.written, light);
             self.narrow_light(rows, board, filled, light, level, pool)?;
         }
         Ok(())
@@ -156,8 +198,7 @@ impl Net {
         ensures entered { OnOk result (IsEnteredIn search.entry.grid.now board.now (R.entries rows.old) search.entry.written.now self.old self.new) }
     {
         mark_entered(search.grid, board, search.written, &mut self.queue);
-        let filled = only_filled(search.grid, board, search.written);
-        self.narrow_queued(rows, board, filled, level, pool)?;
+        self.narrow_queued(rows, board, search, level, pool)?;
         narrow_entered(search.grid, board, search.written, &mut self.letters);
         Ok(())
     }

@@ -1,5 +1,5 @@
 //! The way back of a search: the rows, letters and flags of a net as they were before a level changed them.
-ghost use Rattle.std.specs.Prelude.{◌≡◌, ℕ, ◌<◌, ◌^◌, List, true, false, [], length, IfOk, IfSome, OnOk};
+ghost use Rattle.std.specs.Prelude.{◌≡◌, ℕ, ◌<◌, ◌≤◌, List, true, false, [], length, IfOk, IfSome, OnOk};
 ghost use Rattle.xw_bits.specs.Bits.{RowOfBits};
 ghost use Rattle.xw_net.specs.Spread.{bits_in};
 ghost use Rattle.xw_net.specs.Room.{KeepRoom};
@@ -52,17 +52,17 @@ impl Pool {
         }
     }
 
-    /// A row with so many bits. Which of them are set does not matter to the caller.
-    fn take(&mut self, bits: usize) -> Result<BitRow, AllocError>
-        requires { bits < 2 ^ 57 }
-        ensures { IfOk result (λ row. length row.bits ≡ bits) }
+    /// A copy of a row, in the memory of a row that no level needs if there is one with as many bits.
+    fn copy_of(&mut self, row: &BitRow) -> Result<BitRow, AllocError>
+        ensures { IfOk result (λ copy. copy.bits ≡ row.now.bits) }
     {
         for index in 0..self.shelves.len() {
-            if let Some(row) = take_from(&mut self.shelves[index], bits) {
-                return Ok(row);
+            if let Some(mut copy) = take_from(&mut self.shelves[index], row.len()) {
+                copy.copy_from(row);
+                return Ok(copy);
             }
         }
-        BitRow::clear_of(self.alloc, bits)
+        row.copy()
     }
 
     /// The index of the shelf for rows with so many bits, which is made if there is none.
@@ -113,10 +113,23 @@ pub(crate) fn keep_row(
     if has_kept(kept, light) {
         return Ok(());
     }
-    let mut copy = pool.take(row.len())?;
-    copy.copy_from(row);
+    let copy = pool.copy_of(row)?;
     kept.push(KeptRow { light, row: copy })?;
     Ok(())
+}
+
+/// Puts a row in the place of another one, and returns a row that is not needed any more. A row with less room is copied, so
+/// that no room is lost.
+fn exchange(place: &mut BitRow, row: BitRow) -> BitRow
+    requires { length place.old.bits ≡ length row.bits }
+    ensures bits { place.new.bits ≡ row.bits }
+    ensures room { place.old.room ≤ place.new.room }
+{
+    if row.has_room_of(place) {
+        return std::mem::replace(place, row);
+    }
+    place.copy_from(&row);
+    row
 }
 
 /// Gives the lights back the rows that are kept.
@@ -129,8 +142,8 @@ pub(crate) fn give_back(kept: &mut Vec<KeptRow>, pool: &mut Pool, rows: &mut Vec
 {
     while let Some(last) = kept.pop() {
         let KeptRow { light, row } = last;
-        rows[light].copy_from(&row);
-        pool.put(row);
+        let unneeded = exchange(&mut rows[light], row);
+        pool.put(unneeded);
     }
 }
 

@@ -1,5 +1,5 @@
 //! The net, and its stripping: removing words and letters without support.
-use crate::light_position::{LightPosition, position_of, side};
+use crate::light_position::{LightPosition, Positions, position_of, side};
 use crate::room::{NOWHERE, Spare};
 use crate::support::{find_support, next_lost, strike_row};
 use crate::worklist::Worklist;
@@ -62,47 +62,38 @@ impl Net {
     ghost use Rattle.xw_net.specs.Worklist.{is_waiting};
 
     /// Removes from a light the words with a pending letter at a position.
-    fn strike_position<R: Rows>(
-        &mut self,
-        rows: &mut R,
-        board: &Board<'_>,
-        light: usize,
-        position: usize,
-    )
+    fn strike_position<R: Rows>(&mut self, rows: &mut R, board: &Board<'_>, here: LightPosition)
         requires net { IsStrippable board.now (R.entries rows.old) self.old }
-        requires position { IsPositionIn board.now light position }
+        requires there { IsThere board.now here }
         ensures entries { R.entries rows.new ≡ R.entries rows.old }
         ensures risen { R.ticks rows.old ≤ R.ticks rows.new }
         ensures step { IsStep board.now (R.entries rows.old) self.old self.new }
         ensures struck { IsStruck self.old self.new }
-        ensures cleared { IsCleared board.now self.new light position }
+        ensures cleared { IsCleared board.now self.new here.light here.position }
         ensures less { PendLess self.old self.new }
-        ensures only { IsStruckAt light self.old self.new }
-        ensures kept { StrikesOn board.now (R.entries rows.old) light self.old (R.ticks rows.old) self.new (R.ticks rows.new) }
+        ensures only { IsStruckAt here.light self.old self.new }
+        ensures kept { StrikesOn board.now (R.entries rows.old) here.light self.old (R.ticks rows.old) self.new (R.ticks rows.new) }
     {
-        let here = position_of(board, light, position);
         let pending = self.pending[here.slot];
         let alive = self.letters[here.cell];
         self.pending[here.slot] = LetterSet::new();
         strike_row(
             rows,
-            &mut self.rows[light],
+            &mut self.rows[here.light],
             here.len,
-            position,
+            here.position,
             pending,
             alive,
         );
-        self.entered[light] &= !pending.has(board.letter(here.cell));
+        self.entered[here.light] &= !pending.has(board.letter(here.cell));
     }
 
-    /// Whether no letter is pending at a position of a light.
-    fn is_clear(&self, board: &Board<'_>, light: usize, position: usize) -> bool
-        requires shaped { IsShaped board.now self.now }
-        requires position { IsPositionIn board.now light position }
-        ensures { result ≡ true → IsCleared board.now self.now light position }
+    /// Whether no letter is pending at a slot.
+    fn is_clear(&self, slot: usize) -> bool
+        requires { slot < length self.now.pending.items }
+        ensures { result ≡ true → (letter : ℕ) → pending_in self.now slot letter ≡ false }
     {
-        let here = position_of(board, light, position);
-        self.pending[here.slot].is_same(LetterSet::new())
+        self.pending[slot].is_same(LetterSet::new())
     }
 
     /// Removes from a light the words with a pending letter at any position.
@@ -118,11 +109,13 @@ impl Net {
         ensures only { IsStruckAt light self.old self.new }
         ensures kept { StrikesOn board.now (R.entries rows.old) light self.old (R.ticks rows.old) self.new (R.ticks rows.new) }
     {
-        for position in 0..board.light(light).len() {
-            if self.is_clear(board, light, position) {
+        let positions = Positions::of(board, light);
+        for position in 0..positions.len() {
+            let here = positions.at(position);
+            if self.is_clear(here.slot) {
                 continue;
             }
-            self.strike_position(rows, board, light, position);
+            self.strike_position(rows, board, here);
         }
     }
 

@@ -7,7 +7,7 @@ ghost use Rattle.xw_words.specs.Dictionary.{known_words};
 ghost use Rattle.xw_feas.specs.Flags.{set_has};
 ghost use Rattle.xw_net.specs.Inner.Passed.{AreLettersOf};
 
-use crate::light_position::position_of;
+use crate::light_position::{LightPosition, Positions};
 use crate::net::Net;
 use xw_bits::bit_row::BitRow;
 use xw_feas::board::Board;
@@ -52,20 +52,14 @@ impl Net {
     ghost use Rattle.std.specs.Prelude.{◌≡◌, ℕ, ◌<◌, ◌≤◌, true, false, length, slice_index_or};
     ghost use Rattle.xw_words.specs.Dictionary.{known_words};
     ghost use Rattle.xw_feas.specs.Board.{light_at};
-    ghost use Rattle.xw_net.specs.Marks.{IsPositionIn, cell_at};
-    ghost use Rattle.xw_net.specs.Nets.{IsShaped, IsLeft, left_of};
+    ghost use Rattle.xw_net.specs.Marks.{cell_at};
+    ghost use Rattle.xw_net.specs.Nets.{IsShaped, IsLeft, IsThere, left_of};
     ghost use Rattle.xw_net.specs.Steps.{IsStrippable, IsStep, IsCheck, IsStruckFrom, WaitMore, PendAtSlots, StandFewer, StandListed, ListsOn, AreLightHeld, ChecksOn};
 
     /// Removes from the cell at a position the letters that are not among `listed`.
-    pub(crate) fn keep_listed(
-        &mut self,
-        board: &Board<'_>,
-        light: usize,
-        position: usize,
-        listed: LetterSet,
-    )
+    pub(crate) fn keep_listed(&mut self, board: &Board<'_>, here: LightPosition, listed: LetterSet)
         requires shaped { IsShaped board.now self.old }
-        requires position { IsPositionIn board.now light position }
+        requires there { IsThere board.now here }
         ensures shaped { IsShaped board.now self.new }
         ensures rest { IsLeft self.old self.new }
         ensures same { IsStruckFrom self.old self.new }
@@ -73,10 +67,9 @@ impl Net {
         ensures waits { WaitMore self.old self.new }
         ensures pending { PendAtSlots board.now self.old self.new }
         ensures alive { StandFewer self.old self.new }
-        ensures listed { StandListed (cell_at board.now light position) listed self.new }
-        ensures kept { ListsOn board.now light position listed self.old self.new }
+        ensures listed { StandListed (cell_at board.now here.light here.position) listed self.new }
+        ensures kept { ListsOn board.now here.light here.position listed self.old self.new }
     {
-        let here = position_of(board, light, position);
         let gone = self.letters[here.cell].without(listed);
         if let Some(_) = gone.next_index(0) {
             self.drop_letters(board, here, gone, false);
@@ -113,10 +106,10 @@ impl Net {
         ensures held { AreLightHeld board.now (known_words bank.now.words) self.new light }
         ensures kept { (ticks : ℕ) → ChecksOn board.now (known_words bank.now.words) light self.old ticks self.new ticks }
     {
-        let len = board.light(light).len();
-        let listed = letters_of(bank, &self.rows[light], len);
-        for position in 0..len {
-            self.keep_listed(board, light, position, listed[position]);
+        let positions = Positions::of(board, light);
+        let listed = letters_of(bank, &self.rows[light], positions.len());
+        for position in 0..positions.len() {
+            self.keep_listed(board, positions.at(position), listed[position]);
         }
     }
 }

@@ -5,13 +5,14 @@ ghost use Rattle.xw_net.specs.Seen.{AreFound, HasWord, IsSeenAt};
 ghost use Rattle.xw_net.specs.Support.{supports};
 
 use crate::light_position::LightPosition;
-use crate::support::{first_support, next_lost};
+use crate::support::{first_support, is_in};
 use xw_bits::bit_row::BitRow;
 use xw_letters::letter::Letter;
 use xw_letters::letter_set::LetterSet;
 use xw_words::rows::Rows;
 
-/// Whether a word of the row has a letter, given by its index in the alphabet, at a position. Remembers the first one.
+/// Whether a word of the row has a letter, given by its index in the alphabet, at a position. If the word that is remembered
+/// for the letter is not in the row, looks for the first one that has the letter, and remembers it.
 fn look_for<R: Rows>(
     rows: &mut R,
     row: &BitRow,
@@ -22,6 +23,7 @@ fn look_for<R: Rows>(
     requires number { number < 26 }
     requires slot { 26 * here.slot + 26 ≤ length seen.old }
     requires small { length seen.old < 2 ^ 63 }
+    requires row { length row.now.bits ≡ length (R.entries rows.old here.len) }
     requires few { length row.now.bits < 2 ^ 32 }
     requires seen { IsSeenAt (R.entries rows.old here.len) here.position here.slot seen.old }
     ensures entries { R.entries rows.new ≡ R.entries rows.old }
@@ -32,9 +34,13 @@ fn look_for<R: Rows>(
     ensures found { result ≡ true → HasWord row.now.bits (R.entries rows.old here.len) here.position (65 + number) }
     ensures none { result ≡ false → (word : ℕ) → supports row.now.bits (R.entries rows.old here.len) here.position (65 + number) word ≡ false }
 {
+    let at = 26 * here.slot + number as usize;
+    if is_in(row, seen[at] as usize) {
+        return true;
+    }
     match first_support(rows, row, here.len, here.position, Letter::at(number), 0) {
         Some(word) => {
-            seen[26 * here.slot + number as usize] = word as u32;
+            seen[at] = word as u32;
             true
         }
         None => false,
@@ -62,12 +68,11 @@ pub(crate) fn found_letters<R: Rows>(
     ensures found { AreFound row.now.bits (R.entries rows.old here.len) here.position alive result }
 {
     let mut found = alive;
-    let mut from = 0;
-    while let Some(number) = next_lost(row, seen, here.slot, alive, from) {
+    let mut left = alive;
+    while let Some(number) = left.take_first() {
         if !look_for(rows, row, here, number, seen) {
             found.remove(Letter::at(number));
         }
-        from = number + 1;
     }
     found
 }

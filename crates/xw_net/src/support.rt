@@ -91,7 +91,7 @@ pub(crate) fn strike_row<R: Rows>(
 }
 
 /// Whether the row has a word; its index may be past the end of the row.
-fn is_in(row: &BitRow, word: usize) -> bool
+pub(crate) fn is_in(row: &BitRow, word: usize) -> bool
     ensures there { result ≡ true → IsInRow row.now.bits word }
     ensures lost { result ≡ false → IsLost row.now.bits word }
 {

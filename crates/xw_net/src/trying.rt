@@ -1,11 +1,12 @@
 //! Entering letters in a search: strips the lights that lose words, and goes back if a watched light dies.
-ghost use Rattle.std.specs.Prelude.{◌≡◌, ◌-◌, ◌*◌, ◌^◌, ℕ, ◌<◌, List, length, replicate, OnOk};
+ghost use Rattle.std.specs.Prelude.{◌≡◌, ◌*◌, ◌^◌, ℕ, ◌<◌, List, [], length, OnOk};
+ghost use Rattle.xw_net.specs.Seen.{AreKeptOrNone};
 
 use crate::begin::index_in;
 use crate::level::{Level, Pool, give_back, keep_row};
-use crate::light_position::position_of;
+use crate::light_position::{LightPosition, Positions};
 use crate::net::Net;
-use crate::room::{NO_WORD, NOWHERE, make_held};
+use crate::room::{NOWHERE, make_held};
 use crate::seen::found_letters;
 use std::alloc::{AllocError, Global};
 use xw_feas::board::Board;
@@ -28,7 +29,9 @@ pub struct Trail {
 
 impl Trail {
     /// A trail for no cells.
-    pub fn new(alloc: Global) -> Trail {
+    pub fn new(alloc: Global) -> Trail
+        ensures { result.seen.items ≡ [] }
+    {
         Trail {
             alloc,
             pool: Pool::new(alloc),
@@ -36,14 +39,15 @@ impl Trail {
         }
     }
 
-    /// Forgets the words, and makes room for those of a grid with so many cells.
+    /// Makes room for the words of a grid with so many cells, and remembers none then. Room of that size stays, with the words in
+    /// it.
     pub fn begin(&mut self, cells: usize) -> Result<(), AllocError>
         requires { cells < 2 ^ 32 }
-        ensures { OnOk result (self.new.seen.items ≡ replicate (52 * cells) (2 ^ 32 - 1)) }
+        ensures long { OnOk result (length self.new.seen.items ≡ 52 * cells) }
+        ensures kept { length self.old.seen.items ≡ 52 * cells → self.new.seen.items ≡ self.old.seen.items }
+        ensures seen { AreKeptOrNone cells self.old.seen.items self.new.seen.items }
     {
-        if self.seen.len() == 52 * cells {
-            self.seen.as_mut_slice().fill(NO_WORD);
-        } else {
+        if self.seen.len() != 52 * cells {
             self.seen = make_held(self.alloc, 52 * cells)?;
         }
         Ok(())
@@ -79,8 +83,8 @@ impl Net {
     ghost use Rattle.xw_feas.specs.Feasible.{IsFeasibleWord};
     ghost use Rattle.xw_feas.specs.State.{State};
     ghost use Rattle.xw_net.specs.Filled.{AreLong, IsQuiet};
-    ghost use Rattle.xw_net.specs.Marks.{IsPositionIn, AreSlotsApart};
-    ghost use Rattle.xw_net.specs.Nets.{IsShaped, IsQueue, left_of, pending_in, queued_in, word_stands, Waits};
+    ghost use Rattle.xw_net.specs.Marks.{AreSlotsApart};
+    ghost use Rattle.xw_net.specs.Nets.{IsShaped, IsQueue, IsThere, left_of, pending_in, queued_in, word_stands, Waits};
     ghost use Rattle.xw_net.specs.Level.{IsLike, IsWay, IsBack, IsBackFrom};
     ghost use Rattle.xw_net.specs.Update.{AreInside, IsSized, KeepsRoom, state_of};
     ghost use Rattle.xw_net.specs.Seen.{AreSeen};
@@ -93,14 +97,13 @@ impl Net {
         &mut self,
         rows: &mut R,
         board: &Board<'_>,
-        light: usize,
-        position: usize,
+        here: LightPosition,
         seen: &mut [u32],
     )
         requires net { IsStrippable board.now (R.entries rows.old) self.old }
-        requires position { IsPositionIn board.now light position }
-        requires open { slice_index_or self.old.entered.items light false ≡ false }
-        requires few { length (R.entries rows.old (length (light_at board.now light))) < 4294967296 }
+        requires there { IsThere board.now here }
+        requires open { slice_index_or self.old.entered.items here.light false ≡ false }
+        requires few { length (R.entries rows.old (length (light_at board.now here.light))) < 4294967296 }
         requires apart { AreSlotsApart board.now }
         requires seen { AreSeen board.now (R.entries rows.old) seen.old }
         ensures entries { R.entries rows.new ≡ R.entries rows.old }
@@ -110,13 +113,12 @@ impl Net {
         ensures check { IsCheck board.now (R.entries rows.old) self.old self.new }
         ensures same { IsStruckFrom self.old self.new }
         ensures alive { StandFewer self.old self.new }
-        ensures held { ArePositionHeld board.now (R.entries rows.old) self.new light position }
-        ensures kept { (ticks : ℕ) → ChecksOn board.now (R.entries rows.old) light self.old ticks self.new ticks }
+        ensures held { ArePositionHeld board.now (R.entries rows.old) self.new here.light here.position }
+        ensures kept { (ticks : ℕ) → ChecksOn board.now (R.entries rows.old) here.light self.old ticks self.new ticks }
     {
-        let here = position_of(board, light, position);
         let alive = self.letters[here.cell];
-        let found = found_letters(rows, &self.rows[light], here, alive, seen);
-        self.keep_listed(board, light, position, found);
+        let found = found_letters(rows, &self.rows[here.light], here, alive, seen);
+        self.keep_listed(board, here, found);
     }
 
     /// Checks each letter of a light, position by position.
@@ -142,8 +144,9 @@ impl Net {
         ensures held { AreLightHeld board.now (R.entries rows.old) self.new light }
         ensures kept { (ticks : ℕ) → ChecksOn board.now (R.entries rows.old) light self.old ticks self.new ticks }
     {
-        for position in 0..board.light(light).len() {
-            self.keep_found(rows, board, light, position, seen);
+        let positions = Positions::of(board, light);
+        for position in 0..positions.len() {
+            self.keep_found(rows, board, positions.at(position), seen);
         }
     }
 
@@ -312,7 +315,7 @@ impl Net {
         self.pending.as_mut_slice().fill(LetterSet::new());
     }
 
-    /// Goes back to the net before a level, and discards the work that stripping left.
+    /// Goes back to the net before a level. What is queued or pending stays.
     fn undo(&mut self, level: &mut Level, pool: &mut Pool)
         requires { (before : SpecNet) × IsWay level.old self.old before }
         ensures like { (before : SpecNet) → IsWay level.old self.old before → IsLike self.new before }
@@ -321,13 +324,8 @@ impl Net {
         ensures room { KeepsRoom self.old self.new }
         ensures many { length self.new.rows.items ≡ length self.old.rows.items }
         ensures many_base { length self.new.base.items ≡ length self.old.base.items }
-        ensures rest { self.new ≡ record self.old { rows = self.new.rows; base = self.new.base; letters = self.new.letters; entered = self.new.entered; pending = self.new.pending; queue = self.new.queue } }
-        ensures long { vec_len self.new.pending ≡ vec_len self.old.pending }
-        ensures pending { (slot letter : ℕ) → pending_in self.new slot letter ≡ false }
-        ensures lights { self.new.queue.lights ≡ [] }
-        ensures marks { self.new.queue.marks ≡ replicate (length self.old.queue.marks) false }
+        ensures rest { self.new ≡ record self.old { rows = self.new.rows; base = self.new.base; letters = self.new.letters; entered = self.new.entered } }
     {
-        self.halt();
         give_back(&mut level.rows, pool, &mut self.rows);
         give_back(&mut level.base, pool, &mut self.base);
         self.letters.as_mut_slice().copy_from_slice(&level.letters);
@@ -453,6 +451,7 @@ impl Net {
         if matches!(tried, Ok(None)) {
             self.keep_counts();
         } else {
+            self.halt();
             self.undo(level, &mut trail.pool);
         }
         tried

@@ -48,6 +48,7 @@ pub record AreWatched (named : ℕ → Bool) (start : Position) (watched : List 
 pub record IsPlan (start : Position) (plan : Plan) : Type 0 where
   pub watched : AreWatched (flags plan.named.items) start plan.watched.items
   pub targets : AreTargets (flags plan.named.items) start plan.targets.items
+  pub crossings : length plan.crossings.items ≡ length plan.targets.items
 
 -- ---- what rules out a fill
 

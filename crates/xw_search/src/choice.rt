@@ -1,6 +1,6 @@
 //! Which cell a search fills next, and with which letter. Proofs depend on which cells and letters are left, and not
 //! on their order.
-ghost use Rattle.std.specs.Prelude.{◌≡◌, ◌<◌, ℕ, All, Contains, true, is_some, IfSome, IfNone, None};
+ghost use Rattle.std.specs.Prelude.{◌≡◌, ◌<◌, ℕ, All, Contains, true, length, is_some, IfSome, IfNone, None};
 ghost use Rattle.xw_letters.specs.LetterSet.{has};
 ghost use Rattle.xw_feas.specs.Board.{board_of, is_open};
 ghost use Rattle.xw_search.specs.OfState.{is_feasible_letter, light_count, IsNextLetter, IsOnlyLetter, HasNoLetter};
@@ -43,11 +43,11 @@ fn turn_of(cell: usize, seed: u64) -> u64 {
         >> 40
 }
 
-/// The weight of the light with this index, if there is one.
-fn weight_of(weights: &[u64], light: Option<usize>) -> u64 {
-    match light {
-        Some(light) if light < weights.len() => weights[light],
-        _ => 0,
+/// The weight of a light; 0 for `NO_LIGHT`.
+fn weight_of(weights: &[u64], light: usize) -> u64 {
+    match weights.get(light) {
+        Some(weight) => *weight,
+        None => 0,
     }
 }
 
@@ -85,18 +85,6 @@ fn rank_of<E: Feasible>(
     }
 }
 
-/// The lights through the target with this index, if it has any.
-fn crossing_at(crossings: &[Crossing], index: usize) -> Crossing {
-    if index < crossings.len() {
-        crossings[index]
-    } else {
-        Crossing {
-            across: None,
-            down: None,
-        }
-    }
-}
-
 /// The cell to fill next among some open cells: the empty one whose rank comes first. `crossings` has the lights through
 /// each.
 pub fn next_cell<E: Feasible>(
@@ -106,7 +94,8 @@ pub fn next_cell<E: Feasible>(
     seed: u64,
     crossings: &[Crossing],
 ) -> Option<usize>
-    requires { All (λ cell. is_open (board_of (E.state engine.now).grid) cell ≡ true) targets.now }
+    requires open { All (λ cell. is_open (board_of (E.state engine.now).grid) cell ≡ true) targets.now }
+    requires crossings { length crossings.now ≡ length targets.now }
     ensures some { IfSome result (λ cell. Contains targets.now cell × (entry_in (entries_of (E.state engine.now)) cell ≡ None)) }
     ensures none { IfNone result (All (λ cell. is_some (entry_in (entries_of (E.state engine.now)) cell) ≡ true) targets.now) }
 {
@@ -116,10 +105,11 @@ pub fn next_cell<E: Feasible>(
         weight: 0,
         turn: 0,
     };
+    let board = board(engine);
     for index in 0..targets.len() {
         let cell = targets[index];
-        if board(engine).entry(cell).is_none() {
-            let rank = rank_of(engine, cell, crossing_at(crossings, index), weights, seed);
+        if board.entry(cell).is_none() {
+            let rank = rank_of(engine, cell, crossings[index], weights, seed);
             if best.is_none() || rank.is_before(&first) {
                 best = Some(cell);
                 first = rank;

@@ -1,6 +1,6 @@
 //! The cells that a search fills, and the lights that it watches.
-ghost use Rattle.std.specs.Prelude.{◌≡◌, ◌<◌, length, IfOk};
-ghost use Rattle.xw_feas.specs.Board.{board_of};
+ghost use Rattle.std.specs.Prelude.{◌≡◌, ◌<◌, All, true, length, IfOk};
+ghost use Rattle.xw_feas.specs.Board.{board_of, is_open};
 ghost use Rattle.xw_search.specs.OfState.{light_count, is_in_named, is_target, has_target, AreTargets, AreWatched, IsPlan};
 ghost use Rattle.xw_search.specs.NamedFill.{flags};
 ghost use Rattle.xw_search.specs.Progress.{is_flagged};
@@ -9,11 +9,15 @@ use crate::lights::{board, light_count};
 use std::alloc::{AllocError, Global};
 use xw_feas::feasible::Feasible;
 
-/// The lights through a cell, by index. They weigh in the choice of the next cell, and nothing is proved of them.
+/// In place of a light that is not there.
+pub const NO_LIGHT: usize = usize::MAX;
+
+/// The lights through a cell, by index; `NO_LIGHT` where there is none. They weigh in the choice of the next cell, and
+/// nothing is proved of them.
 #[derive(Clone, Copy)]
 pub struct Crossing {
-    pub across: Option<usize>,
-    pub down: Option<usize>,
+    pub across: usize,
+    pub down: usize,
 }
 
 /// What a search fills: flags for the named lights and for the lights to watch, the indices of the cells to fill, and
@@ -84,18 +88,23 @@ fn targets_of<E: Feasible>(
     Ok(targets)
 }
 
-/// The lights through each cell to fill.
+/// The lights through each of some open cells.
 fn crossings_of<E: Feasible>(
     alloc: Global,
     engine: &E,
-    named: &[bool],
-) -> Result<Vec<Crossing>, AllocError> {
+    cells: &[usize],
+) -> Result<Vec<Crossing>, AllocError>
+    requires { All (λ cell. is_open (board_of (E.state engine.now).grid) cell ≡ true) cells.now }
+    ensures { IfOk result (λ crossings. length crossings.items ≡ length cells.now) }
+{
     let mut crossings = Vec::new(alloc);
-    for cell in 0..board(engine).cell_count() {
-        if is_target(engine, named, cell) {
-            let (across, down) = board(engine).lights_at(cell);
-            crossings.push(Crossing { across, down })?;
-        }
+    for cell in cells {
+        let (across, down) = board(engine).lights_at(*cell);
+        let crossing = Crossing {
+            across: across.unwrap_or(NO_LIGHT),
+            down: down.unwrap_or(NO_LIGHT),
+        };
+        crossings.push(crossing)?;
     }
     Ok(crossings)
 }
@@ -124,7 +133,7 @@ impl Plan {
     {
         let targets = targets_of(alloc, engine, &named)?;
         let watched = watched_of(alloc, engine, &named)?;
-        let crossings = crossings_of(alloc, engine, &named)?;
+        let crossings = crossings_of(alloc, engine, &targets)?;
         Ok(Plan {
             named,
             watched,

@@ -205,7 +205,7 @@ impl Table {
         let mut left = words;
         while left != 0 {
             let index = first.wrapping_add(left.trailing_zeros() as usize);
-            total = total.wrapping_add(self.weight(index));
+            total = total.wrapping_add(self.weights.of_grade(self.grade(index)));
             left &= left - 1;
         }
         total

@@ -1,6 +1,6 @@
 //! Bars: whether an edge is barred, and toggling its orbit.
 ghost use Rattle.std.specs.Prelude.{◌≡◌, ◌<◌, ◌&&◌, not, true, length, slice_get, All, Ok, Err, OnOk, IfErr, OnErr, IsOk};
-ghost use Rattle.xw_grid.specs.Grid.{IsGrid, is_inside, index_of, is_edge, is_open, is_open_square, is_barred as spec_is_barred, beyond as spec_beyond};
+ghost use Rattle.xw_grid.specs.Grid.{IsGrid, is_inside, is_edge, is_open, is_open_square, is_barred as spec_is_barred, beyond as spec_beyond};
 ghost use Rattle.xw_grid.specs.Edit.{toggle_bar as spec_toggle_bar, with_bar, with_edges};
 ghost use Rattle.xw_grid.specs.Orbit.{moved as spec_moved, images_of, IsEdgeBetween, AreEdgesBetween};
 
@@ -32,7 +32,7 @@ impl Grid {
             return false;
         }
         let index = self.index_inside(cell);
-        let next = self.index_beyond(index, cell, side);
+        let next = self.index_inside(self.beyond(cell, side));
         let is_free = match side {
             Side::Right => !self.right[index],
             Side::Below => !self.below[index],
@@ -48,21 +48,6 @@ impl Grid {
         match side {
             Side::Right => cell.col >= self.width,
             Side::Below => cell.row >= self.height,
-        }
-    }
-
-    /// The index of the next cell on a side, from that of a cell.
-    fn index_beyond(&self, index: usize, cell: Cell, side: Side) -> usize
-        requires cell { is_inside self.now cell ≡ true }
-        requires index { index ≡ index_of self.now cell }
-        requires next { is_inside self.now (spec_beyond side cell) ≡ true }
-        ensures index { result ≡ index_of self.now (spec_beyond side cell) }
-        ensures within { result < length self.now.squares }
-    {
-        let _ = cell;
-        match side {
-            Side::Right => index + 1,
-            Side::Below => index + self.width as usize,
         }
     }
 

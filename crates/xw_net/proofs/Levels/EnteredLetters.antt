@@ -1,23 +1,25 @@
 -- Letters that were entered in empty cells: which entries are as before, and what a light that they complete spells.
-use Rattle.std.proofs.Common.{◌≡◌, ℕ, zero, suc, ◌<◌, Bool, true, List, [], ◌∷◌, Some, None, length, sym, ap, ◌∙◌, subst, arith}
-use Rattle.std.specs.Prelude.{Option, IsTrue, Contains}
-use Rattle.std.proofs.lemmas.Bool.{and_parts, and_from}
+use Rattle.std.proofs.Common.{◌≡◌, ℕ, zero, suc, ◌<◌, Bool, true, List, [], ◌∷◌, Some, None, length, set, get_or, sym, ap, ◌∙◌, subst, inl, inr, arith}
+use Rattle.std.specs.Prelude.{Option, IsTrue, Contains, slice_index}
+use Rattle.std.proofs.lemmas.Bool.{cases_eq, cases_lt, and_parts, and_from}
+use Rattle.std.proofs.lemmas.List.{get_or_default, get_or-set_same, get_or-set_other, length-set}
+use Rattle.std.proofs.Math.ListN.{get_or-eq_default}
 use Rattle.std.proofs.lemmas.Slice.Eq.{bytes_eq-Decides}
 use Rattle.std.proofs.Math.Logic.{∥∥₁_elim}
 use mathlib.Core.Bool.{Bool-set}
-use Rattle.xw_words.specs.Dictionary.{Dictionary}
+use Rattle.xw_words.specs.Dictionary.{Dictionary, Entry}
 use Rattle.xw_grid.specs.declared.cell.Cell.{Cell}
-use Rattle.xw_grid.specs.Grid.{Grid, index_of}
-use Rattle.xw_feas.specs.Board.{Board, light_at}
+use Rattle.xw_grid.specs.Grid.{Grid}
+use Rattle.xw_feas.specs.Board.{Board, entry, light_at}
 use Rattle.xw_feas.specs.Feasible.{IsFeasibleWord, base_words}
 use Rattle.xw_feas.specs.Choices.{base_flags, choice_at, IsExact}
 use Rattle.xw_feas.proofs.Support.{any_below-from, any_below-gives, number_of_base, base_words_here, set_flag_within, stands_as}
-use Rattle.xw_net.specs.Base.{HasOneMore}
-use Rattle.xw_net.specs.Begin.{only_filled}
-use Rattle.xw_net.specs.Entered.{IsEntered}
+use Rattle.xw_net.specs.Base.{WasRow, base_bits}
+use Rattle.xw_net.specs.Entered.{IsEntered, IsNew}
+use Rattle.xw_net.proofs.Edits.ChangedLights.{base_bits_same}
+use Rattle.xw_net.proofs.Edits.KeptBaseWords.{HaveSameEntries}
 use Rattle.xw_net.proofs.Levels.EnteredBoards.{with_entries, KeepsEntries}
 use Rattle.xw_net.proofs.Levels.EnteredFamilies.{AreSpelled}
-use Rattle.xw_net.proofs.Revivals.FilledCell.{one_filled}
 
 -- a net that has exactly the feasible words has each of them at a number
 feasible_choice : (board : Board) (dictionary : Dictionary) (words letters : ℕ → ℕ → Bool) → IsExact board dictionary words letters → (light : ℕ) (word : List ℕ) → light < length board.lights → IsFeasibleWord board dictionary light word
@@ -46,14 +48,27 @@ module _ (before : Board) (entries : List (Option ℕ)) (dictionary : Dictionary
   pub are_spelled : (words letters : ℕ → ℕ → Bool) → IsExact before dictionary words letters → AreSpelled before entries dictionary words
   are_spelled words letters exact light below part whole = feasible_choice before dictionary words letters exact light _ below (is.spelled light below part whole)
 
-  -- if only one cell was written, the board has one more entry there
-  pub one_more : (cell : ℕ) → only_filled grid after written ≡ Some cell → HasOneMore before after cell
-  one_more cell found =
-      let one = one_filled grid after written cell found in
-      record {
-        empty = is.empty cell (one.listed.0, subst (λ cells. Contains cells (one.listed.0, None)) (sym one.cells) (0, omega arith, ap (λ (o : Option ℕ). (one.listed.0, o)) one.empty), one.at);
-        others = λ other apart. is.others other (λ new. apart (sym new.2 ∙ same one.listed new.0 (subst (λ cells. Contains cells (new.0, None)) one.cells new.1) ∙ one.at));
-      } where
-        same : (listed : Cell × Option ℕ) (other : Cell) → Contains (listed ∷ []) (other, None) → index_of grid other ≡ index_of grid listed.0
-        same listed other (zero, below, at) = sym (ap (λ (x : Cell × Option ℕ). index_of grid x.0) at)
-        same listed other (suc k, below, at) = absurd (omega (arith, below))
+  -- if only one cell of a light got a letter, its row was the base row of a board with one entry fewer
+  pub was_row : (light cell : ℕ) (words : ℕ → List Entry) (bits : List Bool) → IsNew grid written cell → ((position : ℕ) → position < length (light_at before light) → IsNew grid written (slice_index (light_at before light) position) → slice_index (light_at before light) position ≡ cell)
+      → bits ≡ base_bits before (light_at before light) (words (length (light_at before light))) → WasRow after words cell light bits
+  was_row light cell words bits new only row = record {
+    before = fewer;
+    more = record { empty = emptied; others = λ other apart. sym (get_or-set_other entries cell other None None apart) };
+    row = row ∙ sym (base_bits_same before fewer (light_at before light) (words (length (light_at before light))) same);
+  } where
+    fewer : Board
+    fewer = with_entries before (set entries cell None)
+
+    emptied : get_or (set entries cell None) cell None ≡ None
+    emptied = elim (cases_lt cell (length entries)) [
+      | inl below ↦ get_or-set_same entries cell None None below
+      | inr past ↦ get_or-eq_default (set entries cell None) None (omega (arith, past, length-set entries cell None))
+    ]
+
+    same : HaveSameEntries before fewer (light_at before light)
+    same other listed =
+        let at : get_or (light_at before light) listed.0 0 ≡ other = get_or_default (light_at before light) listed.0 0 other listed.1 ∙ listed.2 in
+        elim (cases_eq other cell) [
+          | inl e ↦ ap (λ n. get_or (set entries cell None) n None) e ∙ emptied ∙ sym (is.empty cell new) ∙ ap (entry before) (sym e)
+          | inr apart ↦ get_or-set_other entries cell other None None apart ∙ is.others other (λ one. apart (sym at ∙ only listed.0 listed.1 (subst (IsNew grid written) (sym at) one)))
+        ]

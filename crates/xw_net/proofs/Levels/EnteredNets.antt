@@ -28,7 +28,7 @@ use Rattle.xw_net.proofs.Edits.ExactFamilies.{exact_may}
 use Rattle.xw_net.proofs.Edits.KeptBaseWords.{HaveSameEntries}
 use Rattle.xw_net.proofs.Levels.EnteredBoards.{with_entries, KeepsEntries}
 use Rattle.xw_net.proofs.Levels.EnteredFamilies.{AreSpelled}
-use Rattle.xw_net.proofs.Levels.EnteredLetters.{keeps_entries, are_spelled, one_more}
+use Rattle.xw_net.proofs.Levels.EnteredLetters.{keeps_entries, are_spelled, was_row}
 use Rattle.xw_net.proofs.Levels.EnteredMarks.{AreEntered, entered_ready, entered_holding}
 use Rattle.xw_net.proofs.Lists.ListsOfLights.{marked_below}
 use Rattle.xw_net.proofs.Revivals.StartIsRevival.{empty_not_whole}
@@ -68,7 +68,11 @@ module _ (before : Board) (entries : List (Option ℕ)) (dictionary : Dictionary
 
   is_base : IsBase after dictionary new.base.items
   is_base light below = elim (cases_Bool (is_marked new.queue.marks light)) [
-    | inl marked ↦ (is.on light below marked).base (λ cell found. record { before = before; more = one_more before entries dictionary grid written entered cell found; row = filled.is_base light below })
+    | inl marked ↦
+        let on = is.on light below marked in
+        on.narrowed.base (λ cell found.
+        let only = on.only cell found in
+        was_row before entries dictionary grid written entered light cell (known_words dictionary) (bits_in old.base.items light) only.0 only.1 (filled.is_base light below))
     | inr none ↦ (is.off light none).base ∙ filled.is_base light below ∙ sym (base_bits_same before after (light_at before light) (known_words dictionary (length (light_at before light))) (elsewhere light below none))
   ]
 
@@ -94,7 +98,7 @@ module _ (before : Board) (entries : List (Option ℕ)) (dictionary : Dictionary
   narrowed_words : (light choice : ℕ) → is_marked new.queue.marks light ≡ true → choice < known before dictionary light → word_stands new light choice ≡ (word_stands old light choice && is_base_at after dictionary light choice)
   narrowed_words light choice marked below =
       let inside = light_inside light marked in
-      let on = is.on light inside marked in
+      let on = (is.on light inside marked).narrowed in
       let base : bits_in new.base.items light ≡ base_of light = is_base light inside in
       let size : length (base_of light) ≡ known before dictionary light = length-map (known_words dictionary (length (light_at before light))) (is_base_word after (light_at before light)) in
       let long : length (bits_in old.rows.items light) ≡ length (bits_in new.base.items light) = omega (arith, long_old light inside, size, ap length base) in
@@ -124,7 +128,7 @@ module _ (before : Board) (entries : List (Option ℕ)) (dictionary : Dictionary
   unfolding held_in restart_in pending_in queued_in is_marked
   are_entered = record {
     words_on = narrowed_words;
-    entered_on = λ light marked. entered_is new light (known before dictionary light) (long_new light (light_inside light marked)) ∙ (is.on light (light_inside light marked) marked).flag;
+    entered_on = λ light marked. entered_is new light (known before dictionary light) (long_new light (light_inside light marked)) ∙ (is.on light (light_inside light marked) marked).narrowed.flag;
     words_off = same_words;
     lights = lights;
     numbers = λ light choice stands. elim (word_cases new light choice stands) [

@@ -1,6 +1,6 @@
 -- Letters that are found one after another.
-use Rattle.std.proofs.Common.{◌≡◌, ◌≢◌, ◌⊎◌, ℕ, ◌+◌, ◌-◌, ◌*◌, ◌<◌, ◌≤◌, Bool, true, false, not, ◌&&◌, eqb, List, length, get_or, refl, sym, ap, ◌∙◌, subst, inl, inr, arith}
-use Rattle.std.proofs.lemmas.Bool.{cases_eq, cases_lt, both_ways, and_right, ne_eqb, eq-eqb, not_from_false, not_from_true}
+use Rattle.std.proofs.Common.{◌≡◌, ◌≢◌, ◌⊎◌, ℕ, ◌+◌, ◌-◌, ◌*◌, ◌<◌, ◌≤◌, Bool, true, false, not, ◌&&◌, eqb, List, length, get_or, sym, ap, ◌∙◌, subst, inl, inr, arith}
+use Rattle.std.proofs.lemmas.Bool.{cases_eq, cases_lt, both_ways, and_parts, ne_eqb, eq-eqb, not_from_false, not_from_true}
 use Rattle.xw_letters.specs.LetterSet.{has}
 use Rattle.xw_words.specs.Dictionary.{Dictionary, Entry}
 use Rattle.xw_feas.specs.Board.{Board, light_at}
@@ -9,7 +9,7 @@ use Rattle.xw_net.specs.Marks.IsHeld.{by_word}
 use Rattle.xw_net.specs.Nets.{bits_for, word_stands, marks_of, HasBits}
 use Rattle.xw_net.specs.declared.net.Net.{Net}
 use Rattle.xw_words.specs.Columns.{has_letter}
-use Rattle.xw_net.specs.Inner.Lost.{AreInRow}
+use Rattle.xw_net.specs.Inner.Lost.{IsInRow}
 use Rattle.xw_net.specs.Seen.{AreFound, AreSeen, HasWord, IsSeenAt}
 use Rattle.xw_net.specs.Support.{supports}
 use Rattle.xw_net.proofs.Stripping.FoundSupports.{supports-parts, supports-from}
@@ -18,83 +18,64 @@ use Rattle.xw_net.proofs.Stripping.WordsByNumber.WordOf.{listed, spelled_one}
 use Rattle.xw_feas.proofs.Support.{set_flag_within}
 use Rattle.xw_net.proofs.Stripping.StruckRows.{set_letter}
 
-module _ (bits : List Bool) (words : List Entry) (position slot : ℕ) (alive : ℕ) where
-  -- the letters before an index were found exactly if a word has them, and the others are as they were
-  pub record AreFoundTo (found from : ℕ) : Type 0 where
-    pub ahead : (k : ℕ) → from ≤ k → has found (65 + k) ≡ has alive (65 + k)
-    pub some_has : (k : ℕ) → k < from → has found (65 + k) ≡ true → HasWord bits words position (65 + k)
-    pub all_of : (k word : ℕ) → k < from → has alive (65 + k) ≡ true → supports bits words position (65 + k) word ≡ true → has found (65 + k) ≡ true
+-- the word that is remembered for a letter has it
+pub seen_has : (bits : List Bool) (words : List Entry) (position slot number : ℕ) (seen : List ℕ) → number < 26 → length bits ≡ length words → IsSeenAt words position slot seen → IsInRow bits (get_or seen (26 * slot + number) 0) → HasWord bits words position (65 + number)
+seen_has bits words position slot number seen below long right there =
+    let word = get_or seen (26 * slot + number) 0 in
+    (word, supports-from bits words position (65 + number) word there.1 (right number below (omega (arith, there.0, long))))
 
-  pub found_none : AreFoundTo alive 0
-  found_none = record { ahead = λ k le. refl; some_has = λ k lt. absurd (omega (arith, lt)); all_of = λ k word lt. absurd (omega (arith, lt)) }
+module _ (bits : List Bool) (words : List Entry) (position : ℕ) (alive : ℕ) where
+  -- exactly the letters that some word has were found, but for those that are left
+  pub record AreFoundBut (found left : ℕ) : Type 0 where
+    pub some_has : (letter : ℕ) → has found letter ≡ true → (has left letter ≡ true) ⊎ HasWord bits words position letter
+    pub all_of : (letter word : ℕ) → has alive letter ≡ true → supports bits words position letter word ≡ true → has found letter ≡ true
 
-  -- letters whose remembered words are in the row
-  pub found_held : (found from to : ℕ) (seen : List ℕ) → from ≤ to → to ≤ 26 → length bits ≡ length words → IsSeenAt words position slot seen → AreInRow bits seen slot alive from to → AreFoundTo found from → AreFoundTo found to
-  found_held found from to seen le_to most long right in_row to_here = record {
-    ahead = λ k le. to_here.ahead k (omega (arith, le, le_to));
-    some_has = λ k lt is. elim (cases_lt k from) [
-      | inl before ↦ to_here.some_has k before is
-      | inr past ↦
-          let there = in_row k past lt (sym (to_here.ahead k past) ∙ is) in
-          let word = get_or seen (26 * slot + k) 0 in
-          (word, supports-from bits words position (65 + k) word there.1 (right k (omega (arith, lt, most)) (omega (arith, there.0, long))))
+  pub found_none : AreFoundBut alive alive
+  found_none = record { some_has = λ letter is. inl is; all_of = λ letter word is sup. is }
+
+  module _ (letter left less : ℕ) (is : (other : ℕ) → has less other ≡ (has left other && not (eqb other letter))) where
+    -- another letter of the set is still there
+    stays : (other : ℕ) → other ≢ letter → has left other ≡ true → has less other ≡ true
+    stays other apart there = is other ∙ ap (λ b. b && not (eqb other letter)) there ∙ not_from_false (eqb other letter) (ne_eqb other letter apart)
+
+    -- a letter that a word has
+    pub found_one : (found : ℕ) → HasWord bits words position letter → AreFoundBut found left → AreFoundBut found less
+    found_one found has_word before = record {
+      some_has = λ other stands. elim (cases_eq other letter) [
+        | inl e ↦ inr (subst (HasWord bits words position) (sym e) has_word)
+        | inr apart ↦ elim (before.some_has other stands) [
+          | inl there ↦ inl (stays other apart there)
+          | inr has_one ↦ inr has_one
+        ]
+      ];
+      all_of = before.all_of;
+    }
+
+    -- a letter that none has
+    pub found_less : (found fewer : ℕ) → ((other : ℕ) → has fewer other ≡ (has found other && not (eqb other letter))) → ((word : ℕ) → supports bits words position letter word ≡ false) → AreFoundBut found left → AreFoundBut fewer less
+    found_less found fewer dropped none before = record {
+      some_has = λ other stands.
+          let parts = and_parts (has found other) (not (eqb other letter)) (sym (dropped other) ∙ stands) in
+          elim (cases_eq other letter) [
+            | inl e ↦ absurd (both_ways (not (eqb other letter)) (not_from_true (eqb other letter) (eq-eqb other letter e)) parts.1)
+            | inr apart ↦ elim (before.some_has other parts.0) [
+              | inl there ↦ inl (stays other apart there)
+              | inr has_one ↦ inr has_one
+            ]
+          ];
+      all_of = λ other word there sup. elim (cases_eq other letter) [
+        | inl e ↦ absurd (both_ways (supports bits words position other word) (ap (λ n. supports bits words position n word) e ∙ none word) sup)
+        | inr apart ↦ dropped other ∙ ap (λ b. b && not (eqb other letter)) (before.all_of other word there sup) ∙ not_from_false (eqb other letter) (ne_eqb other letter apart)
+      ];
+    }
+
+  pub found_all : (found left : ℕ) → ((letter : ℕ) → has left letter ≡ false) → AreFoundBut found left → AreFound bits words position alive found
+  found_all found left none before = record {
+    some_has = λ letter is. elim (before.some_has letter is) [
+      | inl there ↦ absurd (both_ways (has left letter) (none letter) there)
+      | inr has_one ↦ has_one
     ];
-    all_of = λ k word lt stands sup. elim (cases_lt k from) [
-      | inl before ↦ to_here.all_of k word before stands sup
-      | inr past ↦ to_here.ahead k past ∙ stands
-    ];
-  }
-
-  -- a letter that a word has
-  pub found_one : (found from : ℕ) → HasWord bits words position (65 + from) → AreFoundTo found from → AreFoundTo found (from + 1)
-  found_one found from has_word to_here = record {
-    ahead = λ k le. to_here.ahead k (omega (arith, le));
-    some_has = λ k lt is. elim (cases_eq k from) [
-      | inl e ↦ subst (λ n. HasWord bits words position (65 + n)) (sym e) has_word
-      | inr apart ↦ to_here.some_has k (omega (arith, lt, apart)) is
-    ];
-    all_of = λ k word lt stands sup. elim (cases_eq k from) [
-      | inl e ↦ to_here.ahead k (omega (arith, e)) ∙ stands
-      | inr apart ↦ to_here.all_of k word (omega (arith, lt, apart)) stands sup
-    ];
-  }
-
-  -- a letter that none has
-  pub found_less : (found less from : ℕ) → ((other : ℕ) → has less other ≡ (has found other && not (eqb other (65 + from)))) → ((word : ℕ) → supports bits words position (65 + from) word ≡ false) → AreFoundTo found from → AreFoundTo less (from + 1)
-  found_less found less from is none to_here = record {
-    ahead = λ k le. other k (λ e. absurd (omega (arith, e, le))) ∙ to_here.ahead k (omega (arith, le));
-    some_has = λ k lt stands. elim (cases_eq k from) [
-      | inl e ↦ absurd (both_ways (has less (65 + k)) (ap (λ n. has less (65 + n)) e ∙ gone) stands)
-      | inr apart ↦ to_here.some_has k (omega (arith, lt, apart)) (sym (other k apart) ∙ stands)
-    ];
-    all_of = λ k word lt stands sup. elim (cases_eq k from) [
-      | inl e ↦ absurd (both_ways (supports bits words position (65 + k) word) (ap (λ n. supports bits words position (65 + n) word) e ∙ none word) sup)
-      | inr apart ↦ other k apart ∙ to_here.all_of k word (omega (arith, lt, apart)) stands sup
-    ];
-  } where
-    gone : has less (65 + from) ≡ false
-    gone = is (65 + from) ∙ and_right (has found (65 + from)) (not (eqb (65 + from) (65 + from))) (not_from_true (eqb (65 + from) (65 + from)) (eq-eqb (65 + from) (65 + from) refl))
-
-    and_yes : (a b : Bool) → b ≡ true → (a && b) ≡ a
-    and_yes a true _ = and_true a where
-      and_true : (a : Bool) → (a && true) ≡ a
-      and_true true = refl
-      and_true false = refl
-    and_yes a false yes_not = let never : false ≡ true = yes_not in cc
-
-    other : (k : ℕ) → k ≢ from → has less (65 + k) ≡ has found (65 + k)
-    other k apart = is (65 + k) ∙ and_yes (has found (65 + k)) (not (eqb (65 + k) (65 + from))) (not_from_false (eqb (65 + k) (65 + from)) (ne_eqb (65 + k) (65 + from) (λ e. apart (omega (arith, e)))))
-
-  pub found_all : (found : ℕ) → AreFoundTo found 26 → AreFound bits words position alive found
-  found_all found all = record {
-    some_has = λ letter is.
-        let one = set_letter found letter is in
-        let at : 65 + (letter - 65) ≡ letter = omega (arith, one.0) in
-        subst (HasWord bits words position) at (all.some_has (letter - 65) (omega (arith, one.0, one.1)) (ap (has found) at ∙ is));
-    all_of = λ letter word stands sup.
-        let one = set_letter alive letter stands in
-        let at : 65 + (letter - 65) ≡ letter = omega (arith, one.0) in
-        ap (has found) (sym at) ∙ all.all_of (letter - 65) word (omega (arith, one.0, one.1)) (ap (has alive) at ∙ stands) (ap (λ n. supports bits words position n word) at ∙ sup);
+    all_of = before.all_of;
   }
 
 -- ---- what was found in a light of a net

@@ -5,7 +5,9 @@ use Rattle.xw_words.specs.Dictionary.{Entry}
 use Rattle.xw_feas.specs.Board.{Board, light_at}
 use Rattle.xw_net.specs.Base.{WasBase}
 use Rattle.xw_net.specs.Begin.{IsNarrowedRow}
-use Rattle.xw_net.specs.Entered.{IsUnchanged, IsNarrowedTo}
+use Rattle.xw_grid.specs.declared.cell.Cell.{Cell}
+use Rattle.xw_grid.specs.Grid.{Grid}
+use Rattle.xw_net.specs.Entered.{IsUnchanged, IsNarrowedTo, IsNarrowedIn}
 use Rattle.xw_net.specs.Spread.{bits_in}
 use Rattle.xw_net.specs.declared.net.Net.{Net}
 
@@ -27,3 +29,7 @@ module _ (board : Board) (entries : ℕ → List Entry) (filled : Option ℕ) (l
     rows = subst (λ bits. IsNarrowedRow None (length (light_at board light)) bits (bits_in new.base.items light) (bits_in new.rows.items light)) stays.rows is.rows;
     flag = is.flag;
   }
+
+pub narrowed_in_after : (grid : Grid) (board : Board) (entries : ℕ → List Entry) (written : List (Cell × Option ℕ)) (light : ℕ) (old mid new : Net) → IsNarrowedIn grid board entries written light old mid → IsUnchanged light mid new
+    → IsNarrowedIn grid board entries written light old new
+narrowed_in_after grid board entries written light old mid new is stays = record { filled = is.filled; only = is.only; narrowed = narrowed_after board entries is.filled light old mid new is.narrowed stays }

@@ -16,7 +16,7 @@ pub record IsNewBelow (grid : Grid) (written : List (Cell × Option ℕ)) (count
   pub at : get_or written index (listed, None) ≡ (listed, None)
   pub is_cell : index_of grid listed ≡ cell
 
-none_from : (o : Option ℕ) → is_some o ≡ false → o ≡ None
+pub none_from : (o : Option ℕ) → is_some o ≡ false → o ≡ None
 none_from None is = refl
 none_from (Some letter) is = let never : true ≡ false = is in cc
 

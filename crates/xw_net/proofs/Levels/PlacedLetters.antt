@@ -6,7 +6,6 @@ use Rattle.xw_grid.specs.declared.cell.Cell.{Cell}
 use Rattle.xw_grid.specs.Grid.{Grid}
 use Rattle.xw_feas.specs.Board.{Board, light_at}
 use Rattle.xw_net.specs.Base.{base_bits}
-use Rattle.xw_net.specs.Begin.{only_filled}
 use Rattle.xw_net.specs.Entered.{IsEnteredIn, IsEntered, IsNarrowedTo, FillsEntered, DiesEntered}
 use Rattle.xw_net.specs.Filled.{IsUnstripped, IsFilled}
 use Rattle.xw_net.specs.Marks.{IsSetting}
@@ -40,7 +39,7 @@ module _ (grid : Grid) (board : Board) (entries : ℕ → List Entry) (dictionar
       }
 
   entered_read : IsEnteredIn grid board entries written old new → IsEnteredIn grid board (known_words dictionary) written old new
-  entered_read is = record { queue = is.queue; on = λ light below marked. narrowed_read (only_filled grid board written) light (is.on light below marked); off = is.off; letters = is.letters; rest = is.rest }
+  entered_read is = record { queue = is.queue; on = λ light below marked. let on = is.on light below marked in record { filled = on.filled; only = on.only; narrowed = narrowed_read on.filled light on.narrowed }; off = is.off; letters = is.letters; rest = is.rest }
 
 pub placed_unstripped : (grid : Grid) (before board : Board) (entries : ℕ → List Entry) (dictionary : Dictionary) (written : List (Cell × Option ℕ)) (old new : Net) → IsSetting board entries dictionary → IsEntered before dictionary grid written board
     → IsFilled before dictionary old → IsSized board entries new → KeepsRoom old new → IsEnteredIn grid board entries written old new → IsUnstripped board dictionary new

@@ -129,21 +129,60 @@ pub record IsUndone (old new : Net) : Type 0 where
   pub room : KeepsRoom old new
   pub many : length new.rows.items ≡ length old.rows.items
   pub many_base : length new.base.items ≡ length old.base.items
+  pub rest : new ≡ record old { rows = new.rows; base = new.base; letters = new.letters; entered = new.entered }
+
+-- nothing is pending, and no light is queued
+pub record IsIdle (net : Net) : Type 0 where
+  pub pending : (slot letter : ℕ) → pending_in net slot letter ≡ false
+  pub lights : net.queue.lights ≡ []
+  pub queued : (light : ℕ) → queued_in net light ≡ false
+
+-- what `Net::halt` does to a net
+pub record IsHaltedFrom (old new : Net) : Type 0 where
+  pub rest : new ≡ record old { queue = new.queue; pending = new.pending }
   pub long : vec_len new.pending ≡ vec_len old.pending
   pub pending : (slot letter : ℕ) → pending_in new slot letter ≡ false
   pub lights : new.queue.lights ≡ []
   pub marks : new.queue.marks ≡ replicate (length old.queue.marks) false
-  pub chain : new.chain ≡ old.chain
+
+halted_idle : (old new : Net) → IsHaltedFrom old new → IsIdle new
+unfolding queued_in
+halted_idle old new halted = record {
+  pending = halted.pending;
+  lights = halted.lights;
+  queued = λ light. ap (λ (marks : List Bool). get_or marks light false) halted.marks ∙ all_false (length old.queue.marks) light;
+}
+
+halted_sized : (board : Board) (entries : ℕ → List Entry) (old new : Net) → IsHaltedFrom old new → IsSized board entries old → IsSized board entries new
+halted_sized board entries old new halted sized = subst (IsSized board entries) (sym halted.rest) (record {
+  shaped = record {
+    few_cells = sized.shaped.few_cells;
+    rows = sized.shaped.rows;
+    entered = sized.shaped.entered;
+    letters = sized.shaped.letters;
+    held = sized.shaped.held;
+    restart = sized.shaped.restart;
+    pending = halted.long ∙ sized.shaped.pending;
+    queue = ap length halted.marks ∙ length-replicate (length old.queue.marks) false ∙ sized.shaped.queue;
+  };
+  chained = record { base = sized.chained.base; chain = sized.chained.chain };
+  bits = sized.bits;
+  base = sized.base;
+})
 
 -- the queue is empty, and the chain is that of a quiet net
-undone_quiet : (old new : Net) → IsUndone old new → old.chain.lights ≡ [] → ((light : ℕ) → is_marked old.chain.marks light ≡ false) → IsQuiet new
-unfolding queued_in is_marked
-undone_quiet old new undone taken marked = record {
-  queue = undone.lights;
-  queued = λ light. ap (λ (marks : List Bool). get_or marks light false) undone.marks ∙ all_false (length old.queue.marks) light;
-  taken = ap (λ (list : ListOfLights). list.lights) undone.chain ∙ taken;
-  marked = λ light. ap (λ (list : ListOfLights). get_or list.marks light false) undone.chain ∙ marked light;
+undone_quiet : (old new : Net) → IsUndone old new → IsIdle old → old.chain.lights ≡ [] → ((light : ℕ) → is_marked old.chain.marks light ≡ false) → IsQuiet new
+unfolding queued_in
+undone_quiet old new undone idle taken marked = record {
+  queue = ap (λ (net : Net). net.queue.lights) undone.rest ∙ idle.lights;
+  queued = λ light. ap (λ (net : Net). get_or net.queue.marks light false) undone.rest ∙ idle.queued light;
+  taken = ap (λ (net : Net). net.chain.lights) undone.rest ∙ taken;
+  marked = λ light. ap (λ (net : Net). is_marked net.chain.marks light) undone.rest ∙ marked light;
 }
+
+undone_pending : (old new : Net) → IsUndone old new → IsIdle old → (slot letter : ℕ) → pending_in new slot letter ≡ false
+unfolding pending_in
+undone_pending old new undone idle slot letter = ap (λ (net : Net). set_has net.pending.items slot letter) undone.rest ∙ idle.pending slot letter
 
 -- the net has the sizes of the one before
 back_long : (level : Level) (before old new : Net) → IsWay level old before → IsLike new before → IsUndone old new → IsAsLong before new
@@ -156,23 +195,33 @@ back_long level before old new way like undone = record {
 }
 
 -- letters were entered in a net that was settled, perhaps not to the end, and were taken back
-pub placed_back : (level : Level) (board : Board) (entries : ℕ → List Entry) (before old new : Net) → IsWay level old before → IsSized board entries before → IsSized board entries old → KeepsRoom before old → old.chain ≡ before.chain
-    → IsLike new before → IsUndone old new → IsBack before new
-placed_back level board entries before old new way was sized room chain like undone = record { as_long = long; settled = λ state settled. ∥∥₁_map settled (again state) } where
+pub placed_back : (level : Level) (board : Board) (entries : ℕ → List Entry) (before placed old new : Net) → IsWay level old before → IsSized board entries before → IsSized board entries placed → KeepsRoom before placed → placed.chain ≡ before.chain
+    → IsHaltedFrom placed old → IsLike new before → IsUndone old new → IsBack before new
+placed_back level board entries before placed old new way was sized room chain halted like undone = record { as_long = long; settled = λ state settled. ∥∥₁_map settled (again state) } where
   long : IsAsLong before new
   long = back_long level before old new way like undone
+
+  more : KeepsRoom before old
+  more = subst (KeepsRoom before) (sym halted.rest) (record { rows = room.rows; base = room.base })
+
+  chain_is : old.chain ≡ before.chain
+  chain_is = ap (λ (net : Net). net.chain) halted.rest ∙ chain
+
+  sized_old : IsSized board entries old
+  sized_old = halted_sized board entries placed old halted sized
 
   again : (state : State) → IsSettledFor state before → IsSettledFor state new
   again state settled =
       let whole = settled.filled.whole in
       settled_again before new long (layout_of state.grid) state.words (record {
-        pending_long = omega (arith, undone.long, sized.shaped.pending, was.shaped.letters, whole.shaped.letters);
-        queue_long = omega (arith, ap (λ (marks : List Bool). length marks) undone.marks, length-replicate (length old.queue.marks) false, sized.shaped.queue, was.shaped.queue, whole.shaped.queue);
-        chain_long = ap (λ (list : ListOfLights). length list.marks) (undone.chain ∙ chain) ∙ whole.chained.chain;
-        room = λ light lt. omega (arith, whole.room light lt, room.rows light, undone.room.rows light);
-        base_room = λ light lt. omega (arith, whole.base_room light lt, room.base light, undone.room.base light);
-        pending = undone.pending;
-        quiet = undone_quiet old new undone (ap (λ (list : ListOfLights). list.lights) chain ∙ settled.filled.quiet.taken) (λ light. ap (λ (list : ListOfLights). is_marked list.marks light) chain ∙ settled.filled.quiet.marked light);
+        pending_long = omega (arith, ap (λ (net : Net). vec_len net.pending) undone.rest, sized_old.shaped.pending, was.shaped.letters, whole.shaped.letters);
+        queue_long = omega (arith, ap (λ (net : Net). length net.queue.marks) undone.rest, sized_old.shaped.queue, was.shaped.queue, whole.shaped.queue);
+        chain_long = ap (λ (net : Net). length net.chain.marks) undone.rest ∙ ap (λ (list : ListOfLights). length list.marks) chain_is ∙ whole.chained.chain;
+        room = λ light lt. omega (arith, whole.room light lt, more.rows light, undone.room.rows light);
+        base_room = λ light lt. omega (arith, whole.base_room light lt, more.base light, undone.room.base light);
+        pending = undone_pending old new undone (halted_idle placed old halted);
+        quiet = undone_quiet old new undone (halted_idle placed old halted) (ap (λ (list : ListOfLights). list.lights) chain_is ∙ settled.filled.quiet.taken)
+            (λ light. ap (λ (list : ListOfLights). is_marked list.marks light) chain_is ∙ settled.filled.quiet.marked light);
       }) settled
 
 -- a settled net was taken back
@@ -184,6 +233,7 @@ settled_back level now before old new way is like undone = record { as_long = lo
   again : (state : State) → SameShape state.grid now.grid → state.words ≡ now.words → IsSettledFor now old → IsSettledFor state before → IsSettledFor state new
   again state shape words is settled =
       let whole = is.filled.whole in
+      let idle : IsIdle old = record { pending = is.filled.pending; lights = is.filled.quiet.queue; queued = is.filled.quiet.queued } in
       let lights : length (board_of now.grid).lights ≡ length (board_of state.grid).lights = length-lights now.grid ∙ ap length shape.lights ∙ sym (length-lights state.grid) in
       let known : (light : ℕ) → light < length (board_of state.grid).lights → length (known_words state.words (length (light_at (board_of state.grid) light))) ≡ length (known_words now.words (length (light_at (board_of now.grid) light))) =
       λ light lt.
@@ -192,13 +242,13 @@ settled_back level now before old new way is like undone = record { as_long = lo
       ap (λ n. length (known_words state.words n)) (length-light_at state.grid light in_state ∙ ap (λ ls. size_at ls light) (sym shape.lights) ∙ sym (length-light_at now.grid light in_now))
       ∙ ap (λ (words : Dictionary). length (known_words words (length (light_at (board_of now.grid) light)))) words in
       settled_again before new long (layout_of state.grid) state.words (record {
-        pending_long = omega (arith, undone.long, whole.shaped.pending, length-open_cells now.grid, length-open_cells state.grid, shape.cells);
-        queue_long = omega (arith, ap (λ (marks : List Bool). length marks) undone.marks, length-replicate (length old.queue.marks) false, whole.shaped.queue, lights);
-        chain_long = ap (λ (list : ListOfLights). length list.marks) undone.chain ∙ whole.chained.chain ∙ lights;
+        pending_long = omega (arith, ap (λ (net : Net). vec_len net.pending) undone.rest, whole.shaped.pending, length-open_cells now.grid, length-open_cells state.grid, shape.cells);
+        queue_long = omega (arith, ap (λ (net : Net). length net.queue.marks) undone.rest, whole.shaped.queue, lights);
+        chain_long = ap (λ (net : Net). length net.chain.marks) undone.rest ∙ whole.chained.chain ∙ lights;
         room = λ light lt. omega (arith, whole.room light (omega (arith, lt, lights)), known light lt, undone.room.rows light);
         base_room = λ light lt. omega (arith, whole.base_room light (omega (arith, lt, lights)), known light lt, undone.room.base light);
-        pending = undone.pending;
-        quiet = undone_quiet old new undone is.filled.quiet.taken is.filled.quiet.marked;
+        pending = undone_pending old new undone idle;
+        quiet = undone_quiet old new undone idle is.filled.quiet.taken is.filled.quiet.marked;
       }) settled
 
 -- ---- ways back from nets that are alike

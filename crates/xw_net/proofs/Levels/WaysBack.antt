@@ -41,6 +41,11 @@ pub way_queue : (level : Level) (old new before : Net) → new ≡ record old { 
 way_queue level old new before same way = subst (λ (n : Net). IsWay level n before) (sym same)
     (record { rows = way.rows; base = way.base; letters = way.letters; entered = way.entered; as_many_letters = way.as_many_letters; as_many_flags = way.as_many_flags; held = way.held; restart = way.restart })
 
+-- other work that is left
+pub way_halted : (level : Level) (old new before : Net) → new ≡ record old { queue = new.queue; pending = new.pending } → IsWay level old before → IsWay level new before
+way_halted level old new before same way = subst (λ (n : Net). IsWay level n before) (sym same)
+    (record { rows = way.rows; base = way.base; letters = way.letters; entered = way.entered; as_many_letters = way.as_many_letters; as_many_flags = way.as_many_flags; held = way.held; restart = way.restart })
+
 -- another note of a light
 pub way_noted : (level : Level) (old new before : Net) → new ≡ record old { emptied = new.emptied } → IsWay level old before → IsWay level new before
 way_noted level old new before same way = subst (λ (n : Net). IsWay level n before) (sym same)

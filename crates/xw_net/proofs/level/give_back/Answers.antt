@@ -1,4 +1,4 @@
-use Rattle.std.proofs.Common.{◌≡◌, ◌∷◌, [], ◌++◌, ◌<◌, List, length, sym, ap, ◌∙◌, subst, arith}
+use Rattle.std.proofs.Common.{◌≡◌, ◌∷◌, [], ◌++◌, ◌<◌, ◌≤◌, List, length, sym, ap, ◌∙◌, subst, arith}
 use Rattle.std.proofs.lemmas.List.{length-set}
 use Rattle.std.proofs.lemmas.List.Elements.{Contains-push}
 use Rattle.xw_bits.specs.Bits.{RowOfBits}
@@ -21,8 +21,8 @@ pub index_mut-requires : goal.index_mut-requires
 index_mut-requires c =
     omega (arith, below c.loop-last.kept.items c.pop.new.self.items c.in-Some.last c.loop-last.rows.items c.requires.0 c.in-Some.ensures.items (c.loop-last.invariant.back c.requires.0 c.requires.1), c.loop-last.rows.ok.0)
 
-pub copy_from-requires : goal.copy_from-requires
-copy_from-requires c =
+pub exchange-unneeded-requires : goal.exchange-unneeded-requires
+exchange-unneeded-requires c =
     let kept = c.loop-last.kept.items in
     let left = c.pop.new.self.items in
     let last = c.in-Some.last in
@@ -39,15 +39,14 @@ loop-last-preserved c =
     let left = c.pop.new.self.items in
     let last = c.in-Some.last in
     let rows = c.loop-last.rows.items in
-    let row = c.copy_from.new.self in
+    let row = c.exchange-unneeded.new.place in
     let inv = c.loop-last.invariant in
     let is = c.in-Some.ensures.items in
     let within = below kept left last rows c.requires.0 is (inv.back c.requires.0 c.requires.1) in
-    let room = ap (λ (r : RowOfBits). r.room) (sym c.index_mut.ensures.value) ∙ sym c.copy_from.ensures.room in
     record {
-      back = λ before lead. gives_row left last rows before row c.copy_from.ensures.bits (popped kept left last rows before is (inv.back before lead));
+      back = λ before lead. gives_row left last rows before row c.exchange-unneeded.ensures.bits (popped kept left last rows before is (inv.back before lead));
       many = length-set rows last.light row ∙ inv.many;
-      room = λ other. omega (arith, inv.room other, room_other rows last.light within row c.index_mut.result.now (omega (arith, room)) other);
+      room = λ other. omega (arith, inv.room other, room_other rows last.light within row c.index_mut.result.now (subst (λ (r : RowOfBits). r.room ≤ c.exchange-unneeded.new.place.room) c.index_mut.ensures.value c.exchange-unneeded.ensures.room) other);
     }
 
 pub returns-clause-back : goal.returns-clause-back

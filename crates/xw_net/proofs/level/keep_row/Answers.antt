@@ -6,5 +6,5 @@ use Rattle.xw_net.proofs.level.keep_row.Goals as goal
 
 pub returns-clause-back : goal.returns-clause-back
 returns-clause-back c rows before within is back =
-    let one : KeptRow = record { light = c.args.light; row = c.copy_from.new.self } in
-    subst (λ kept. LeadBack kept rows before) (sym c.in_ok-push.ensures.items) (keeps_row c.args.kept.now.items rows before one (c.has_kept.ensures.none c.if-has_kept.false) within (c.copy_from.ensures.bits ∙ is) back)
+    let one : KeptRow = record { light = c.args.light; row = c.in_ok-copy.copy } in
+    subst (λ kept. LeadBack kept rows before) (sym c.in_ok-push.ensures.items) (keeps_row c.args.kept.now.items rows before one (c.has_kept.ensures.none c.if-has_kept.false) within (c.in_ok-copy.ensures ∙ is) back)

@@ -22,7 +22,7 @@ loop-index-preserved g c =
     let targets = c.args.targets.now in
     let cell = get_or targets c.loop-index.index 0 in
     let before = c.loop-index.invariant in
-    let here : c.entry.result ≡ entry_in entries cell = c.entry.ensures.entry ∙ ap (λ (board : Board). entry board cell) c.board.ensures in
+    let here : c.entry.result ≡ entry_in entries cell = c.entry.ensures.entry ∙ ap (λ (board : Board). entry board cell) c.board-board.ensures in
     elim c.if-is_none.branch [
       | then-is_none+then-is_none-2 w ↦ record {
         some = λ other e.

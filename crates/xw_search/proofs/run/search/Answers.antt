@@ -15,8 +15,8 @@ use Rattle.xw_search.proofs.NamedFills.{open_is_fill}
 use Rattle.xw_search.proofs.LetterSearch.{IsUnderway, may_try, underway_alive, underway_tried, underway_on, underway_at, underway_back, underway_end, target_open, open_there, targets_open, chosen_target, none_left}
 use Rattle.xw_search.proofs.run.search.Goals as goal
 
-pub next_cell-requires : goal.next_cell-requires
-next_cell-requires g c =
+pub next_cell-requires-clause-open : goal.next_cell-requires-clause-open
+next_cell-requires-clause-open g c =
     let start = g.E.Feasible.state c.args.engine.now in
     targets_open (flags c.args.plan.now.named.items) start start c.args.plan.now.targets.items c.deref.result.now (DiffersInEntries-itself start) (shaped (board_of start.grid) (g.met.E.Feasible.well_formed c.args.engine.now).board) c.requires.plan.targets.sound c.deref.ensures.value
 
@@ -170,8 +170,8 @@ loop-letter-preserved-then-not-stands g c =
       count = omega (arith, c.loop-letter.invariant.count, c.in-Ok.ensures.placed, c.try_letter.ensures.made);
     }
 
-pub next_cell-requires-in-loop-letter : goal.next_cell-requires-in-loop-letter
-next_cell-requires-in-loop-letter g c =
+pub next_cell-requires-in-loop-letter-clause-open : goal.next_cell-requires-in-loop-letter-clause-open
+next_cell-requires-in-loop-letter-clause-open g c =
     let start = g.E.Feasible.state c.args.engine.now in
     let now = g.E.Feasible.state c.try_letter.new.engine in
     let is = shaped (board_of start.grid) (g.met.E.Feasible.well_formed c.args.engine.now).board in

@@ -1,12 +1,9 @@
 use Rattle.std.proofs.Common.{◌≡◌, length, refl, sym, ap, ◌∙◌, subst}
 use Rattle.std.specs.Prelude.{is_some}
-use Rattle.xw_feas.specs.Board.{board_of}
 use Rattle.xw_feas.specs.State.{State}
-use Rattle.xw_words.specs.Dictionary.{known_words}
 use Rattle.xw_grid.specs.Grid.{Grid}
-use Rattle.xw_net.specs.Seen.{AreSeen}
 use Rattle.xw_live.specs.Engine.{IsKept}
-use Rattle.xw_live.specs.Levels.{HasSizeOf, state_before, AreLevels}
+use Rattle.xw_live.specs.Levels.{HasSizeOf, state_before, AreRemembered, AreLevels}
 use Rattle.xw_live.specs.Live.{state_of}
 use Rattle.xw_live.specs.declared.levels.Levels.{Levels}
 use Rattle.xw_live.proofs.Keeping.{kept_from, kept_cells}
@@ -40,7 +37,7 @@ invariant_of-self c =
     let kept : IsKept before c.take_back.new.self = kept_from before c.take_back.new.self (back.settled before (SameShape-turned live.position.grid last.grid taken.shape) refl taken.kept.settled)
     (ap is_some c.take_back.ensures.spare ∙ live.kept.none_waits) in
     let levels : Levels = record live.levels { made = c.pop.new.self; spare = c.push.new.self; trail = c.take_back.new.trail } in
-    let seen : AreSeen (board_of c.in-Some.placement.grid) (known_words live.position.bank.words) c.take_back.new.trail.seen.items = taken_seen now live.levels live.net live.levels_kept others last items c.take_back.new.trail.seen.items c.take_back.ensures.seen in
+    let seen : AreRemembered before c.take_back.new.trail.seen.items = taken_seen now live.levels live.net live.levels_kept others last items c.take_back.new.trail.seen.items c.take_back.ensures.seen in
     let spare = all_pushed (HasSizeOf live.position.grid) live.levels.spare.items c.push.new.self.items (record last { grid = c.exchange.new.grid; level = c.take_back.new.level }) _ c.push.ensures.items
     (ap (λ (grid : Grid). length grid.squares) c.exchange.ensures.before) live.levels_kept.spare in
     record {

@@ -13,7 +13,7 @@ use Rattle.xw_net.proofs.Levels.RememberedWords.{seen_moved}
 use Rattle.xw_live.specs.Levels.{SameCells, states_before}
 use Rattle.xw_live.specs.Live.{state_of}
 use Rattle.xw_live.proofs.Outcomes.{IsOutcome, kept_then, levels_then, cells_then, tried_then, states_then}
-use Rattle.xw_live.proofs.Placements.{last_in, last_moved, some_placement}
+use Rattle.xw_live.proofs.Placements.{last_in, last_moved}
 use Rattle.xw_live.proofs.TriedPlacements.{tried_letter, tried_inside, same_but_entries}
 use Rattle.xw_live.proofs.searching.LiveSearchable.try_letter.Goals as goal
 
@@ -79,9 +79,8 @@ try_level-requires-clause-seen c =
     let made : after (state_of c.keep_level.new.self) (letter_set c.args.cell c.args.letter) ≡ Ok (position_state_of c.enter.new.self) = c.enter.ensures.made in
     let is_tried : IsTriedOn (position_state_of c.enter.new.self) c.enter.new.self.notes.written c.keep_level.new.self.net =
     tried_letter was there c.args.cell c.args.letter c.enter.new.self.notes.written live.net live.position.formed c.enter.new.self.formed may made c.enter.ensures.told.cells shape c.enter.ensures.words live.kept.settled in
-    let last = c.in_ok-keep_level.ensures.last in
     let alike = same_but_entries was there (letter_set c.args.cell c.args.letter) live.position.formed c.enter.new.self.formed made shape in
-    let seen = live.levels_kept.seen (some_placement live.levels.made.items old.levels.made.items last.placement last.all_are) in
+    let seen = c.in_ok-keep_level.ensures.seen in
     subst (λ (words : Dictionary). AreSeen (board_of c.enter.new.self.grid) (known_words words) c.keep_level.new.self.levels.trail.seen.items) (sym c.enter.ensures.words)
     (seen_moved (board_of live.position.grid) (board_of c.enter.new.self.grid) (known_words live.position.bank.words) live.levels.trail.seen.items (ap (λ (b : Board). b.lights) alike) (ap (λ (b : Board). b.open_cells) alike) seen)
 

@@ -12,7 +12,7 @@ use Rattle.xw_net.proofs.Levels.RememberedWords.{seen_moved}
 use Rattle.xw_live.specs.Levels.{SameCells, states_before}
 use Rattle.xw_live.specs.Live.{state_of}
 use Rattle.xw_live.proofs.Outcomes.{IsOutcome, kept_then, levels_then, cells_then, tried_then, states_then}
-use Rattle.xw_live.proofs.Placements.{last_in, last_moved, some_placement}
+use Rattle.xw_live.proofs.Placements.{last_in, last_moved}
 use Rattle.xw_live.proofs.TriedPlacements.{tried_word, tried_inside, same_but_entries}
 use Rattle.xw_live.proofs.searching.LiveSearchable.try_word.Goals as goal
 
@@ -73,9 +73,8 @@ try_level-requires-clause-seen c =
     let made : after (state_of c.keep_level.new.self) (known_placed (state_of c.keep_level.new.self) c.args.light c.args.index) ≡ Ok (position_state_of c.place_known.new.self) = c.place_known.ensures.made in
     let is_tried : IsTriedOn (position_state_of c.place_known.new.self) c.place_known.new.self.notes.written c.keep_level.new.self.net =
     tried_word was there c.args.light c.args.index c.place_known.new.self.notes.written live.net live.position.formed c.place_known.new.self.formed may made c.place_known.ensures.told.cells shape c.place_known.ensures.words live.kept.settled in
-    let last = c.in_ok-keep_level.ensures.last in
     let alike = same_but_entries was there (known_placed (state_of c.keep_level.new.self) c.args.light c.args.index) live.position.formed c.place_known.new.self.formed made shape in
-    let seen = live.levels_kept.seen (some_placement live.levels.made.items old.levels.made.items last.placement last.all_are) in
+    let seen = c.in_ok-keep_level.ensures.seen in
     subst (λ (words : Dictionary). AreSeen (board_of c.place_known.new.self.grid) (known_words words) c.keep_level.new.self.levels.trail.seen.items) (sym c.place_known.ensures.words)
     (seen_moved (board_of live.position.grid) (board_of c.place_known.new.self.grid) (known_words live.position.bank.words) live.levels.trail.seen.items (ap (λ (b : Board). b.lights) alike) (ap (λ (b : Board). b.open_cells) alike) seen)
 

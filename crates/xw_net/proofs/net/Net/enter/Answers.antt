@@ -1,5 +1,5 @@
 use Rattle.std.proofs.Common.{◌≡◌, ◌&&◌, refl, sym, ap, ◌∙◌, subst, inl, inr, arith}
-use Rattle.xw_net.specs.Entered.{IsNarrowedTo, IsThroughNew}
+use Rattle.xw_net.specs.Entered.{IsThroughNew}
 use Rattle.xw_net.specs.Worklist.{ListOfLights, is_marked, Adds}
 use Rattle.xw_net.specs.declared.net.Net.{Net}
 use Rattle.std.specs.Vec.{with_items}
@@ -45,7 +45,7 @@ returns-clause-entered g c =
       queue = subst (Adds (IsThroughNew grid board written) old.queue) (sym queue) c.mark_entered.ensures;
       on = λ light lt marked.
           let is = c.in_ok-narrow_queued.ensures.on light lt (ap (λ (l : ListOfLights). is_marked l.marks light) (sym queue) ∙ marked) in
-          subst (λ filled. IsNarrowedTo board entries filled light old new) c.only_filled-filled.ensures (record { base = is.base; rows = is.rows; flag = is.flag });
+          record { filled = is.filled; only = is.only; narrowed = record { base = is.narrowed.base; rows = is.narrowed.rows; flag = is.narrowed.flag } };
       off = λ light none.
           let is = k.off light (ap (λ (l : ListOfLights). is_marked l.marks light) (sym queue) ∙ none) in
           record { rows = is.rows; base = is.base; flag = is.flag };

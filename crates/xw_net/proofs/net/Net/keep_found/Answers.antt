@@ -30,18 +30,14 @@ pub returns-clause-seen : goal.returns-clause-seen
 returns-clause-seen g c =
     let board = c.args.board.now in
     let entries = g.R.Rows.entries c.args.rows.now in
-    let here = c.position_of-here.result in
-    let there = c.position_of-here.ensures in
+    let here = c.args.here in
+    let there = c.requires.there in
     let k = c.found_letters-found.ensures in
     let new = c.found_letters-found.new.seen in
-    let light = c.args.light in
-    let position = c.args.position in
-    let len : here.len ≡ length (light_at board light) = there.there.len ∙ ap (λ n. length (light_at board n)) there.light in
-    seen_stay board entries c.requires.apart light position c.requires.position c.args.seen.now new k.len
+    seen_stay board entries c.requires.apart here.light here.position there.position c.args.seen.now new k.len
     (subst (λ s. (index : ℕ) → (index < 26 * s) ⊎ (26 * s + 26 ≤ index) → get_or new index 0 ≡ get_or c.args.seen.now index 0) there.slot k.others)
-    (subst (λ s. IsSeenAt (entries (length (light_at board light))) position s new) there.slot
-    (subst (λ n. IsSeenAt (entries (length (light_at board light))) n here.slot new) there.position
-    (subst (λ n. IsSeenAt (entries n) here.position here.slot new) len k.seen))) c.requires.seen
+    (subst (λ s. IsSeenAt (entries (length (light_at board here.light))) here.position s new) there.slot
+    (subst (λ n. IsSeenAt (entries n) here.position here.slot new) there.len k.seen)) c.requires.seen
 
 pub returns-clause-check : goal.returns-clause-check
 returns-clause-check g c =
@@ -57,35 +53,30 @@ pub returns-clause-held : goal.returns-clause-held
 returns-clause-held g c dictionary setting letter stands =
     let board = c.args.board.now in
     let entries = g.R.Rows.entries c.args.rows.now in
-    let here = c.position_of-here.result in
-    let there = c.position_of-here.ensures in
+    let here = c.args.here in
+    let there = c.requires.there in
     let old = c.args.self.now in
     let new = c.keep_listed.new.self in
-    let light = c.args.light in
-    let position = c.args.position in
     let k = c.keep_listed.ensures in
-    let row_is = slice_get_read old.rows.items (length old.rows.items) light c.index.result.now refl (omega (arith, c.requires.position.0, c.requires.net.shaped.rows)) c.index.ensures in
-    let len : here.len ≡ length (light_at board light) = there.there.len ∙ ap (λ n. length (light_at board n)) there.light in
-    let letters = found_at old entries light position c.index-alive.result.now c.found_letters-found.result here.len here.position c.index.result.now (length (light_at board light)) row_is len there.position c.found_letters-found.ensures.found in
-    same_stays board dictionary setting.apart (marks_of old) (marks_of new) (words_struck old new k.same) (held_struck old new k.same) light position letter
-    (found_supported board entries dictionary setting old c.requires.net.bits light position c.requires.position c.index-alive.result.now c.found_letters-found.result letters letter (k.listed letter stands))
+    let row_is = slice_get_read old.rows.items (length old.rows.items) here.light c.index.result.now refl (omega (arith, there.position.0, c.requires.net.shaped.rows)) c.index.ensures in
+    let letters = found_at old entries here.light here.position c.index-alive.result.now c.found_letters-found.result here.len here.position c.index.result.now (length (light_at board here.light)) row_is there.len refl c.found_letters-found.ensures.found in
+    same_stays board dictionary setting.apart (marks_of old) (marks_of new) (words_struck old new k.same) (held_struck old new k.same) here.light here.position letter
+    (found_supported board entries dictionary setting old c.requires.net.bits here.light here.position there.position c.index-alive.result.now c.found_letters-found.result letters letter (k.listed letter stands))
 
 pub returns-clause-kept : goal.returns-clause-kept
 returns-clause-kept g c ticks dictionary measure setting in_set under =
     let board = c.args.board.now in
     let entries = g.R.Rows.entries c.args.rows.now in
-    let here = c.position_of-here.result in
-    let there = c.position_of-here.ensures in
+    let here = c.args.here in
+    let there = c.requires.there in
     let old = c.args.self.now in
-    let light = c.args.light in
-    let position = c.args.position in
     let k = c.keep_listed.ensures in
     let alive = c.index-alive.result.now in
-    let row_is = slice_get_read old.rows.items (length old.rows.items) light c.index.result.now refl (omega (arith, c.requires.position.0, c.requires.net.shaped.rows)) c.index.ensures in
-    let len : here.len ≡ length (light_at board light) = there.there.len ∙ ap (λ n. length (light_at board n)) there.light in
-    let letters = found_at old entries light position alive c.found_letters-found.result here.len here.position c.index.result.now (length (light_at board light)) row_is len there.position c.found_letters-found.ensures.found in
-    let alive_is : alive ≡ get_or old.letters.items (cell_at board light position) 0 =
+    let row_is = slice_get_read old.rows.items (length old.rows.items) here.light c.index.result.now refl (omega (arith, there.position.0, c.requires.net.shaped.rows)) c.index.ensures in
+    let letters = found_at old entries here.light here.position alive c.found_letters-found.result here.len here.position c.index.result.now (length (light_at board here.light)) row_is there.len refl c.found_letters-found.ensures.found in
+    let at = cell_at board here.light here.position in
+    let alive_is : alive ≡ get_or old.letters.items at 0 =
     c.index-alive.ensures ∙ get_or_default old.letters.items here.cell alive 0 (omega (arith, there.in_board, c.requires.net.shaped.letters)) ∙ ap (λ n. get_or old.letters.items n 0) there.cell in
     k.kept dictionary measure ticks setting.apart in_set
-    (λ letter choice stands stood has_it. word_found board entries dictionary setting old c.requires.net.bits light position c.requires.position alive c.found_letters-found.result letters c.requires.open letter choice
-    (ap (λ s. has s letter) alive_is ∙ sym (stood_there old (cell_at board light position) letter) ∙ stands) stood has_it) under
+    (λ letter choice stands stood has_it. word_found board entries dictionary setting old c.requires.net.bits here.light here.position there.position alive c.found_letters-found.result letters c.requires.open letter choice
+    (ap (λ s. has s letter) alive_is ∙ sym (stood_there old at letter) ∙ stands) stood has_it) under

@@ -1,10 +1,9 @@
-use Rattle.std.proofs.Common.{◌≡◌, ℕ, ◌+◌, ◌-◌, Bool, true, false, not, ◌&&◌, eqb, get_or, refl, sym, ap, ◌∙◌, subst, arith}
+use Rattle.std.proofs.Common.{◌≡◌, ℕ, ◌+◌, ◌-◌, Bool, true, false, not, ◌&&◌, eqb, get_or, refl, sym, ap, ◌∙◌, arith}
 use Rattle.std.proofs.lemmas.Bool.{both_ways, and_parts, eq-eqb}
 use Rattle.std.proofs.lemmas.List.{get_or_default}
 use Rattle.xw_letters.specs.LetterSet.{has}
-use Rattle.xw_net.specs.Due.{IsUnderway, and_light}
 use Rattle.xw_net.specs.Marks.{cell_at, puts}
-use Rattle.xw_net.specs.Nets.{marks_of, letter_stands, word_stands, queued_in}
+use Rattle.xw_net.specs.Nets.{letter_stands, word_stands}
 use Rattle.xw_net.specs.declared.net.Net.{Net}
 use Rattle.xw_net.proofs.Stripping.DroppedSets.{still_under}
 use Rattle.xw_net.proofs.Stripping.StruckRows.{set_letter}
@@ -34,21 +33,21 @@ unlisted_if_gone false true gone goes is = absurd (both_ways gone goes is)
 pub drop_letters-requires-clause-stood : goal.drop_letters-requires-clause-stood
 drop_letters-requires-clause-stood c letter goes =
     let net = c.args.self.now in
-    let cell = c.position_of-here.result.cell in
-    let alive_is = c.index.ensures ∙ get_or_default net.letters.items cell c.index.result.now 0 (omega (arith, c.position_of-here.ensures.in_board, c.requires.shaped.letters)) in
+    let cell = c.args.here.cell in
+    let alive_is = c.index.ensures ∙ get_or_default net.letters.items cell c.index.result.now 0 (omega (arith, c.requires.there.in_board, c.requires.shaped.letters)) in
     stood_there net cell letter ∙ ap (λ s. has s letter) (sym alive_is) ∙ (and_parts (has c.index.result.now letter) (not (has c.args.listed letter)) (sym (c.without-gone.ensures.rest letter) ∙ goes)).0
 
 pub returns-in-Some-clause-listed : goal.returns-in-Some-clause-listed
 returns-in-Some-clause-listed c letter alive =
     let old = c.args.self.now in
-    let there = c.position_of-here.ensures in
-    let here = c.position_of-here.result in
-    let at = cell_at c.args.board.now c.args.light c.args.position in
+    let here = c.args.here in
+    let there = c.requires.there in
+    let at = cell_at c.args.board.now here.light here.position in
     let alive_is = c.index.ensures ∙ get_or_default old.letters.items here.cell c.index.result.now 0 (omega (arith, there.in_board, c.requires.shaped.letters)) in
     let stood : letter_stands old at letter ≡ has c.index.result.now letter = stood_there old at letter ∙ ap (λ n. has (get_or old.letters.items n 0) letter) (sym there.cell) ∙ ap (λ s. has s letter) (sym alive_is) in
-    listed_if_left (letter_stands old at letter) (has c.args.listed letter) (has c.without-gone.result letter) (eqb at (cell_at c.args.board.now here.light here.position))
+    listed_if_left (letter_stands old at letter) (has c.args.listed letter) (has c.without-gone.result letter) (eqb at at)
     (c.without-gone.ensures.rest letter ∙ ap (λ b. b && not (has c.args.listed letter)) (sym stood))
-    (eq-eqb at (cell_at c.args.board.now here.light here.position) (sym there.cell ∙ there.there.cell))
+    (eq-eqb at at refl)
     (sym (c.drop_letters.ensures.letters at letter) ∙ alive)
 
 pub returns-in-Some-clause-kept : goal.returns-in-Some-clause-kept
@@ -57,28 +56,23 @@ returns-in-Some-clause-kept c dictionary measure ticks apart in_set has_it under
     let new = c.drop_letters.new.self in
     let board = c.args.board.now in
     let e = c.drop_letters.ensures in
-    let here = c.position_of-here.result in
-    let there = c.position_of-here.ensures in
+    let here = c.args.here in
+    let there = c.requires.there in
     let stood : (letter : ℕ) → has c.without-gone.result letter ≡ true → letter_stands old (cell_at c.args.board.now here.light here.position) letter ≡ true = λ letter goes.
-    ap (λ n. letter_stands old n letter) (sym there.there.cell) ∙ drop_letters-requires-clause-stood c.before letter goes in
+    ap (λ n. letter_stands old n letter) (sym there.cell) ∙ drop_letters-requires-clause-stood c.before letter goes in
     let none : (letter k : ℕ) → has c.without-gone.result letter ≡ true → word_stands old here.light k ≡ true → puts c.args.board.now dictionary here.light here.position letter k ≡ true → ⊥ = λ letter k goes stands has_letter.
     both_ways (has c.args.listed letter)
     (unlisted_if_gone (has c.index.result.now letter) (has c.args.listed letter) (has c.without-gone.result letter) (c.without-gone.ensures.rest letter) goes)
-    (has_it letter k
-    (ap (λ n. letter_stands old n letter) (sym there.cell) ∙ drop_letters-requires-clause-stood c.before letter goes)
-    (ap (λ n. word_stands old n k) (sym there.light) ∙ stands)
-    (ap (λ n. puts board dictionary n c.args.position letter k) (sym there.light) ∙ ap (λ n. puts board dictionary here.light n letter k) (sym there.position) ∙ has_letter)) in
-    subst (λ n. measure.member n ≡ true → IsUnderway c.args.board.now dictionary measure (marks_of c.args.self.now) (and_light (queued_in c.args.self.now) n) ticks
-    → IsUnderway c.args.board.now dictionary measure (marks_of c.drop_letters.new.self) (and_light (queued_in c.drop_letters.new.self) n) ticks) there.light
-    (still_under board dictionary apart old new here.light here.position (has c.without-gone.result) there.there.position e.same e.letters e.leaves stood none (65 + c.in-Some.field-0) c.in-Some.ensures.set.2 measure ticks)
+    (has_it letter k (stood letter goes) stands has_letter) in
+    still_under board dictionary apart old new here.light here.position (has c.without-gone.result) there.position e.same e.letters e.leaves stood none (65 + c.in-Some.field-0) c.in-Some.ensures.set.2 measure ticks
     in_set under
 
 pub returns-in_default-clause-listed : goal.returns-in_default-clause-listed
 returns-in_default-clause-listed c letter alive =
     let old = c.args.self.now in
-    let there = c.position_of-here.ensures in
-    let here = c.position_of-here.result in
-    let at = cell_at c.args.board.now c.args.light c.args.position in
+    let here = c.args.here in
+    let there = c.requires.there in
+    let at = cell_at c.args.board.now here.light here.position in
     let alive_is = c.index.ensures ∙ get_or_default old.letters.items here.cell c.index.result.now 0 (omega (arith, there.in_board, c.requires.shaped.letters)) in
     let stood : letter_stands old at letter ≡ has c.index.result.now letter = stood_there old at letter ∙ ap (λ n. has (get_or old.letters.items n 0) letter) (sym there.cell) ∙ ap (λ s. has s letter) (sym alive_is) in
     let small = set_letter (get_or old.letters.items at 0) letter (sym (stood_there old at letter) ∙ alive) in

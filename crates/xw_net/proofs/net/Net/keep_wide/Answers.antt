@@ -1,14 +1,19 @@
 use Rattle.std.proofs.Common.{◌≡◌, length, sym, ap, ◌∙◌, subst, inl, inr, arith}
 use Rattle.std.proofs.lemmas.Bool.{cases_lt}
 use Rattle.xw_words.specs.Dictionary.{Dictionary}
+use Rattle.xw_feas.specs.Board.{light_at}
 use Rattle.xw_net.specs.Marks.{IsSetting, IsHeld, cell_at}
 use Rattle.xw_net.specs.Nets.{HasBits, marks_of, letter_stands}
 use Rattle.xw_net.specs.Seen.{AreSeen}
+use Rattle.xw_net.specs.Steps.{ArePositionHeld, ChecksOn}
 use Rattle.xw_net.proofs.Stripping.DroppedLetters.{struck_struck, words_struck, held_struck}
 use Rattle.xw_net.proofs.Stripping.HeldWords.{same_holding}
 use Rattle.xw_net.proofs.Stripping.LeftByStripping.{left_left}
 use Rattle.xw_net.proofs.Stripping.StepsKeepInvariant.{same_stays}
 use Rattle.xw_net.proofs.net.Net.keep_wide.Goals as goal
+
+pub keep_found-requires-clause-there : goal.keep_found-requires-clause-there
+keep_found-requires-clause-there g c = c.at.ensures.there c.args.board.now c.of-positions.ensures.positions
 
 pub loop-position-preserved : goal.loop-position-preserved
 loop-position-preserved g c =
@@ -16,6 +21,11 @@ loop-position-preserved g c =
     let k = c.keep_found.ensures in
     let board = c.args.board.now in
     let light = c.args.light in
+    let here = c.at.result in
+    let light_is : here.light ≡ light = c.at.ensures.light ∙ c.of-positions.ensures.light in
+    let entries = g.R.Rows.entries c.loop-position.rows in
+    let held : ArePositionHeld board entries c.keep_found.new.self light c.loop-position.position =
+    subst (λ n. ArePositionHeld board entries c.keep_found.new.self light n) c.at.ensures.position (subst (λ n. ArePositionHeld board entries c.keep_found.new.self n here.position) light_is k.held) in
     let last = c.loop-position.self in
     let new = c.keep_found.new.self in
     let move = λ (dictionary : Dictionary) (setting : IsSetting c.args.board.now (g.R.Rows.entries c.args.rows.now) dictionary). subst (λ e. IsSetting c.args.board.now e dictionary) (sym inv.entries) setting in
@@ -38,9 +48,10 @@ loop-position-preserved g c =
             | inr from ↦
                 let is : c.loop-position.position ≡ position = omega (arith, lt, from) in
                 subst (λ n. IsHeld c.args.board.now dictionary (marks_of c.keep_found.new.self) c.args.light n letter) is
-                (k.held dictionary (move dictionary setting) letter (ap (λ n. letter_stands c.keep_found.new.self (cell_at c.args.board.now c.args.light n) letter) is ∙ stands))
+                (held dictionary (move dictionary setting) letter (ap (λ n. letter_stands c.keep_found.new.self (cell_at c.args.board.now c.args.light n) letter) is ∙ stands))
           ];
-      kept = λ ticks dictionary measure setting in_set under. k.kept ticks dictionary measure (move dictionary setting) in_set (inv.kept ticks dictionary measure setting in_set under);
+      kept = λ ticks dictionary measure setting in_set under.
+          subst (λ n. ChecksOn board entries n last ticks new ticks) light_is (k.kept ticks) dictionary measure (move dictionary setting) in_set (inv.kept ticks dictionary measure setting in_set under);
     }
 
 pub returns-clause-check : goal.returns-clause-check
@@ -55,4 +66,5 @@ returns-clause-check g c =
 
 pub returns-clause-held : goal.returns-clause-held
 returns-clause-held g c dictionary setting position letter here stands =
-    c.loop-position.invariant.held position (omega (arith, here.1, c.loop-position-test.false, c.len-position-end.ensures, ap length c.light.ensures.cells)) dictionary setting letter stands
+    c.loop-position.invariant.held position
+    (omega (arith, here.1, c.loop-position-test.false, c.len-position-end.ensures, ap length c.of-positions.ensures.positions.cells, ap (λ n. length (light_at c.args.board.now n)) c.of-positions.ensures.light)) dictionary setting letter stands

@@ -1,10 +1,10 @@
 use Rattle.std.proofs.Common.{◌≡◌, ◌≢◌, true, sym, ap, ◌∙◌, subst, inl, inr, arith}
 use Rattle.std.proofs.lemmas.Bool.{cases_eq, both_ways}
-use Rattle.xw_net.specs.Entered.{IsNarrowedTo}
+use Rattle.xw_net.specs.Entered.{IsNarrowedTo, IsNarrowedIn}
 use Rattle.xw_net.specs.Update.{IsSized}
 use Rattle.xw_net.specs.Worklist.{ListOfLights, is_marked}
 use Rattle.xw_net.specs.declared.net.Net.{Net}
-use Rattle.xw_net.proofs.Levels.NarrowedLights.{unchanged_after, narrowed_after, narrowed_from}
+use Rattle.xw_net.proofs.Levels.NarrowedLights.{unchanged_after, narrowed_in_after, narrowed_from}
 use Rattle.xw_net.proofs.net.Net.narrow_queued.Goals as goal
 
 pub loop-light-preserved : goal.loop-light-preserved
@@ -12,6 +12,8 @@ loop-light-preserved g c =
     let inv = c.loop-light.invariant in
     let k = c.narrow_light.ensures in
     let board = c.args.board.now in
+    let grid = c.args.search.grid.now in
+    let written = c.args.search.written.now in
     let entries = g.R.Rows.entries c.args.rows.now in
     let old = c.args.self.now in
     let mid = c.loop-light.self in
@@ -27,9 +29,12 @@ loop-light-preserved g c =
       rest = k.rest ∙ ap (λ (n : Net). record n { rows = new.rows; base = new.base; entered = new.entered }) inv.rest;
       on = λ light lt marked. elim (cases_eq light at) [
         | inl e ↦
-            subst (λ n. IsNarrowedTo board entries c.args.filled n old new) (sym e)
-            (narrowed_from board entries c.args.filled at old mid new (inv.off at (inr (omega arith))) (subst (λ e. IsNarrowedTo board e c.args.filled at mid new) inv.same c.in_ok-narrow_light.ensures.here))
-        | inr apart ↦ narrowed_after board entries c.args.filled light old mid new (inv.on light (omega (arith, lt, apart)) marked) (k.others light apart)
+            subst (λ n. IsNarrowedIn grid board entries written n old new) (sym e) (record {
+              filled = c.only_new-filled.result;
+              only = c.only_new-filled.ensures;
+              narrowed = narrowed_from board entries c.only_new-filled.result at old mid new (inv.off at (inr (omega arith))) (subst (λ e. IsNarrowedTo board e c.only_new-filled.result at mid new) inv.same c.in_ok-narrow_light.ensures.here);
+            })
+        | inr apart ↦ narrowed_in_after grid board entries written light old mid new (inv.on light (omega (arith, lt, apart)) marked) (k.others light apart)
       ];
       off = λ light off.
           let apart : light ≢ at = λ e. elim off [

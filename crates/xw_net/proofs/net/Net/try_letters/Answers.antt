@@ -7,6 +7,7 @@ use Rattle.xw_feas.proofs.BoardLemmas.{length-lights, length-open_cells}
 use Rattle.xw_net.specs.Marks.{AreSlotsApart}
 use Rattle.xw_net.specs.declared.net.Net.{Net}
 use Rattle.xw_net.proofs.Levels.SettledAgain.{placed_back, roomier_long, way_again, words_like}
+use Rattle.xw_net.proofs.Levels.WaysBack.{way_halted}
 use Rattle.xw_net.proofs.Levels.TriedLetters.{tried_sized, tried_quiet, tried_settled, tried_dies}
 use Rattle.xw_net.proofs.Nets.SlotsApart.{slots_apart}
 use Rattle.xw_net.proofs.net.Net.try_letters.Goals as goal
@@ -28,7 +29,8 @@ pub place-tried-requires-clause-apart : goal.place-tried-requires-clause-apart
 place-tried-requires-clause-apart c = subst AreSlotsApart (sym c.new-board.ensures) (slots_apart c.args.search.grid.now)
 
 pub undo-requires : goal.undo-requires
-undo-requires c = (c.args.self.now, c.place-tried.ensures.back c.args.self.now c.requires.begun)
+undo-requires c =
+    (c.args.self.now, way_halted c.place-tried.new.level c.place-tried.new.self c.halt.new.self c.args.self.now c.halt.ensures.rest (c.place-tried.ensures.back c.args.self.now c.requires.begun))
 
 pub returns-then-matches-clause-settled : goal.returns-then-matches-clause-settled
 returns-then-matches-clause-settled c is =
@@ -69,17 +71,11 @@ pub returns-else-matches-clause-back : goal.returns-else-matches-clause-back
 returns-else-matches-clause-back c not =
     let search = c.args.search in
     let placed = c.place-tried.ensures in
+    let halted = c.halt.ensures in
     let undone = c.undo.ensures in
-    let way = placed.back c.args.self.now c.requires.begun in
-    placed_back c.place-tried.new.level c.new-board.result (known_words c.new-rows.result.words) c.args.self.now c.place-tried.new.self c.undo.new.self way
+    let way = way_halted c.place-tried.new.level c.place-tried.new.self c.halt.new.self c.args.self.now halted.rest (placed.back c.args.self.now c.requires.begun) in
+    placed_back c.place-tried.new.level c.new-board.result (known_words c.new-rows.result.words) c.args.self.now c.place-tried.new.self c.halt.new.self c.undo.new.self way
     (tried_sized search.grid.now search.words.now.words search.written.now c.args.self.now c.requires.tried c.new-board.result c.new-rows.result.words c.new-board.ensures c.new-rows.ensures.words)
-    placed.sized placed.room placed.chain (undone.like c.args.self.now way) (record {
-      room = undone.room;
-      many = undone.many;
-      many_base = undone.many_base;
-      long = undone.long;
-      pending = undone.pending;
-      lights = undone.lights;
-      marks = undone.marks;
-      chain = ap (λ (net : Net). net.chain) undone.rest;
-    })
+    placed.sized placed.room placed.chain
+    (record { rest = halted.rest; long = halted.long; pending = halted.pending; lights = halted.lights; marks = halted.marks })
+    (undone.like c.args.self.now way) (record { room = undone.room; many = undone.many; many_base = undone.many_base; rest = undone.rest })
