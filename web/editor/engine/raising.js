@@ -12,7 +12,7 @@ const PLACEMENTS = 2000;
 // milliseconds; but for one that goes on until no fill is better
 const LONGEST = 2000;
 const FURTHER = 3000;
-const GOOD = 20;
+const GOOD = 25;
 // how often it tells what it looks for, in milliseconds
 const TOLD_EACH = 500;
 
