@@ -51,7 +51,7 @@ pub struct Net {
 }
 
 impl Net {
-    ghost use Rattle.std.specs.Prelude.{◌≡◌, ℕ, ◌+◌, ◌-◌, ◌*◌, ◌<◌, ◌≤◌, true, false, not, ◌||◌, ◌&&◌, ◌==◌, length, slice_index, slice_index_or};
+    ghost use Rattle.std.specs.Prelude.{◌≡◌, ℕ, ◌+◌, ◌-◌, ◌*◌, ◌^◌, ◌<◌, ◌≤◌, true, false, not, ◌||◌, ◌&&◌, ◌==◌, length, slice_index, slice_index_or};
     ghost use Rattle.xw_letters.specs.Letter.{IsLetter};
     ghost use Rattle.xw_letters.specs.LetterSet.{has};
     ghost use Rattle.xw_feas.specs.Board.{light_at};
@@ -59,6 +59,7 @@ impl Net {
     ghost use Rattle.xw_net.specs.Inner.Lost.{IsLost};
     ghost use Rattle.xw_net.specs.Nets.{bits_for, marks_of, letter_stands, pending_in, queued_in, IsShaped, IsLeft, IsThere, IsQueue, Waits, left_of};
     ghost use Rattle.xw_net.specs.Steps.{IsQueuedToo, IsCheck, IsStruck, IsStruckAt, StandFewer, OthersStand, IsLetterHeld, IsStruckFrom, IsLeftPending, IsStrippable, IsStep, WaitMore, PendLess, IsCleared, PendAtSlots, ArePositionHeld, AreLightHeld, KeepSupports, KeepsHolding, StepsOn, StrikesOn, ChecksOn, FillsNet, StripsWithin};
+    ghost use Rattle.xw_net.specs.Support.{holds, Finds};
     ghost use Rattle.xw_net.specs.Worklist.{is_waiting};
 
     /// Removes from a light the words with a pending letter at a position.
@@ -210,6 +211,26 @@ impl Net {
         }
     }
 
+    /// Looks for another word that supports a letter whose held word is gone, and holds it. Returns
+    /// whether there is one.
+    fn hold_another<R: Rows>(&mut self, rows: &mut R, here: LightPosition, letter: Letter) -> bool
+        requires letter { IsLetter letter }
+        requires light { here.light < length self.old.rows.items }
+        requires held { 26 * here.slot + (letter - 65) < length self.old.held.items }
+        requires restart { here.slot < length self.old.restart.items }
+        requires small { length self.old.held.items < 2 ^ 63 }
+        requires lost { IsLost (bits_for self.old here.light) (slice_index self.old.held.items (26 * here.slot + (letter - 65))) }
+        ensures entries { R.entries rows.new ≡ R.entries rows.old }
+        ensures risen { R.ticks rows.old ≤ R.ticks rows.new }
+        ensures same { self.new ≡ record self.old { held = self.new.held; restart = self.new.restart } }
+        ensures held { length self.new.held.items ≡ length self.old.held.items }
+        ensures restart { length self.new.restart.items ≡ length self.old.restart.items }
+        ensures finds { length (bits_for self.old here.light) < 2 ^ 32 → Finds (bits_for self.old here.light) (R.entries rows.old here.len) here.position here.slot letter (holds self.old.held.items self.old.restart.items) (holds self.new.held.items self.new.restart.items) result (R.ticks rows.new - R.ticks rows.old) }
+    {
+        let row = &self.rows[here.light];
+        find_support(rows, row, here, letter, &mut self.held, &mut self.restart)
+    }
+
     /// Checks one letter of a cell whose support is gone: looks for another, and removes the letter
     /// if there is none.
     fn keep_letter<R: Rows>(
@@ -236,8 +257,7 @@ impl Net {
         ensures stays { KeepSupports board.now (R.entries rows.old) here.light self.old self.new }
         ensures kept { ChecksOn board.now (R.entries rows.old) here.light self.old (R.ticks rows.old) self.new (R.ticks rows.new) }
     {
-        let row = &self.rows[here.light];
-        if !find_support(rows, row, here, letter, &mut self.held, &mut self.restart) {
+        if !self.hold_another(rows, here, letter) {
             self.drop_letter(board, here, letter);
         }
     }

@@ -27,7 +27,5 @@ held_in_row board entries dictionary setting net bits i q position row held slot
     by_held (omega (arith, lt, bits_known board entries dictionary setting net bits i position.0)) (listed_is net i at lt ∙ bit)
 
 -- the index of each word of a row has 32 bits
-pub few_bits : (board : Board) (entries : ℕ → List Entry) (dictionary : Dictionary) (setting : IsSetting board entries dictionary) (net : Net) (bits : HasBits board entries net) (i : ℕ) → i < length board.lights
-    → (row : List Bool) → bits_for net i ≡ row → length row < 2 ^ 32
-few_bits board entries dictionary setting net bits i within row rows_are =
-    omega (arith, ap (λ (b : List Bool). length b) rows_are, bits_known board entries dictionary setting net bits i within, known_few dictionary (length (light_at board i)) setting.words)
+pub few_bits : (board : Board) (entries : ℕ → List Entry) (dictionary : Dictionary) (setting : IsSetting board entries dictionary) (net : Net) (bits : HasBits board entries net) (i : ℕ) → i < length board.lights → length (bits_for net i) < 2 ^ 32
+few_bits board entries dictionary setting net bits i within = omega (arith, bits_known board entries dictionary setting net bits i within, known_few dictionary (length (light_at board i)) setting.words)
