@@ -201,6 +201,12 @@ export class Browser {
     ]));
   }
 
+  // Moves the pointer to the middle of an element.
+  async point(selector) {
+    const [point] = await this.until(middlesOf([selector]));
+    await this.#mouse('mouseMoved', point, 0, 0);
+  }
+
   // Drags from one element to another.
   drag(from, to) {
     return pressOn(this, [from, to], async (begin, end) => {
@@ -320,7 +326,7 @@ export async function awaitFocus(browser, name) {
 }
 
 // The expression of the middles of elements, when they are there, can be pressed and stay where they are for two frames; else null.
-const middlesOf = (selectors) => `(async () => {
+export const middlesOf = (selectors) => `(async () => {
   const middles = () => {
     const elements = ${JSON.stringify(selectors)}.map((selector) => document.querySelector(selector));
     if (elements.some((element) => !element || element.matches(':disabled'))) return [null];

@@ -3,7 +3,7 @@ import { spawn } from 'node:child_process';
 import { existsSync, mkdtempSync, readFileSync, rmSync, writeFileSync } from 'node:fs';
 import { tmpdir } from 'node:os';
 import { basename, join } from 'node:path';
-import { awaitFocus, pressOn, removeFolder, untilTrue } from './browser.mjs';
+import { awaitFocus, middlesOf, pressOn, removeFolder, untilTrue } from './browser.mjs';
 
 const KEYS = {
   Enter: '\uE006', Tab: '\uE004', Backspace: '\uE003', Delete: '\uE017', Escape: '\uE00C', Home: '\uE011', End: '\uE010', ArrowLeft: '\uE012', ArrowUp: '\uE013',
@@ -169,6 +169,12 @@ export class FirefoxBrowser {
 
   click(selector) {
     return pressOn(this, [selector], (point) => this.#mouse(point));
+  }
+
+  async point(selector) {
+    const [{ x, y }] = await this.until(middlesOf([selector]));
+    const actions = [{ type: 'pointerMove', x: Math.round(x), y: Math.round(y) }];
+    await this.#actions({ type: 'pointer', id: 'mouse', parameters: { pointerType: 'mouse' }, actions });
   }
 
   drag(from, to) {

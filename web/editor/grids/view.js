@@ -53,6 +53,9 @@ export class GridsView {
   // the cards of the best grids, in their order
   /** @type {HTMLElement[]} */
   #best = [];
+  // where the pointer was last, and whether it moved there over the grids
+  #pointer = '';
+  #isPointing = false;
 
   /**
    * @param {import('../model/editor.js').Editor} editor
@@ -66,6 +69,7 @@ export class GridsView {
     this.#limits = new LimitsView(elements.limits);
     elements.show.addEventListener('click', () => this.#show());
     elements.stop.addEventListener('click', () => this.#stop());
+    for (const kind of /** @type {const} */ (['pointerdown', 'pointermove'])) elements.dialog.addEventListener(kind, (event) => this.#follow(event));
     // no other card comes under the pointer before a click
     elements.grids.addEventListener('pointerleave', () => this.#best.length && this.#arrange());
     elements.entries.addEventListener('input', () => this.#showLengths());
@@ -87,6 +91,15 @@ export class GridsView {
   open() {
     openDialog(this.#elements.dialog);
     this.#elements.entries.focus();
+  }
+
+  // Follows the pointer. The browser tells of one that rests, too, when a card comes under it; that one points at nothing.
+  /** @param {PointerEvent} event */
+  #follow({ clientX, clientY, target }) {
+    const at = `${clientX} ${clientY}`;
+    if (at === this.#pointer) return;
+    this.#pointer = at;
+    this.#isPointing = this.#elements.grids.contains(/** @type {Node} */ (target));
   }
 
   /** @param {string} text */
@@ -129,6 +142,7 @@ export class GridsView {
   #show() {
     const turn = ++this.#turn;
     this.#best = [];
+    this.#isPointing = false;
     this.#elements.grids.replaceChildren();
     this.#search(turn).catch((fault) => this.#isOn(turn) && this.#end(fault.message));
   }
@@ -226,8 +240,8 @@ export class GridsView {
     if (!cards.has(trial)) cards.set(trial, card);
     this.#best = best.flatMap((one) => cards.get(one) ?? []);
     const { grids } = this.#elements;
-    // while the pointer is over a grid, others come after those that are shown
-    if (!grids.querySelector('.pattern:hover:not(:has(.bad))')) this.#arrange();
+    // while a grid is pointed at, others come after those that are shown
+    if (!this.#isPointing || !grids.querySelector('.pattern:hover:not(:has(.bad))')) this.#arrange();
     else grids.append(...this.#best.filter((one) => !one.isConnected).slice(0, Math.max(0, MOST_SHOWN - grids.children.length)));
   }
 

@@ -201,6 +201,29 @@ export const CASES = {
     await page.factsAre(/built-in list/);
   },
 
+  async 'a grid that comes under the pointer does not hold back better ones'() {
+    const figuresNow = () => cards().then((shown) => shown.map((text) => /it fills: worst (\d+), mean (\d+)/.exec(text)?.slice(1).map(Number)).filter(Boolean));
+    const areSorted = (figures) => JSON.stringify(figures) === JSON.stringify([...figures].sort((a, b) => b[0] - a[0] || b[1] - a[1]));
+    await openGraded();
+    await menu('themes');
+    await wantGrids('', 'american', { size: 9 });
+    await setOfGrids('words', '32');
+    await setOfGrids('threes', '14');
+    await browser.click('#themes-show');
+    await gridsAreJudged(3, 2);
+    // the pointer rests where the first card of the next search comes
+    await browser.point('#themes-grids .pattern');
+    await inPage(() => document.getElementById('themes-show').focus());
+    await browser.press('Enter');
+    await untilInPage(() => document.querySelectorAll('#themes-grids .here').length >= 6 && document.querySelector('#themes-grids .pattern:hover'));
+    const figures = await figuresNow();
+    expect(areSorted(figures), `beside a pointer that rests the grids come as ${figures.join('; ')}`);
+    await stopGrids();
+    await browser.press('Escape');
+    await menu('built-in');
+    await page.factsAre(/built-in list/);
+  },
+
   async 'the stock of patterns'() {
     const shown = () => page.count('#stock-patterns .pattern');
     const set = (name, value) => browser.value(`(() => {
