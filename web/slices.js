@@ -16,6 +16,7 @@ const PART = 0.1;
  */
 export class Slices {
   #limit;
+  /** @type {number | null} */
   #span;
   #milliseconds;
   #due = FIRST;
@@ -23,17 +24,27 @@ export class Slices {
   /** At most so many placements were made. */
   made = 0;
 
+  /**
+   * @param {number} limit
+   * @param {number | null} span
+   * @param {number} milliseconds
+   */
   constructor(limit, span = null, milliseconds = Infinity) {
     this.#limit = limit;
     this.#span = span;
     this.#milliseconds = milliseconds;
   }
 
-  /** Runs a slice, and returns what it found, or promises that if the search does. The time between two slices does not count. */
+  /**
+   * Runs a slice, and returns what it found, or promises that if the search does. The time between two slices does not count.
+   * @template Found
+   * @param {(placements: number) => Found | Promise<Found>} search
+   * @returns {Found | Promise<Found>}
+   */
   run(search) {
     const placements = Math.min(this.#due, this.#limit - this.made);
     const began = performance.now();
-    const end = (found) => {
+    const end = (/** @type {Found} */ found) => {
       const taken = performance.now() - began;
       this.made += placements;
       this.#spent += taken;
@@ -45,6 +56,10 @@ export class Slices {
   }
 
   // The placements of the slice after one that took so long.
+  /**
+   * @param {number} placements
+   * @param {number} taken
+   */
   #after(placements, taken) {
     // the last one ends about when the time is over
     const left = Math.max(0, this.#milliseconds - this.#spent);

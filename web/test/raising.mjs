@@ -324,7 +324,7 @@ const CASES = {
     same([(await workers.call(3)).at, workers.asked[3].sent.least], [0, 31]);
     // as many slices as it takes; one that finds nothing for long has its words again, and another seed
     for (let slice = 2; slice < 200; slice++) (await workers.call(slice)).answer(limit(95));
-    const seeds = new Set(workers.asked.map(({ sent }) => sent.given.join(' ')));
+    const seeds = new Set(workers.asked.map(({ sent: { given: [, seed] } }) => seed));
     same([seeds.size > 2, workers.others.filter((name) => name === 'unstrike').length], [true, seeds.size - 2]);
     (await workers.call(200)).answer(found('TAR', 80, 81));
     same(await ended, { proved: 81, held: [{ names: ['1 across'], forced: [] }], isReached: false, isStopped: false, isChanged: false });

@@ -5,7 +5,7 @@ import { MOST } from '../model/grades.js';
 // the seed of one worker lies so far from that of the next
 const SEEDS = 1000003;
 // the slices in a row that lead a worker to nothing better, after which it begins anew with another seed
-export const MOST_IDLE = 60;
+export const MOST_IDLE = 16;
 
 // the grade of no fill
 const NONE = -1;

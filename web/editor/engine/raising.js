@@ -1,13 +1,14 @@
 // The raising of a fill: its worst word gets better by `best` in slices, in workers beside the one of the session, each with a seed of its own. A slice
 // goes on with what the slices of its worker learned. Where no fill is better, the words that keep it from that are held, and the worst of the others is
 // raised; race.js decides. The fill that is in the grid can be edited meanwhile, which ends the raising; texts can be changed beside it.
+import { Slices } from '../../slices.js';
 import { MOST, gradeOf, totalOf } from '../model/grades.js';
 import { letterIn, withoutTexts } from '../model/record.js';
 import { statusOf } from './engine.js';
 import { Race } from './race.js';
 
-// The placements of a slice.
-const PLACEMENTS = 2000;
+// how long a slice takes, in milliseconds: shorter ones find less together, and between them a worker learns what the others found
+const SPAN = 450;
 // how long a raising takes at most, once it has words, and how much longer if its worst word is no more than so far above the weak ones by then, in
 // milliseconds; but for one that goes on until no fill is better
 const LONGEST = 2000;
@@ -137,6 +138,7 @@ export class Raiser {
     const { race, names } = run;
     try {
       const engine = await begun;
+      const slices = new Slices(Infinity, SPAN);
       this.#time(run);
       while (!run.isOver) {
         if (race.isBlocked) await (run.holding ??= this.#hold(run, engine).finally(() => (run.holding = null)));
@@ -146,7 +148,7 @@ export class Raiser {
         if (race.catchesUp(at)) await engine.call('edit', { lines: run.lines, isWhole: false });
         this.#tell(run);
         const asked = race.next(at);
-        const told = await engine.call('best', { least: asked.least, given: [PLACEMENTS, asked.seed, ...names], cells: run.cells, isApart: this.#editor.list.apart });
+        const told = await slices.run((placements) => engine.call('best', { least: asked.least, given: [placements, asked.seed, ...names], cells: run.cells, isApart: this.#editor.list.apart }));
         if (!run.isOver) await this.#take(run, race.take(at, asked, told), told);
       }
     } catch (fault) {
