@@ -33,6 +33,27 @@ function faultOf(rows, { words, blocks, threes }) {
   return rows.some((row, at) => [...row].some((_, column) => [[0, 0], [0, 1], [1, 0], [1, 1]].every(([down, right]) => isShut(at + down, column + right)))) ? 'a square of blocks' : '';
 }
 
+// Has small grids shown, judged by a list with scores.
+async function showSmall() {
+  await openGraded();
+  await menu('themes');
+  await wantGrids('', 'american', { size: 9 });
+  await setOfGrids('words', '32');
+  await setOfGrids('threes', '14');
+  await browser.click('#themes-show');
+  await gridsAreJudged(3, 2);
+}
+
+async function leaveGraded() {
+  await browser.press('Escape');
+  await menu('built-in');
+  await page.factsAre(/built-in list/);
+}
+
+// The worst word and the mean of each grid that fills, as they are shown.
+const filledNow = async () => (await cards()).map((text) => /it fills: worst (\d+), mean (\d+)/.exec(text)?.slice(1).map(Number)).filter(Boolean);
+const areSorted = (figures) => JSON.stringify(figures) === JSON.stringify([...figures].sort((a, b) => b[0] - a[0] || b[1] - a[1]));
+
 export const CASES = {
   async 'grids around theme entries'() {
     await menu('themes');
@@ -180,48 +201,28 @@ export const CASES = {
   },
 
   async 'grids within limits, the best words first'() {
-    await openGraded();
-    await menu('themes');
-    await wantGrids('', 'american', { size: 9 });
-    await setOfGrids('words', '32');
-    await setOfGrids('threes', '14');
-    await browser.click('#themes-show');
-    await gridsAreJudged(3, 2);
+    await showSmall();
     await areWithin({ words: 32, blocks: 14, threes: 14 });
-    const shown = await cards();
-    const figures = shown.map((text) => /it fills: worst (\d+), mean (\d+)/.exec(text)?.slice(1).map(Number)).filter(Boolean);
-    const sorted = [...figures].sort((a, b) => b[0] - a[0] || b[1] - a[1]);
-    expect(figures.length > 1 && JSON.stringify(figures) === JSON.stringify(sorted), `the grids come as ${shown}`);
+    const figures = await filledNow();
+    expect(figures.length > 1 && areSorted(figures), `the grids come as ${await cards()}`);
     await picture('grids-within-limits');
     await the('#themes-limits').put('open', true);
     await browser.click('#themes-reset');
     await the('#themes-limits').put('open', false);
-    await browser.press('Escape');
-    await menu('built-in');
-    await page.factsAre(/built-in list/);
+    await leaveGraded();
   },
 
   async 'a grid that comes under the pointer does not hold back better ones'() {
-    const figuresNow = () => cards().then((shown) => shown.map((text) => /it fills: worst (\d+), mean (\d+)/.exec(text)?.slice(1).map(Number)).filter(Boolean));
-    const areSorted = (figures) => JSON.stringify(figures) === JSON.stringify([...figures].sort((a, b) => b[0] - a[0] || b[1] - a[1]));
-    await openGraded();
-    await menu('themes');
-    await wantGrids('', 'american', { size: 9 });
-    await setOfGrids('words', '32');
-    await setOfGrids('threes', '14');
-    await browser.click('#themes-show');
-    await gridsAreJudged(3, 2);
+    await showSmall();
     // the pointer rests where the first card of the next search comes
     await browser.point('#themes-grids .pattern');
     await inPage(() => document.getElementById('themes-show').focus());
     await browser.press('Enter');
     await untilInPage(() => document.querySelectorAll('#themes-grids .here').length >= 6 && document.querySelector('#themes-grids .pattern:hover'));
-    const figures = await figuresNow();
+    const figures = await filledNow();
     expect(areSorted(figures), `beside a pointer that rests the grids come as ${figures.join('; ')}`);
     await stopGrids();
-    await browser.press('Escape');
-    await menu('built-in');
-    await page.factsAre(/built-in list/);
+    await leaveGraded();
   },
 
   async 'the stock of patterns'() {
