@@ -14,7 +14,14 @@ export class WordCounts {
 
   /** @param {string[]} words in capitals */
   constructor(words) {
-    for (const length of new Set(words.map((word) => word.length))) this.#add(length, words.filter((word) => word.length === length));
+    /** @type {Map<number, string[]>} */
+    const byLength = new Map();
+    for (const word of words) {
+      const others = byLength.get(word.length);
+      if (others) others.push(word);
+      else byLength.set(word.length, [word]);
+    }
+    for (const [length, some] of byLength) this.#add(length, some);
   }
 
   /**
@@ -58,8 +65,13 @@ export class GradedCounts {
    * @param {(word: string) => boolean} isGood
    */
   constructor(words, isGood) {
-    this.good = new WordCounts(words.filter(isGood));
-    this.rest = new WordCounts(words.filter((word) => !isGood(word)));
+    /** @type {string[]} */
+    const good = [];
+    /** @type {string[]} */
+    const rest = [];
+    for (const word of words) (isGood(word) ? good : rest).push(word);
+    this.good = new WordCounts(good);
+    this.rest = new WordCounts(rest);
   }
 
   /** @param {ArrayLike<number>} pattern */
